@@ -1,0 +1,62 @@
+-- Export: `ArrowSchema::new`, a schema from a field. Assumes nothing.
+use mathlib.Core.Bool.{Bool, true, false, _&&_, cond}
+use mathlib.Core.List.{List, [], _∷_, _++_}
+use mathlib.Core.Option.{Option, none, some}
+use Prim.Native.Nat.{ℕ, zero, suc, _+_, _*_}
+use lib.IntN.{ℤ, pos, negsuc}
+use Rattle.sheets.specs.Refusal.{Refusal, zeroByte}
+use Rattle.sheets.specs.Bytes.{Bytes, lacks}
+use Rattle.sheets.specs.Rule.{Rule, is, _and_}
+use Rattle.sheets.specs.Answer.{Answer, refused, given, _>>=_, when}
+use Rattle.sheets.specs.Flags.{ORDERED, NULLABLE, SORTED}
+use Rattle.sheets.specs.Schema.{Node, Schema, schema, Schemas, end, _&_, Dictionary, absent, present}
+use Rattle.sheets.specs.Field.{Info, Nesting, list, largeList, fixedSizeList, map, ArrowDataType, scalar, nested, grouped, dictionary, extension, Fields, nil, add, Field, countFields}
+use Rattle.sheets.specs.Format.{toFormat}
+use Rattle.sheets.specs.Metadata.{Extension, schemaMetadata}
+
+-- the flag if it is set
+abbrev pub flag : Bool → ℕ → ℕ
+flag true n = n
+flag false n = 0
+
+-- sorted map keys
+abbrev pub sortedFlag : Nesting → ℕ
+sortedFlag list = 0
+sortedFlag largeList = 0
+sortedFlag (fixedSizeList n) = 0
+sortedFlag (map sorted) = flag sorted SORTED
+
+-- the node of a field, with its format, its other flags and the extension that it stands for; 14 "byte 00 in a line's `name` or timezone"
+abbrev pub schemaNode : Info → Option Extension → Bytes → ℕ → Schemas → Dictionary → Answer Schema
+schemaNode i e f flags cs d =
+    when zeroByte (lacks 0 (i .name) and lacks 0 f)
+    (schema (record { format = some f; name = some (i .name); flags = pos (flag (i .nullable) NULLABLE + flags); metadata = schemaMetadata (i .pairs) e }) cs d)
+
+-- a dictionary's values bear no name and are nullable
+abbrev pub valuesInfo : Info
+valuesInfo = record { name = []; nullable = true; pairs = none }
+
+-- "for the outermost extension only"
+abbrev pub outermost : Option Extension → Extension → Extension
+outermost none e = e
+outermost (some o) e = o
+
+-- `ArrowSchema::new` by the type: the format (12, 13), what is below, then the node (14). The third argument is the outermost extension directly
+-- around the type: "A dictionary directly under extensions is written as its index type alone."
+abbrev mutual
+  pub schemaNewOf : ArrowDataType → Info → Option Extension → Answer Schema
+  schemaNewOf (scalar s) i e = toFormat (scalar s) >>= λ f. schemaNode i e f 0 end absent
+  schemaNewOf (nested n j t) i e = toFormat (nested n j t) >>= λ f. schemaNewOf t j none >>= λ c. schemaNode i e f (sortedFlag n) (c & end) absent
+  schemaNewOf (grouped g fs) i e = toFormat (grouped g fs) >>= λ f. schemaChildren fs >>= λ cs. schemaNode i e f 0 cs absent
+  schemaNewOf (dictionary ix ordered t) i none = toFormat (dictionary ix ordered t) >>= λ f. schemaNewOf t valuesInfo none >>= λ d. schemaNode i none f (flag ordered ORDERED) end (present d)
+  schemaNewOf (dictionary ix ordered t) i (some e) = toFormat (dictionary ix ordered t) >>= λ f. schemaNode i (some e) f 0 end absent
+  schemaNewOf (extension n m t) i e = schemaNewOf t i (some (outermost e (n, m)))
+
+  -- `schema_children`
+  pub schemaChildren : Fields → Answer Schemas
+  schemaChildren nil = given end
+  schemaChildren (add i t fs) = schemaNewOf t i none >>= λ c. schemaChildren fs >>= λ cs. given (c & cs)
+
+-- `ArrowSchema::new`
+abbrev pub schemaNew : Field → Answer Schema
+schemaNew f = schemaNewOf (f .type) (f .info) none

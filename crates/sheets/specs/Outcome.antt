@@ -1,0 +1,140 @@
+-- What each public call answers (document 01, 'Who is turned back', 'Agreement on the contracts'): its number, its length, and every byte of the
+-- buffer that was lent. Assumes nothing.
+use mathlib.Core.Bool.{Bool, true, false, cond}
+use mathlib.Core.List.{List, [], _∷_, _++_}
+use Prim.Native.Nat.{ℕ}
+use lib.Dec.{leb}
+use lib.ListN.{length, drop, replicate}
+use Rattle.sheets.specs.Bytes.{Bytes}
+use Rattle.sheets.specs.Refusal.{numberOf, noRoom}
+use Rattle.sheets.specs.Answer.{Answer, refused, given, _>>=_}
+use Rattle.sheets.specs.Number.{decimal}
+use Rattle.sheets.specs.Format.{rows}
+use Rattle.sheets.specs.Schema.{readSchemaSheet, writeSchemaSheet}
+use Rattle.sheets.specs.Field.{Field, ArrowDataType}
+use Rattle.sheets.specs.FieldSheet.{readFieldSheet, writeFieldSheet, writeBareSheet, toNat}
+use Rattle.sheets.specs.Import.{toField}
+use Rattle.sheets.specs.Export.{schemaNew}
+use Rattle.sheets.specs.Plain.{plain}
+use Rattle.sheets.specs.Mappings.{PhysicalType, leafRows, withDtype, toPhysicalType, underlyingPhysicalType, toStorage, toStorageRecursive, innerDtype, getChild, isNested, containsDictionary, fromIntegerType, fromPrimitiveType}
+
+-- ── the sheet that is answered, or the refusal
+
+-- import: the field sheet of a schema sheet
+unfoldable pub imported : Bytes → Answer Bytes
+unfolding rows decimal
+imported b = do
+  s ← readSchemaSheet b
+  f ← toField s
+  given (writeFieldSheet f)
+
+-- export: the schema sheet of a field sheet
+unfoldable pub exported : Bytes → Answer Bytes
+unfolding rows decimal
+exported b = do
+  f ← readFieldSheet b
+  s ← schemaNew f
+  given (writeSchemaSheet s)
+
+-- the plain form of a field sheet: "a field sheet again, heading included"
+unfoldable pub plained : Bytes → Answer Bytes
+unfolding decimal
+plained b = readFieldSheet b >>= λ f. given (writeFieldSheet (plain f))
+
+-- "The three that change a type answer the field with its type replaced"
+abbrev pub mapped : (ArrowDataType → Answer ArrowDataType) → Bytes → Answer Bytes
+mapped change b = do
+  f ← readFieldSheet b
+  t ← change (f .type)
+  given (writeFieldSheet (withDtype f t))
+
+-- "`inner_dtype`, `get_child` and the two conversions answer a sheet whose first line is bare"
+abbrev pub picked : (ArrowDataType → Answer ArrowDataType) → Bytes → Answer Bytes
+picked pick b = do
+  f ← readFieldSheet b
+  t ← pick (f .type)
+  given (writeBareSheet t)
+
+abbrev pub converted : Answer ArrowDataType → Answer Bytes
+converted a = a >>= λ t. given (writeBareSheet t)
+
+-- ── calls that answer a sheet
+
+pub record Outcome : Type 0 where
+  pub number : ℕ
+  pub size : ℕ
+  pub buffer : Bytes
+
+-- "Success is 0 with the length; bytes past it keep what they held"
+abbrev pub success : Bytes → Bytes → Outcome
+success x out = record { number = 0; size = length x; buffer = x ++ drop (length x) out }
+
+-- "Refusal is the number with length 0, output all zeros"
+abbrev pub refusal : ℕ → Bytes → Outcome
+refusal n out = record { number = n; size = 0; buffer = replicate (length out) 0 }
+
+-- "16 the sheet is longer than the buffer", "16 last"
+unfoldable pub outcome : Answer Bytes → Bytes → Outcome
+outcome (refused r) out = refusal (numberOf r) out
+outcome (given x) out = cond (leb (length x) (length out)) (success x out) (refusal noRoom out)
+
+-- the calls: a sheet (and an index, or a place alone), then what the lent buffer held
+abbrev pub importOutcome : Bytes → Bytes → Outcome
+importOutcome b out = outcome (imported b) out
+
+abbrev pub exportOutcome : Bytes → Bytes → Outcome
+exportOutcome b out = outcome (exported b) out
+
+abbrev pub plainOutcome : Bytes → Bytes → Outcome
+plainOutcome b out = outcome (plained b) out
+
+abbrev pub underlyingPhysicalTypeOutcome : Bytes → Bytes → Outcome
+underlyingPhysicalTypeOutcome b out = outcome (mapped underlyingPhysicalType b) out
+
+abbrev pub toStorageOutcome : Bytes → Bytes → Outcome
+toStorageOutcome b out = outcome (mapped (λ t. given (toStorage t)) b) out
+
+abbrev pub toStorageRecursiveOutcome : Bytes → Bytes → Outcome
+toStorageRecursiveOutcome b out = outcome (mapped toStorageRecursive b) out
+
+abbrev pub innerDtypeOutcome : Bytes → Bytes → Outcome
+innerDtypeOutcome b out = outcome (picked innerDtype b) out
+
+abbrev pub getChildOutcome : Bytes → ℕ → Bytes → Outcome
+getChildOutcome b index out = outcome (picked (getChild index) b) out
+
+abbrev pub fromIntegerTypeOutcome : ℕ → Bytes → Outcome
+fromIntegerTypeOutcome place out = outcome (converted (fromIntegerType place)) out
+
+abbrev pub fromPrimitiveTypeOutcome : ℕ → Bytes → Outcome
+fromPrimitiveTypeOutcome place out = outcome (converted (fromPrimitiveType place)) out
+
+-- ── calls that answer numbers; they are lent no buffer, so 16 cannot come
+
+-- the physical type, "both 0 on refusal"
+pub record Places : Type 0 where
+  pub number : ℕ
+  pub place : ℕ
+  pub inner : ℕ
+
+abbrev pub places : Answer PhysicalType → Places
+places (refused r) = record { number = numberOf r; place = 0; inner = 0 }
+places (given p) = record { number = 0; place = p .place; inner = p .inner }
+
+abbrev pub toPhysicalTypeOutcome : Bytes → Places
+toPhysicalTypeOutcome b = places (readFieldSheet b >>= λ f. toPhysicalType (f .type))
+
+-- yes is 1, no is 0; "yes/no answers 0" on refusal
+pub record YesNo : Type 0 where
+  pub number : ℕ
+  pub answer : ℕ
+
+abbrev pub yesNo : Answer Bool → YesNo
+yesNo (refused r) = record { number = numberOf r; answer = 0 }
+yesNo (given b) = record { number = 0; answer = toNat b }
+
+abbrev pub isNestedOutcome : Bytes → YesNo
+isNestedOutcome b = yesNo (readFieldSheet b >>= λ f. given (isNested (f .type)))
+
+abbrev pub containsDictionaryOutcome : Bytes → YesNo
+containsDictionaryOutcome b = yesNo (readFieldSheet b >>= λ f. given (containsDictionary (f .type)))
