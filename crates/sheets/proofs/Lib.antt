@@ -20,4 +20,5 @@ pub mod SizeLaws
 pub mod Demand3
 pub mod MappingLaws
 pub mod Demand3Example
+pub mod WrongTurns
 pub mod ForwardCount
