@@ -25,15 +25,15 @@ forward (b ∷ bs) (suc p) = schemaLine .read b >>= λ l. when badLines (is (ltb
 
 -- ── trees are counted
 
-children-length : (cs : Schemas) (ts : List Schema) → length (pushChildren cs ts) ≡ countSchemas cs + length ts
+pub children-length : (cs : Schemas) (ts : List Schema) → length (pushChildren cs ts) ≡ countSchemas cs + length ts
 children-length end ts = omega arith
 children-length (s & ss) ts = omega (arith, children-length ss ts)
 
-dictionary-length : (d : Dictionary) (ts : List Schema) → length (pushDictionary d ts) ≡ countDictionary d + length ts
+pub dictionary-length : (d : Dictionary) (ts : List Schema) → length (pushDictionary d ts) ≡ countDictionary d + length ts
 dictionary-length absent ts = omega arith
 dictionary-length (present s) ts = omega arith
 
-one-at-most : (d : Dictionary) → countDictionary d < 2
+pub one-at-most : (d : Dictionary) → countDictionary d < 2
 one-at-most absent = omega arith
 one-at-most (present s) = omega arith
 
@@ -60,12 +60,12 @@ trees-counted (b ∷ bs) ts e =
 
 -- ── what is counted is trees
 
-take-some : (n k : ℕ) (ts : List Schema) → length ts ≡ n + k → (x : Schemas × List Schema) × (takeChildren n ts ≡ given x) × (length (x .1) ≡ k)
+pub take-some : (n k : ℕ) (ts : List Schema) → length ts ≡ n + k → (x : Schemas × List Schema) × (takeChildren n ts ≡ given x) × (length (x .1) ≡ k)
 take-some zero k ts h = ((end, ts), refl, omega arith)
 take-some (suc n) k [] h = absurd (omega arith)
 take-some (suc n) k (t ∷ ts) h = let r = take-some n k ts (omega arith) in ((t & r .0 .0, r .0 .1), rw (r .1), r .2)
 
-take-one : (n k : ℕ) (ts : List Schema) → n < 2 → length ts ≡ n + k → (x : Dictionary × List Schema) × (takeDictionary n ts ≡ given x) × (length (x .1) ≡ k)
+pub take-one : (n k : ℕ) (ts : List Schema) → n < 2 → length ts ≡ n + k → (x : Dictionary × List Schema) × (takeDictionary n ts ≡ given x) × (length (x .1) ≡ k)
 take-one zero k ts s h = ((absent, ts), refl, omega arith)
 take-one (suc zero) k [] s h = absurd (omega arith)
 take-one (suc zero) k (t ∷ ts) s h = ((present t, ts), refl, omega arith)

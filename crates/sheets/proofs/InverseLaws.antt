@@ -159,7 +159,7 @@ text-read (c ∷ cs) x e = pick (same (c ∷ cs) (ascii "~")) refl (same (c ∷ 
 
 -- ── lines and columns
 
-split-some : (s : ℕ) (b : Bytes) → (p : Bytes) × (ps : List Bytes) × (split s b ≡ p ∷ ps)
+pub split-some : (s : ℕ) (b : Bytes) → (p : Bytes) × (ps : List Bytes) × (split s b ≡ p ∷ ps)
 split-some s [] = ([], [], refl)
 split-some s (c ∷ b) = pick (eqb c s) (split s b)
   where
@@ -180,7 +180,7 @@ join-split s (c ∷ b) = pick (eqb c s) refl (split-some s b) (join-split s b)
     pick true t (p, ps, e) next = rw (e) (ap (λ l. s ∷ l) (ap (join s) (sym e) ∙ next) ∙ ap (λ x. x ∷ b) (sym (eqb-true c s t)))
     pick false t (p, ps, e) next = rw e (join-prepend s c p ps ∙ ap (λ l. c ∷ l) (ap (join s) (sym e) ∙ next))
 
-ended-join : (ps ls : List Bytes) → endedLines ps ≡ given ls → ended ls ≡ join 10 ps
+pub ended-join : (ps ls : List Bytes) → endedLines ps ≡ given ls → ended ls ≡ join 10 ps
 ended-join [] ls e = absurd (let y : _≡_ {A = ℕ} 0 1 = cc in omega arith)
 ended-join ([] ∷ []) ls e =
     let same : [] ≡ ls = cc in

@@ -22,3 +22,5 @@ pub mod MappingLaws
 pub mod Demand3Example
 pub mod WrongTurns
 pub mod ForwardCount
+pub mod RefusalLaws
+pub mod FormLaws
