@@ -24,3 +24,4 @@ pub mod WrongTurns
 pub mod ForwardCount
 pub mod RefusalLaws
 pub mod FormLaws
+pub mod ImportLaws
