@@ -47,7 +47,7 @@ follow-bytes [] h b rs e = absurd (let z : _≡_ {A = ℕ} 0 1 = cc in omega ari
 follow-bytes ([] ∷ rows) h b rs e = follow-bytes rows (h .1) b rs e
 follow-bytes ((r ∷ row) ∷ rows) h b rs e = pick (inRange r b) refl (follow-bytes rows (h .1) b rs) e
   where
-    pick : (t : Bool) → inRange r b ≡ t → (following b rows ≡ some rs → (isByte b ≡ true) × Meets (byteRanges rs)) → cond t (some row) (following b rows) ≡ some rs → (isByte b ≡ true) × Meets (byteRanges rs)
+    pick : (t : Bool) → inRange r b ≡ t → (following b rows ≡ some rs → (isByte b ≡ true) × Meets (byteRanges rs)) → elim t as (λ z. Option (List Range)) [ true ↦ some row | false ↦ following b rows ] ≡ some rs → (isByte b ≡ true) × Meets (byteRanges rs)
     pick true t next g =
         let same : row ≡ rs = cc in
         (in-byte r b (h .0 .0) t, subst (λ x. Meets (byteRanges x)) same (h .0 .1))
@@ -100,7 +100,7 @@ ascii-utf8 [] h = refl
 ascii-utf8 (x ∷ b) h = begin x b ∙ first (h .0) ∙ ascii-utf8 b (h .1)
   where
     first : leb x 127 ≡ true → goOn (following x table) b ≡ sequences [] b
-    first k = rw (le-leb 0 x (omega arith), k)
+    first k = rw (le-leb 0 x (omega arith), k, following)
 
 -- ── classes and states
 
@@ -231,7 +231,7 @@ follow-fits [] b rs s e h = absurd (let z : _≡_ {A = ℕ} 0 1 = cc in omega ar
 follow-fits ([] ∷ rows) b rs s e h = follow-fits rows b rs s e h
 follow-fits ((r ∷ row) ∷ rows) b rs s e h = pick (inRange r b) refl e (λ k. follow-fits rows b rs s k h)
   where
-    pick : (t : Bool) → inRange r b ≡ t → cond t (some row) (following b rows) ≡ some rs → (following b rows ≡ some rs → isSequence rows (b ∷ s) ≡ true) → ((inRange r b && fits row s) || isSequence rows (b ∷ s)) ≡ true
+    pick : (t : Bool) → inRange r b ≡ t → elim t as (λ z. Option (List Range)) [ true ↦ some row | false ↦ following b rows ] ≡ some rs → (following b rows ≡ some rs → isSequence rows (b ∷ s) ≡ true) → ((inRange r b && fits row s) || isSequence rows (b ∷ s)) ≡ true
     pick true t g next =
         let same : row ≡ rs = cc in
         or-left (inRange r b && fits row s) (isSequence rows (b ∷ s)) (rw (t, same, h))
@@ -287,12 +287,12 @@ sequence-follows ([] ∷ rows) a x s h = sequence-follows rows a x s h
 sequence-follows ((r ∷ row) ∷ rows) a x s h = pick (inRange r x) (fits row s) refl refl h (sequence-follows rows (a .1) x s)
   where
     pick : (t f : Bool) → inRange r x ≡ t → fits row s ≡ f → ((t && f) || isSequence rows (x ∷ s)) ≡ true → (isSequence rows (x ∷ s) ≡ true → Follows rows x s) → Follows ((r ∷ row) ∷ rows) x s
-    pick true true t f k next = (row, rw t, f)
+    pick true true t f k next = (row, rw (t, following), f)
     pick true false t f k next =
         let below : x ≤ r .last = leb-true x (r .last) (and-right (leb (r .first) x) (leb x (r .last)) t) in
         let z : true ≡ false = sym k ∙ not-later rows (r .last) x s (a .0) below in
         absurd (let y : _≡_ {A = ℕ} 0 1 = cc in omega arith)
-    pick false f t e k next = let p = next k in (p .0, rw t (p .1), p .2)
+    pick false f t e k next = let p = next k in (p .0, rw (t, following) (p .1), p .2)
 
 fits-then : (rs : List Range) (s k : Bytes) → fits rs s ≡ true → isUtf8 k ≡ true → sequences rs (s ++ k) ≡ true
 fits-then [] [] k h u = u

@@ -1,6 +1,6 @@
 -- Well-formed UTF-8 (document 01, 'Metadata block': UTF-8 testing "follows the Unicode standard"): the standard's Table 3-7. Assumes nothing.
 use mathlib.Core.Path.{_≡_}
-use mathlib.Core.Bool.{Bool, true, false, _&&_, _||_, cond}
+use mathlib.Core.Bool.{Bool, true, false, _&&_, _||_}
 use mathlib.Core.List.{List, [], _∷_, _++_}
 use mathlib.Core.Option.{Option, none, some}
 use Prim.Native.Nat.{ℕ}
@@ -60,7 +60,7 @@ WellFormed b = (ss : List Bytes) × Meets (each (λ s. is (isSequence table s)) 
 abbrev pub following : ℕ → List (List Range) → Option (List Range)
 following b [] = none
 following b ([] ∷ rows) = following b rows
-following b ((r ∷ rs) ∷ rows) = cond (inRange r b) (some rs) (following b rows)
+following b ((r ∷ rs) ∷ rows) = elim (inRange r b) [ true ↦ some rs | false ↦ following b rows ]
 
 -- first a byte from each of these ranges, then sequences of the table up to the end
 abbrev pub sequences : List Range → Bytes → Bool
