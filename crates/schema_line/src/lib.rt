@@ -1,0 +1,52 @@
+// A line of a schema sheet: its columns as parts of the sheet, and its flags.
+ghost use mathlib.Core.Path.{_≡_};
+ghost use Rattle.sheets.specs.Flags.{isOrdered, nullable, isSorted};
+
+// The bytes of a sheet from `start` up to `end`.
+pub struct Part {
+    pub start: usize,
+    pub end: usize,
+}
+
+// `format name flags metadata children dictionary`; `end` is the place after the line's byte 10.
+pub struct SchemaLine {
+    pub format: Part,
+    pub name: Part,
+    pub flags: i64,
+    pub metadata: Part,
+    pub children: u64,
+    pub dictionary: u64,
+    pub end: usize,
+}
+
+impl SchemaLine {
+    pub const ORDERED: i64 = 1;
+
+    pub const NULLABLE: i64 = 2;
+
+    pub const SORTED: i64 = 4;
+
+    // The dictionary's values are ordered.
+    pub fn ordered(self) -> bool
+        ensures { λ r. ⌜ r ≡ isOrdered (self .flags) ⌝ }
+    {
+        let flags = self.flags;
+        flags & Self::ORDERED != 0
+    }
+
+    // By division, rounded toward zero, as the source has it: -3 is nullable, though its bit 2 is 0.
+    pub fn nullable(self) -> bool
+        ensures { λ r. ⌜ r ≡ nullable (self .flags) ⌝ }
+    {
+        let flags = self.flags;
+        (flags / Self::NULLABLE) & 1 == 1
+    }
+
+    // The map's keys are sorted.
+    pub fn sorted(self) -> bool
+        ensures { λ r. ⌜ r ≡ isSorted (self .flags) ⌝ }
+    {
+        let flags = self.flags;
+        flags & Self::SORTED != 0
+    }
+}
