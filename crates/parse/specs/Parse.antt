@@ -1,0 +1,26 @@
+-- What the answers of the code say, and digits as a number of at most a limit: the part that `readSize` and `readId` of document 01's definitions
+-- have in common. Assumes nothing.
+use Prim.Native.Nat.{ℕ}
+use lib.Dec.{leb}
+use lib.IntN.{ℤ}
+use Rattle.sheets.specs.Refusal.{badNumber}
+use Rattle.sheets.specs.Rule.{is}
+use Rattle.sheets.specs.Answer.{Answer, refused, given, _>>=_, when}
+use Rattle.sheets.specs.Bytes.{Bytes}
+use Rattle.sheets.specs.Format.{unsigned}
+use Rattle.parse.specs.declared.Size.{Size}
+use Rattle.parse.specs.declared.Size.the-variants as S
+use Rattle.parse.specs.declared.Id.{Id}
+use Rattle.parse.specs.declared.Id.the-variants as I
+
+abbrev pub sizeOf : Answer ℕ → Size
+sizeOf (refused n) = S.Bad
+sizeOf (given n) = S.Value n
+
+abbrev pub idOf : Answer ℤ → Id
+idOf (refused n) = I.Bad
+idOf (given z) = I.Value z
+
+-- digits, at least one, as a number of at most max
+unfoldable pub atMost : ℕ → Bytes → Answer ℕ
+atMost max bs = unsigned bs >>= λ n. when badNumber (is (leb n max)) n

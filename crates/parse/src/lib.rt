@@ -1,0 +1,106 @@
+// The Rust's `parse::<usize>`, at 64 bits, and `parse::<i32>`, of hexadecimal text.
+ghost use mathlib.Core.Path.{_≡_};
+ghost use mathlib.Core.Bool.{true};
+ghost use Prim.Native.Nat.{_^_, _≤_};
+ghost use lib.ListN.{drop};
+ghost use Rattle.sheets.specs.Format.{dropPlus, minus, readSize, readId};
+ghost use Rattle.hex.specs.Hex.{isHex, bytesOf};
+ghost use Rattle.parse.specs.Parse.{sizeOf, idOf, atMost};
+
+pub enum Size {
+    Value(u64),
+    Bad,
+}
+
+pub enum Id {
+    Value(i32),
+    Bad,
+}
+
+fn wide(b: u8) -> u64
+    ensures { λ r. ⌜ r ≡ b ⌝ }
+{
+    b as u64
+}
+
+// The digits from byte at on, as a number of at most max.
+fn digits(s: &[u8], at: usize, max: u64) -> Size
+    requires { ⌜ isHex (now s) ≡ true ⌝ }
+    ensures { λ r. ⌜ r ≡ sizeOf (atMost max (drop at (bytesOf (now (s .entry))))) ⌝ }
+{
+    let n = s.len() / 2;
+    if n <= at {
+        return Size::Bad;
+    }
+    let mut v: u64 = 0;
+    let mut i = at;
+    while i < n {
+        let b = hex::byte_at(s, i);
+        if b < 48 {
+            return Size::Bad;
+        }
+        if 57 < b {
+            return Size::Bad;
+        }
+        let d = wide(b - 48);
+        if max / 10 < v {
+            return Size::Bad;
+        }
+        if max - v * 10 < d {
+            return Size::Bad;
+        }
+        v = v * 10 + d;
+        i += 1;
+    }
+    Size::Value(v)
+}
+
+// The place after a plus, if the bytes begin with one.
+fn after_plus(s: &[u8]) -> usize
+    requires { ⌜ isHex (now s) ≡ true ⌝ }
+    ensures { λ r. ⌜ drop r (bytesOf (now (s .entry))) ≡ dropPlus (bytesOf (now (s .entry))) ⌝ }
+{
+    if s.len() < 2 {
+        return 0;
+    }
+    if hex::byte_at(s, 0) == b'+' {
+        return 1;
+    }
+    0
+}
+
+pub fn parse_usize(s: &[u8]) -> Size
+    requires { ⌜ isHex (now s) ≡ true ⌝ }
+    ensures { λ r. ⌜ r ≡ sizeOf (readSize (bytesOf (now (s .entry)))) ⌝ }
+{
+    digits(s, after_plus(s), 18446744073709551615)
+}
+
+fn negated(m: u64) -> i32
+    requires { ⌜ m ≤ 2 ^ 31 ⌝ }
+    ensures { λ r. ⌜ r ≡ minus m ⌝ }
+{
+    if m == 0 {
+        return 0;
+    }
+    -1 - ((m - 1) as i32)
+}
+
+pub fn parse_i32(s: &[u8]) -> Id
+    requires { ⌜ isHex (now s) ≡ true ⌝ }
+    ensures { λ r. ⌜ r ≡ idOf (readId (bytesOf (now (s .entry)))) ⌝ }
+{
+    if s.len() < 2 {
+        return Id::Bad;
+    }
+    if hex::byte_at(s, 0) == b'-' {
+        let Size::Value(m) = digits(s, 1, 2147483648) else {
+            return Id::Bad;
+        };
+        return Id::Value(negated(m));
+    }
+    let Size::Value(n) = digits(s, after_plus(s), 2147483647) else {
+        return Id::Bad;
+    };
+    Id::Value(n as i32)
+}
