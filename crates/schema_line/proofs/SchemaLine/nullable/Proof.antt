@@ -9,13 +9,11 @@ use Rattle.schema_line.proofs.SchemaLine.nullable.Tie as tie
 use Rattle.schema_line.proofs.SchemaLine.nullable.Reads as reads
 use Rattle.schema_line.proofs.SchemaLine.nullable.Lts as lts
 
--- src/lib.rt:40:10
 div-result : tie.Need-div-result
 div-result c =
     let f : SFits w64 (c .before .args .self .flags) = search needs in
     (search needs, rw (toZ-ofZ f) (half-fits (c .before .args .self .flags) f))
 
--- src/lib.rt:36:5
 returns : tie.Need-returns
 returns c =
     let f : SFits w64 (c .before .args .self .flags) = search needs in

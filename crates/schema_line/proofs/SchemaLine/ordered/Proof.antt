@@ -7,7 +7,6 @@ use Rattle.schema_line.proofs.SchemaLine.ordered.Tie as tie
 use Rattle.schema_line.proofs.SchemaLine.ordered.Reads as reads
 use Rattle.schema_line.proofs.SchemaLine.ordered.Lts as lts
 
--- src/lib.rt:28:5
 returns : tie.Need-returns
 returns c = masked 0 (λ n h. omega arith) (c .before .args .self .flags) (search needs)
 

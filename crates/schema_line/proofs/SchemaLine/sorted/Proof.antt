@@ -7,7 +7,6 @@ use Rattle.schema_line.proofs.SchemaLine.sorted.Tie as tie
 use Rattle.schema_line.proofs.SchemaLine.sorted.Reads as reads
 use Rattle.schema_line.proofs.SchemaLine.sorted.Lts as lts
 
--- src/lib.rt:44:5
 returns : tie.Need-returns
 returns c = masked 2 (λ n h. omega arith) (c .before .args .self .flags) (search needs)
 

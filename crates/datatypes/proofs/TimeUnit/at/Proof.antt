@@ -1,0 +1,27 @@
+-- In each arm the place is the pattern, and the definition computes there; in `_` no case has it.
+use mathlib.Core.Path.{refl, sym, ap}
+use Rattle.datatypes.specs.Places.{timePlace}
+use Rattle.datatypes.specs.At.{timeUnits, timeUnitOf, timeUnitAt}
+use Rattle.datatypes.proofs.AtLaws.{below, nowhere}
+use Rattle.datatypes.proofs.TimeUnit.at.Statement.{statement}
+use Rattle.datatypes.proofs.TimeUnit.at.Tie as tie
+use Rattle.datatypes.proofs.TimeUnit.at.Reads as reads
+use Rattle.datatypes.proofs.TimeUnit.at.Lts as lts
+
+returns : tie.Need-returns
+returns c = sym (ap timeUnitAt (c .match .keys1))
+
+returns-2 : tie.Need-returns-2
+returns-2 c = sym (ap timeUnitAt (c .match .keys2))
+
+returns-3 : tie.Need-returns-3
+returns-3 c = sym (ap timeUnitAt (c .match .keys3))
+
+returns-4 : tie.Need-returns-4
+returns-4 c = sym (ap timeUnitAt (c .match .keys4))
+
+returns-5 : tie.Need-returns-5
+returns-5 c = sym (ap timeUnitOf (nowhere timePlace (c .before .args .place) (below 4) (c .match .rest) timeUnits refl))
+
+pub at-spec : {M : Type 1} → statement M
+at-spec = tie.close (tie.spec returns returns-2 returns-3 returns-4 returns-5)

@@ -1,0 +1,103 @@
+-- The numbers of document 01 for the cases of each enumeration: "from 0 in declaration order". They are the places that the definitions of
+-- the sheets name, so that no case is numbered twice. Assumes nothing.
+use mathlib.Core.Bool.{true, false}
+use Prim.Native.Nat.{ℕ}
+use Rattle.sheets.specs.Field.{second, millisecond, microsecond, nanosecond, unitPlace}
+use Rattle.sheets.specs.Field.{TimeUnit as SheetUnit}
+use Rattle.sheets.specs.FieldSheet.{toNat}
+use Rattle.sheets.specs.IntegerType as IntegerPlace
+use Rattle.sheets.specs.PrimitiveType as PrimitivePlace
+use Rattle.sheets.specs.IntervalUnit as IntervalPlace
+use Rattle.sheets.specs.PhysicalType as PhysicalPlace
+use Rattle.datatypes.specs.declared.IntegerType.{IntegerType}
+use Rattle.datatypes.specs.declared.IntegerType.the-variants as IntegerTypes
+use Rattle.datatypes.specs.declared.PrimitiveType.{PrimitiveType}
+use Rattle.datatypes.specs.declared.PrimitiveType.the-variants as PrimitiveTypes
+use Rattle.datatypes.specs.declared.TimeUnit.{TimeUnit}
+use Rattle.datatypes.specs.declared.TimeUnit.the-variants as TimeUnits
+use Rattle.datatypes.specs.declared.IntervalUnit.{IntervalUnit}
+use Rattle.datatypes.specs.declared.IntervalUnit.the-variants as IntervalUnits
+use Rattle.datatypes.specs.declared.UnionMode.{UnionMode}
+use Rattle.datatypes.specs.declared.UnionMode.the-variants as UnionModes
+use Rattle.datatypes.specs.declared.PhysicalType.{PhysicalType}
+use Rattle.datatypes.specs.declared.PhysicalType.the-variants as PhysicalTypes
+use Rattle.datatypes.specs.declared.Places.{Places}
+
+abbrev pub integerPlace : IntegerType → ℕ
+integerPlace IntegerTypes.Int8 = IntegerPlace.Int8
+integerPlace IntegerTypes.Int16 = IntegerPlace.Int16
+integerPlace IntegerTypes.Int32 = IntegerPlace.Int32
+integerPlace IntegerTypes.Int64 = IntegerPlace.Int64
+integerPlace IntegerTypes.Int128 = IntegerPlace.Int128
+integerPlace IntegerTypes.UInt8 = IntegerPlace.UInt8
+integerPlace IntegerTypes.UInt16 = IntegerPlace.UInt16
+integerPlace IntegerTypes.UInt32 = IntegerPlace.UInt32
+integerPlace IntegerTypes.UInt64 = IntegerPlace.UInt64
+integerPlace IntegerTypes.UInt128 = IntegerPlace.UInt128
+
+abbrev pub primitivePlace : PrimitiveType → ℕ
+primitivePlace PrimitiveTypes.Int8 = PrimitivePlace.Int8
+primitivePlace PrimitiveTypes.Int16 = PrimitivePlace.Int16
+primitivePlace PrimitiveTypes.Int32 = PrimitivePlace.Int32
+primitivePlace PrimitiveTypes.Int64 = PrimitivePlace.Int64
+primitivePlace PrimitiveTypes.Int128 = PrimitivePlace.Int128
+primitivePlace PrimitiveTypes.Int256 = PrimitivePlace.Int256
+primitivePlace PrimitiveTypes.UInt8 = PrimitivePlace.UInt8
+primitivePlace PrimitiveTypes.UInt16 = PrimitivePlace.UInt16
+primitivePlace PrimitiveTypes.UInt32 = PrimitivePlace.UInt32
+primitivePlace PrimitiveTypes.UInt64 = PrimitivePlace.UInt64
+primitivePlace PrimitiveTypes.UInt128 = PrimitivePlace.UInt128
+primitivePlace PrimitiveTypes.Float16 = PrimitivePlace.Float16
+primitivePlace PrimitiveTypes.Float32 = PrimitivePlace.Float32
+primitivePlace PrimitiveTypes.Float64 = PrimitivePlace.Float64
+primitivePlace PrimitiveTypes.DaysMs = PrimitivePlace.DaysMs
+primitivePlace PrimitiveTypes.MonthDayNano = PrimitivePlace.MonthDayNano
+primitivePlace PrimitiveTypes.MonthDayMillis = PrimitivePlace.MonthDayMillis
+
+-- the unit, as fields have it
+abbrev pub timeUnit : TimeUnit → SheetUnit
+timeUnit TimeUnits.Second = second
+timeUnit TimeUnits.Millisecond = millisecond
+timeUnit TimeUnits.Microsecond = microsecond
+timeUnit TimeUnits.Nanosecond = nanosecond
+
+abbrev pub timePlace : TimeUnit → ℕ
+timePlace u = unitPlace (timeUnit u)
+
+abbrev pub intervalPlace : IntervalUnit → ℕ
+intervalPlace IntervalUnits.YearMonth = IntervalPlace.YearMonth
+intervalPlace IntervalUnits.DayTime = IntervalPlace.DayTime
+intervalPlace IntervalUnits.MonthDayNano = IntervalPlace.MonthDayNano
+intervalPlace IntervalUnits.MonthDayMillis = IntervalPlace.MonthDayMillis
+
+-- "union mode (0 dense, 1 sparse)"
+abbrev pub unionPlace : UnionMode → ℕ
+unionPlace UnionModes.Dense = toNat false
+unionPlace UnionModes.Sparse = toNat true
+
+abbrev pub bearing : ℕ → ℕ → Places
+bearing n i = record { place = n; inner = i }
+
+-- a physical type that carries no other: "the second 0 if there is none"
+abbrev bare : ℕ → Places
+bare n = bearing n 0
+
+-- "the place in `PhysicalType` and that of the inner type"
+abbrev pub physicalPlaces : PhysicalType → Places
+physicalPlaces PhysicalTypes.Null = bare PhysicalPlace.Null
+physicalPlaces PhysicalTypes.Boolean = bare PhysicalPlace.Boolean
+physicalPlaces (PhysicalTypes.Primitive t) = bearing PhysicalPlace.Primitive (primitivePlace t)
+physicalPlaces PhysicalTypes.Binary = bare PhysicalPlace.Binary
+physicalPlaces PhysicalTypes.FixedSizeBinary = bare PhysicalPlace.FixedSizeBinary
+physicalPlaces PhysicalTypes.LargeBinary = bare PhysicalPlace.LargeBinary
+physicalPlaces PhysicalTypes.Utf8 = bare PhysicalPlace.Utf8
+physicalPlaces PhysicalTypes.LargeUtf8 = bare PhysicalPlace.LargeUtf8
+physicalPlaces PhysicalTypes.List = bare PhysicalPlace.List
+physicalPlaces PhysicalTypes.FixedSizeList = bare PhysicalPlace.FixedSizeList
+physicalPlaces PhysicalTypes.LargeList = bare PhysicalPlace.LargeList
+physicalPlaces PhysicalTypes.Struct = bare PhysicalPlace.Struct
+physicalPlaces PhysicalTypes.Union = bare PhysicalPlace.Union
+physicalPlaces PhysicalTypes.Map = bare PhysicalPlace.Map
+physicalPlaces (PhysicalTypes.Dictionary t) = bearing PhysicalPlace.Dictionary (integerPlace t)
+physicalPlaces PhysicalTypes.BinaryView = bare PhysicalPlace.BinaryView
+physicalPlaces PhysicalTypes.Utf8View = bare PhysicalPlace.Utf8View

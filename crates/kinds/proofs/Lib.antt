@@ -1,0 +1,2 @@
+pub mod DtypeLaws
+pub mod PhysicalLaws

@@ -1,0 +1,2 @@
+pub mod Dtypes
+pub mod Physical
