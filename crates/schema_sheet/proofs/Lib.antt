@@ -1,0 +1,12 @@
+pub mod ColumnLaws
+pub mod TextLaws
+pub mod FindLaws
+pub mod SplitLaws
+pub mod TailLaws
+pub mod LineLaws
+pub mod WalkLaws
+pub mod NumberAtLaws
+pub mod CountLaws
+pub mod StandingLaws
+pub mod SkipLaws
+pub mod SheetLaws
