@@ -269,6 +269,7 @@ fn sort_into(text: &[u8], from: &mut [u32], to: &mut [u32]) -> usize
     ensures { λ r. ⌜ Sorts (keyAt (now (text .entry))) (now (to .entry)) (now (to .exit)) r ⌝ }
 {
     let n = to.len();
+    // up to eight entries are sorted sooner by insertion than by merging
     if n < 9 {
         return sort_few(text, from, to);
     }
