@@ -1,2 +1,1 @@
-pub mod AtLaws
 pub mod EnumLaws

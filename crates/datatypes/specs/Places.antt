@@ -1,24 +1,13 @@
 -- The numbers of document 01 for the cases of each enumeration: "from 0 in declaration order". They are the places that the definitions of
 -- the sheets name, so that no case is numbered twice. Assumes nothing.
-use mathlib.Core.Bool.{true, false}
 use Prim.Native.Nat.{ℕ}
-use Rattle.sheets.specs.Field.{second, millisecond, microsecond, nanosecond, unitPlace}
-use Rattle.sheets.specs.Field.{TimeUnit as SheetUnit}
-use Rattle.sheets.specs.FieldSheet.{toNat}
 use Rattle.sheets.specs.IntegerType as IntegerPlace
 use Rattle.sheets.specs.PrimitiveType as PrimitivePlace
-use Rattle.sheets.specs.IntervalUnit as IntervalPlace
 use Rattle.sheets.specs.PhysicalType as PhysicalPlace
 use Rattle.datatypes.specs.declared.IntegerType.{IntegerType}
 use Rattle.datatypes.specs.declared.IntegerType.the-variants as IntegerTypes
 use Rattle.datatypes.specs.declared.PrimitiveType.{PrimitiveType}
 use Rattle.datatypes.specs.declared.PrimitiveType.the-variants as PrimitiveTypes
-use Rattle.datatypes.specs.declared.TimeUnit.{TimeUnit}
-use Rattle.datatypes.specs.declared.TimeUnit.the-variants as TimeUnits
-use Rattle.datatypes.specs.declared.IntervalUnit.{IntervalUnit}
-use Rattle.datatypes.specs.declared.IntervalUnit.the-variants as IntervalUnits
-use Rattle.datatypes.specs.declared.UnionMode.{UnionMode}
-use Rattle.datatypes.specs.declared.UnionMode.the-variants as UnionModes
 use Rattle.datatypes.specs.declared.PhysicalType.{PhysicalType}
 use Rattle.datatypes.specs.declared.PhysicalType.the-variants as PhysicalTypes
 use Rattle.datatypes.specs.declared.Places.{Places}
@@ -53,27 +42,6 @@ primitivePlace PrimitiveTypes.Float64 = PrimitivePlace.Float64
 primitivePlace PrimitiveTypes.DaysMs = PrimitivePlace.DaysMs
 primitivePlace PrimitiveTypes.MonthDayNano = PrimitivePlace.MonthDayNano
 primitivePlace PrimitiveTypes.MonthDayMillis = PrimitivePlace.MonthDayMillis
-
--- the unit, as fields have it
-abbrev pub timeUnit : TimeUnit → SheetUnit
-timeUnit TimeUnits.Second = second
-timeUnit TimeUnits.Millisecond = millisecond
-timeUnit TimeUnits.Microsecond = microsecond
-timeUnit TimeUnits.Nanosecond = nanosecond
-
-abbrev pub timePlace : TimeUnit → ℕ
-timePlace u = unitPlace (timeUnit u)
-
-abbrev pub intervalPlace : IntervalUnit → ℕ
-intervalPlace IntervalUnits.YearMonth = IntervalPlace.YearMonth
-intervalPlace IntervalUnits.DayTime = IntervalPlace.DayTime
-intervalPlace IntervalUnits.MonthDayNano = IntervalPlace.MonthDayNano
-intervalPlace IntervalUnits.MonthDayMillis = IntervalPlace.MonthDayMillis
-
--- "union mode (0 dense, 1 sparse)"
-abbrev pub unionPlace : UnionMode → ℕ
-unionPlace UnionModes.Dense = toNat false
-unionPlace UnionModes.Sparse = toNat true
 
 abbrev pub bearing : ℕ → ℕ → Places
 bearing n i = record { place = n; inner = i }

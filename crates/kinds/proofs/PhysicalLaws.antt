@@ -18,14 +18,15 @@ use Rattle.sheets.specs.Rule.{Meets}
 use Rattle.sheets.specs.Kind
 use Rattle.sheets.specs.PrimitiveType as PrimitivePlace
 use Rattle.sheets.specs.PhysicalType as PhysicalPlace
-use Rattle.datatypes.specs.At.{firstAt, integerTypeAt}
+use Rattle.units.specs.At.{firstAt}
+use Rattle.datatypes.specs.At.{integerTypeAt}
 use Rattle.datatypes.specs.Places.{integerPlace}
 use Rattle.kinds.specs.Physical.{otherKinds, rowOr, kindPhysical, indexPhysical, primitiveKinds, isPrimitive, primitiveOnly}
 use Rattle.datatypes.specs.declared.IntegerType.{IntegerType}
 use Rattle.datatypes.specs.declared.IntegerType.the-variants as Integers
 use Rattle.datatypes.specs.declared.IntegerTypeAt.the-variants.{Is, Nothing}
 use Rattle.datatypes.proofs.EnumLaws.{integer-past, integer-found}
-use Rattle.datatypes.proofs.AtLaws.{Rest, below, listed, not-listed, nowhere, apart}
+use Rattle.units.proofs.AtLaws.{Rest, below, listed, not-listed, nowhere, apart}
 
 -- a unit past MonthDayNano is MonthDayMillis
 pub interval-last : (u : ℕ) → Rest (below 3) u → intervalPhysical u ≡ record { place = PhysicalPlace.Primitive; inner = PrimitivePlace.MonthDayMillis }

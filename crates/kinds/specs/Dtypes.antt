@@ -5,8 +5,8 @@ use Rattle.sheets.specs.Answer.{Answer, refused, given}
 use Rattle.sheets.specs.Field.{ArrowDataType, scalar, nested, grouped, dictionary, extension}
 use Rattle.sheets.specs.FieldSheet.{Columns, columns, ofScalar, noText}
 use Rattle.sheets.specs.Kind
-use Rattle.datatypes.specs.Places.{intervalPlace}
-use Rattle.datatypes.specs.declared.IntervalUnit.{IntervalUnit}
+use Rattle.units.specs.Places.{intervalPlace}
+use Rattle.units.specs.declared.IntervalUnit.{IntervalUnit}
 use Rattle.kinds.specs.declared.Dtype.{Dtype}
 
 -- a type that a kind and a unit tell

@@ -13,7 +13,7 @@ use Rattle.sheets.specs.Kind
 use Rattle.sheets.specs.IntegerType as IntegerPlace
 use Rattle.sheets.specs.PhysicalType as PhysicalPlace
 use Rattle.datatypes.specs.Places.{primitivePlace, physicalPlaces}
-use Rattle.datatypes.specs.At.{firstAt, isSome}
+use Rattle.units.specs.At.{firstAt, isSome}
 use Rattle.datatypes.specs.declared.PrimitiveType.{PrimitiveType}
 use Rattle.datatypes.specs.declared.PrimitiveTypeAt.{PrimitiveTypeAt}
 use Rattle.datatypes.specs.declared.PrimitiveTypeAt.the-variants as PrimitiveIs

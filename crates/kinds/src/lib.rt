@@ -3,10 +3,10 @@ pub mod kind;
 
 use datatypes::IntegerType;
 use datatypes::IntegerTypeAt;
-use datatypes::IntervalUnit;
 use datatypes::PhysicalType;
 use datatypes::PrimitiveType;
 use datatypes::PrimitiveTypeAt;
+use units::IntervalUnit;
 ghost use mathlib.Core.Path.{_≡_};
 ghost use mathlib.Core.Option.{some};
 ghost use Rattle.sheets.specs.Mappings.{fromIntegerType, fromPrimitiveType, intervalPhysical};

@@ -6,7 +6,7 @@ use Rattle.sheets.specs.Answer.{given}
 use Rattle.sheets.specs.Kind
 use Rattle.sheets.specs.Mappings.{leafRows}
 use Rattle.kinds.specs.Physical.{primitiveOnly}
-use Rattle.datatypes.proofs.AtLaws.{at-arm}
+use Rattle.units.proofs.AtLaws.{at-arm}
 use Rattle.kinds.proofs.PhysicalLaws.{not-primitive}
 use borrow.Author.Needs.{needs}
 use Rattle.kinds.proofs.kind_primitive.Statement.{statement}

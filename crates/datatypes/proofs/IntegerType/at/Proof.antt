@@ -2,7 +2,7 @@
 use mathlib.Core.Path.{refl, sym, ap}
 use Rattle.datatypes.specs.Places.{integerPlace}
 use Rattle.datatypes.specs.At.{integerTypes, integerTypeOf, integerTypeAt}
-use Rattle.datatypes.proofs.AtLaws.{below, nowhere}
+use Rattle.units.proofs.AtLaws.{below, nowhere}
 use Rattle.datatypes.proofs.IntegerType.at.Statement.{statement}
 use Rattle.datatypes.proofs.IntegerType.at.Tie as tie
 use Rattle.datatypes.proofs.IntegerType.at.Reads as reads

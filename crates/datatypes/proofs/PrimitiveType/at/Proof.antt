@@ -2,7 +2,7 @@
 use mathlib.Core.Path.{refl, sym, ap}
 use Rattle.datatypes.specs.Places.{primitivePlace}
 use Rattle.datatypes.specs.At.{primitiveTypes, primitiveTypeOf, primitiveTypeAt}
-use Rattle.datatypes.proofs.AtLaws.{below, nowhere}
+use Rattle.units.proofs.AtLaws.{below, nowhere}
 use Rattle.datatypes.proofs.PrimitiveType.at.Statement.{statement}
 use Rattle.datatypes.proofs.PrimitiveType.at.Tie as tie
 use Rattle.datatypes.proofs.PrimitiveType.at.Reads as reads

@@ -7,7 +7,7 @@ use Rattle.kinds.proofs.Dtype.interval.Statement.{statement}
 use Rattle.kinds.proofs.Dtype.interval.Tie as tie
 use Rattle.kinds.proofs.Dtype.interval.Reads as reads
 use Rattle.kinds.proofs.Dtype.interval.Lts as lts
-use Rattle.datatypes.proofs.IntervalUnit.place.Reads as place-reads
+use Rattle.units.proofs.IntervalUnit.place.Reads as place-reads
 
 place-requires : tie.Need-place-requires
 place-requires c κs = search needs

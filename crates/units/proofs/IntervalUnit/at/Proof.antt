@@ -1,12 +1,12 @@
 -- In each arm the place is the pattern, and the definition computes there; in `_` no case has it.
 use mathlib.Core.Path.{refl, sym, ap}
-use Rattle.datatypes.specs.Places.{intervalPlace}
-use Rattle.datatypes.specs.At.{intervalUnits, intervalUnitOf, intervalUnitAt}
-use Rattle.datatypes.proofs.AtLaws.{below, nowhere}
-use Rattle.datatypes.proofs.IntervalUnit.at.Statement.{statement}
-use Rattle.datatypes.proofs.IntervalUnit.at.Tie as tie
-use Rattle.datatypes.proofs.IntervalUnit.at.Reads as reads
-use Rattle.datatypes.proofs.IntervalUnit.at.Lts as lts
+use Rattle.units.specs.Places.{intervalPlace}
+use Rattle.units.specs.At.{intervalUnits, intervalUnitOf, intervalUnitAt}
+use Rattle.units.proofs.AtLaws.{below, nowhere}
+use Rattle.units.proofs.IntervalUnit.at.Statement.{statement}
+use Rattle.units.proofs.IntervalUnit.at.Tie as tie
+use Rattle.units.proofs.IntervalUnit.at.Reads as reads
+use Rattle.units.proofs.IntervalUnit.at.Lts as lts
 
 returns : tie.Need-returns
 returns c = sym (ap intervalUnitAt (c .match .keys1))

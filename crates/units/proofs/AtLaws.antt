@@ -13,7 +13,7 @@ use mir.Val.{hasKey}
 use borrow.Author.Tests.{ne-eqb, eqb-true, leb-true, leb-false, not-true}
 use Rattle.sheets.specs.Rule.{Meets}
 use Rattle.sheets.proofs.Tests.{and-left, and-right, every, at-each}
-use Rattle.datatypes.specs.At.{firstAt, isSome}
+use Rattle.units.specs.At.{firstAt, isSome}
 
 -- the number is none of the patterns of the arms, the last arm's first
 abbrev pub Rest : List (List ℕ) → ℕ → Type 0

@@ -1,12 +1,12 @@
 -- In each arm the place is the pattern, and the definition computes there; in `_` no case has it.
 use mathlib.Core.Path.{refl, sym, ap}
-use Rattle.datatypes.specs.Places.{timePlace}
-use Rattle.datatypes.specs.At.{timeUnits, timeUnitOf, timeUnitAt}
-use Rattle.datatypes.proofs.AtLaws.{below, nowhere}
-use Rattle.datatypes.proofs.TimeUnit.at.Statement.{statement}
-use Rattle.datatypes.proofs.TimeUnit.at.Tie as tie
-use Rattle.datatypes.proofs.TimeUnit.at.Reads as reads
-use Rattle.datatypes.proofs.TimeUnit.at.Lts as lts
+use Rattle.units.specs.Places.{timePlace}
+use Rattle.units.specs.At.{timeUnits, timeUnitOf, timeUnitAt}
+use Rattle.units.proofs.AtLaws.{below, nowhere}
+use Rattle.units.proofs.TimeUnit.at.Statement.{statement}
+use Rattle.units.proofs.TimeUnit.at.Tie as tie
+use Rattle.units.proofs.TimeUnit.at.Reads as reads
+use Rattle.units.proofs.TimeUnit.at.Lts as lts
 
 returns : tie.Need-returns
 returns c = sym (ap timeUnitAt (c .match .keys1))

@@ -1,12 +1,12 @@
 -- In each arm the place is the pattern, and the definition computes there; in `_` no case has it.
 use mathlib.Core.Path.{refl, sym, ap}
-use Rattle.datatypes.specs.Places.{unionPlace}
-use Rattle.datatypes.specs.At.{unionModes, unionModeOf, unionModeAt}
-use Rattle.datatypes.proofs.AtLaws.{below, nowhere}
-use Rattle.datatypes.proofs.UnionMode.at.Statement.{statement}
-use Rattle.datatypes.proofs.UnionMode.at.Tie as tie
-use Rattle.datatypes.proofs.UnionMode.at.Reads as reads
-use Rattle.datatypes.proofs.UnionMode.at.Lts as lts
+use Rattle.units.specs.Places.{unionPlace}
+use Rattle.units.specs.At.{unionModes, unionModeOf, unionModeAt}
+use Rattle.units.proofs.AtLaws.{below, nowhere}
+use Rattle.units.proofs.UnionMode.at.Statement.{statement}
+use Rattle.units.proofs.UnionMode.at.Tie as tie
+use Rattle.units.proofs.UnionMode.at.Reads as reads
+use Rattle.units.proofs.UnionMode.at.Lts as lts
 
 returns : tie.Need-returns
 returns c = sym (ap unionModeAt (c .match .keys1))
