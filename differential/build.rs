@@ -1,0 +1,21 @@
+//! Links the static library that `differential/build --with LIBRARY` names, where the feature `library` is on.
+
+use std::path::Path;
+
+fn main() {
+    println!("cargo:rerun-if-changed=build.rs");
+    println!("cargo:rerun-if-env-changed=JUZONTEFA_LIBRARY");
+    if std::env::var_os("CARGO_FEATURE_LIBRARY").is_none() {
+        return;
+    }
+    let library = std::env::var("JUZONTEFA_LIBRARY").unwrap_or_default();
+    let path = Path::new(&library);
+    let name =
+        path.file_name().and_then(|name| name.to_str()).and_then(|name| name.strip_prefix("lib")?.strip_suffix(".a"));
+    let (Some(folder), Some(name)) = (path.parent(), name) else {
+        panic!("JUZONTEFA_LIBRARY names no static library libNAME.a: {library}");
+    };
+    println!("cargo:rerun-if-changed={library}");
+    println!("cargo:rustc-link-search=native={}", folder.display());
+    println!("cargo:rustc-link-lib=static={name}");
+}

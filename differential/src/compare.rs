@@ -1,0 +1,254 @@
+//! The Rust held against the plain reading, and against our library where one is linked, over generated sheets.
+
+use std::fmt;
+use std::io::Write;
+
+use crate::answer::{Answer, Answered, Outcome};
+use crate::call::{Call, Input, Request, CALLS};
+use crate::failure::Failure;
+use crate::generator::{Generator, Kind, Random, Sheet};
+use crate::library;
+use crate::model::Model;
+use crate::oracle::Rust;
+
+/// What a call is asked: the request, its sheet, and the bytes of the buffer that is lent.
+pub struct Case<'a> {
+    pub request: Request,
+    pub sheet: &'a [u8],
+    pub room: usize,
+}
+
+impl Case<'_> {
+    /// The buffer before the call: no byte is 0, so that zeros and bytes that are kept can be told.
+    pub fn lent(&self) -> Vec<u8> {
+        (0..self.room).map(|at| 1 + (at % 255) as u8).collect()
+    }
+}
+
+/// The requests that a sheet of this kind can be put to.
+pub fn requests(random: &mut Random, kind: Kind) -> Vec<Request> {
+    let input = match kind {
+        Kind::Schema => Input::SchemaSheet,
+        Kind::Field => Input::FieldSheet,
+    };
+    let index = random.pick(&[0, 0, 0, 1, 1, 2, 3, 4, 1 << 32, i64::MAX as u64, u64::MAX]);
+    let place = if random.chance(1, 8) { index } else { random.below(20) as u64 };
+    let calls = CALLS.iter().map(|(call, _)| *call).filter(|call| call.input() == input || call.input() == Input::Place);
+    let argument = |call: Call| match (call.input(), call) {
+        (Input::Place, _) => place,
+        (_, Call::GetChild) => index,
+        _ => 0,
+    };
+    calls.map(|call| Request::new(call, argument(call))).collect()
+}
+
+/// A buffer for the answer: exact, one short, empty, with bytes to spare, or any.
+pub fn room(random: &mut Random, answered: &Answered) -> usize {
+    let len = match answered {
+        Ok(Answer::Sheet(sheet)) => sheet.len(),
+        Ok(Answer::Values(..)) => return 0,
+        Err(_) => 40,
+    };
+    match random.below(6) {
+        0 => len.saturating_sub(1),
+        1 => 0,
+        2 => random.below(len + 1),
+        3 => len,
+        _ => len + random.below(50),
+    }
+}
+
+/// How often each call gave each number.
+#[derive(Default)]
+pub struct Counts {
+    numbers: [[u64; 17]; CALLS.len()],
+}
+
+impl Counts {
+    pub fn add(&mut self, request: Request, number: u8) {
+        self.numbers[request.call as usize][number as usize] += 1;
+    }
+
+    fn total(&self) -> u64 {
+        self.numbers.iter().flatten().sum()
+    }
+}
+
+impl fmt::Display for Counts {
+    fn fmt(&self, f: &mut fmt::Formatter<'_>) -> fmt::Result {
+        for (call, name) in CALLS {
+            let numbers = self.numbers[call as usize].iter().enumerate().filter(|(_, count)| **count > 0);
+            let numbers: Vec<String> = numbers.map(|(number, count)| format!("{number}: {count}")).collect();
+            if !numbers.is_empty() {
+                writeln!(f, "  {name:<24} {}", numbers.join(", "))?;
+            }
+        }
+        Ok(())
+    }
+}
+
+/// What is held against what, and over which calls.
+struct Comparison<'a> {
+    rust: &'a Rust,
+    model: Model,
+    /// One call alone, or all.
+    only: Option<Call>,
+    counts: Counts,
+}
+
+/// Compares `sheets` sheets; the first difference ends it, told with its smallest input.
+pub fn compare(rust: &Rust, sheets: u64, seed: u64, only: Option<Call>, out: &mut dyn Write) -> Result<(), Failure> {
+    let mut comparison = Comparison { rust, model: Model::new(), only, counts: Counts::default() };
+    compare_utf8(&comparison.model).map_err(Failure::Found)?;
+    let mut generator = Generator::new(seed);
+    for done in 0..sheets {
+        let sheet = match only.map(Call::input) {
+            Some(Input::SchemaSheet) => generator.sheet_of(Kind::Schema),
+            Some(Input::FieldSheet) => generator.sheet_of(Kind::Field),
+            _ => generator.sheet(),
+        };
+        let compared = comparison.compare_sheet(&mut generator.random, &sheet);
+        compared.map_err(|difference| Failure::Found(format!("sheet {done}: {difference}")))?;
+    }
+    comparison.compare_conversions().map_err(Failure::Found)?;
+    let counts = comparison.counts;
+    writeln!(out, "{sheets} sheets from seed {seed}, {} answers, no difference; numbers by call:", counts.total())?;
+    write!(out, "{counts}")?;
+    Ok(())
+}
+
+impl Comparison<'_> {
+    /// Plain form is not in the Rust, so only our library can be held against the plain reading there.
+    fn wants(&self, call: Call) -> bool {
+        (call.is_in_rust() || library::has(call)) && self.only.is_none_or(|only| only == call)
+    }
+
+    fn compare_sheet(&mut self, random: &mut Random, sheet: &Sheet) -> Result<(), String> {
+        for request in requests(random, sheet.kind) {
+            if !self.wants(request.call) {
+                continue;
+            }
+            let answered = answer(self.rust, &self.model, request, &sheet.bytes);
+            let case = Case { request, sheet: &sheet.bytes, room: room(random, &answered) };
+            self.compare_case(&case, &answered)?;
+            // What import gives is a field sheet, and goes on to the calls that read one.
+            if let (Call::Import, Ok(Answer::Sheet(field)), true) = (request.call, answered, random.chance(1, 4)) {
+                self.compare_sheet(random, &Sheet { kind: Kind::Field, bytes: field })?;
+            }
+        }
+        Ok(())
+    }
+
+    /// All places of both enumerations, and some past them.
+    fn compare_conversions(&mut self) -> Result<(), String> {
+        for call in [Call::FromIntegerType, Call::FromPrimitiveType] {
+            if !self.wants(call) {
+                continue;
+            }
+            for place in (0..40).chain([1 << 32, u64::MAX]) {
+                let request = Request::new(call, place);
+                let answered = self.rust.answer(request, b"");
+                for room in 0..100 {
+                    self.compare_case(&Case { request, sheet: b"", room }, &answered)?;
+                }
+            }
+        }
+        Ok(())
+    }
+
+    fn compare_case(&mut self, case: &Case, answered: &Answered) -> Result<(), String> {
+        let outcome = Outcome::of(answered, case.lent());
+        self.counts.add(case.request, outcome.number);
+        for (other, name) in OTHERS {
+            if other.outcome(&self.model, case).is_some_and(|others| others != outcome) {
+                return Err(difference(self.rust, &self.model, other, name, case));
+            }
+        }
+        Ok(())
+    }
+}
+
+/// The class table of the stand-in against the plain reading's ranges and the standard library, over all texts of two bytes
+/// and all of four whose last two are at the ends of the classes.
+fn compare_utf8(model: &Model) -> Result<(), String> {
+    const ENDS: [u8; 12] = [0x00, 0x7f, 0x80, 0x8f, 0x90, 0x9f, 0xa0, 0xbf, 0xc0, 0xc2, 0xf4, 0xff];
+    for first in 0..=255u8 {
+        for second in 0..=255u8 {
+            for (third, fourth) in ENDS.iter().flat_map(|third| ENDS.iter().map(move |fourth| (*third, *fourth))) {
+                let text = [first, second, third, fourth];
+                for len in 1..=4 {
+                    let text = &text[..len];
+                    let is_utf8 = std::str::from_utf8(text).is_ok();
+                    if model.is_utf8(text) != is_utf8 || simdutf8::basic::from_utf8(text).is_ok() != is_utf8 {
+                        return Err(format!("UTF-8 differs on \"{}\"", text.escape_ascii()));
+                    }
+                }
+            }
+        }
+    }
+    Ok(())
+}
+
+/// The answer that the others are held against: the Rust's, or the plain reading's for plain form.
+pub fn answer(rust: &Rust, model: &Model, request: Request, sheet: &[u8]) -> Answered {
+    match request.call.is_in_rust() {
+        true => rust.answer(request, sheet),
+        false => model.answer(request, sheet),
+    }
+}
+
+/// Those that are held against the Rust.
+#[derive(Clone, Copy)]
+pub enum Other {
+    PlainReading,
+    /// Where one is linked.
+    Library,
+}
+
+pub const OTHERS: [(Other, &str); 2] = [(Other::PlainReading, "the plain reading"), (Other::Library, "the library")];
+
+impl Other {
+    /// None where it does not have the call.
+    pub fn outcome(self, model: &Model, case: &Case) -> Option<Outcome> {
+        match self {
+            Other::PlainReading => Some(model.outcome(case.request, case.sheet, case.lent())),
+            Other::Library => library::outcome(case.request, case.sheet, &case.lent()),
+        }
+    }
+}
+
+/// Both answers on the smallest input that is found to differ.
+fn difference(rust: &Rust, model: &Model, other: Other, name: &str, case: &Case) -> String {
+    let both = |sheet: &[u8]| {
+        let case = Case { sheet, ..*case };
+        (Outcome::of(&answer(rust, model, case.request, sheet), case.lent()), other.outcome(model, &case))
+    };
+    let sheet = smallest(case.sheet.to_vec(), |sheet| {
+        let (outcome, others) = both(sheet);
+        others != Some(outcome)
+    });
+    let (outcome, others) = both(&sheet);
+    let Request { call, argument } = case.request;
+    let (call, input, room) = (call.name(), sheet.escape_ascii(), case.room);
+    let others = others.unwrap_or_default();
+    format!("{call} {argument} with a buffer of {room} bytes on \"{input}\": {outcome}, but {name} {others}")
+}
+
+/// Leaves out parts, from half of the sheet down to single bytes, as long as the rest still differs.
+pub fn smallest(mut sheet: Vec<u8>, differs: impl Fn(&[u8]) -> bool) -> Vec<u8> {
+    let mut part = sheet.len();
+    while part > 0 {
+        let mut at = 0;
+        while at < sheet.len() {
+            let end = (at + part).min(sheet.len());
+            let rest = [&sheet[..at], &sheet[end..]].concat();
+            if differs(&rest) {
+                sheet = rest;
+            } else {
+                at = end;
+            }
+        }
+        part /= 2;
+    }
+    sheet
+}

@@ -1,0 +1,133 @@
+//! Import, `to_field`: a field from a schema.
+
+use super::field::{DataType, Field, Own};
+use super::format::Format;
+use super::schema::Schema;
+use super::wrong::Wrong;
+use super::{Bytes, Model};
+use crate::refusal::{Number, CHILD_ABSENT, NOT_UTF8, NULL_FORMAT};
+
+impl Model {
+    /// The type with all below it, then the metadata, then the name.
+    pub fn to_field(&self, schema: &Schema) -> Result<Field, Number> {
+        if self.is(Wrong::MetadataBeforeType) {
+            self.read_metadata(schema.metadata.as_deref())?;
+        }
+        let dtype = self.to_dtype(schema)?;
+        if self.is(Wrong::NameBeforeMetadata) {
+            self.name(schema)?;
+        }
+        let (pairs, extension) = self.read_metadata(schema.metadata.as_deref())?;
+        let own = Own { name: self.name(schema)?, nullable: self.nullable(schema.flags), pairs };
+        let lost = self.is(Wrong::ExtensionLostOnDictionary) && schema.dictionary.is_some();
+        let dtype = match extension.filter(|_| !lost) {
+            Some((name, metadata)) => DataType::Extension { name, metadata, inner: Box::new(dtype) },
+            None => dtype,
+        };
+        Ok(Field { own, dtype })
+    }
+
+    fn name(&self, schema: &Schema) -> Result<Bytes, Number> {
+        match &schema.name {
+            None if self.is(Wrong::NullNameIs4) => Err(NULL_FORMAT),
+            None => Ok(Bytes::new()),
+            Some(name) if self.is_utf8(name) || self.is(Wrong::NameUntested) => Ok(name.clone()),
+            Some(_) => Err(NOT_UTF8),
+        }
+    }
+
+    /// Division truncates toward zero.
+    fn nullable(&self, flags: i64) -> bool {
+        match self.wrong {
+            Some(Wrong::NullableByBit) => flags & 2 != 0,
+            Some(Wrong::NullableFromMap) => flags & 4 != 0,
+            _ => (flags / 2) & 1 == 1,
+        }
+    }
+
+    fn sorted(&self, flags: i64) -> bool {
+        if self.is(Wrong::SortedByDivision) {
+            return (flags / 4) & 1 == 1;
+        }
+        flags & 4 != 0
+    }
+
+    fn ordered(&self, flags: i64) -> bool {
+        if self.is(Wrong::OrderedByRemainder) {
+            return flags % 2 == 1;
+        }
+        flags & 1 == 1
+    }
+
+    fn to_dtype(&self, schema: &Schema) -> Result<DataType, Number> {
+        let format = match &schema.format {
+            None if self.is(Wrong::NullFormatIsEmpty) => &Bytes::new(),
+            None => return Err(NULL_FORMAT),
+            Some(format) if !self.is_utf8(format) => return Err(NOT_UTF8),
+            Some(format) => format,
+        };
+        match &schema.dictionary {
+            Some(values) => self.to_dictionary(schema, format, values),
+            None => {
+                let format = self.read_format(format, self.sorted(schema.flags));
+                if self.is(Wrong::ChildBeforeSize) && starts_with(&schema.format, b"+w:") {
+                    first_child(schema)?;
+                }
+                if self.is(Wrong::FieldsBeforeIds) && starts_with(&schema.format, b"+u") && format.is_err() {
+                    self.to_fields(&schema.children)?;
+                }
+                self.with_children(format?, schema)
+            }
+        }
+    }
+
+    fn to_dictionary(&self, schema: &Schema, format: &[u8], values: &Schema) -> Result<DataType, Number> {
+        let index = self.index_of(format);
+        if !self.is(Wrong::ValuesBeforeIndex) {
+            index?;
+        }
+        if self.is(Wrong::DictionaryChildrenVisited) {
+            self.to_fields(&schema.children)?;
+        }
+        let values =
+            if self.is(Wrong::ValuesMetadataDropped) { self.to_dtype(values)? } else { self.to_field(values)?.dtype };
+        Ok(DataType::Dictionary { index: index?, ordered: self.ordered(schema.flags), values: Box::new(values) })
+    }
+
+    fn with_children(&self, format: Format, schema: &Schema) -> Result<DataType, Number> {
+        match format {
+            Format::Leaf(dtype) => {
+                if self.is(Wrong::LeafChildrenVisited) {
+                    self.to_fields(&schema.children)?;
+                }
+                Ok(dtype)
+            }
+            Format::Nested(kind, p) => {
+                let field = Box::new(self.to_field(first_child(schema)?)?);
+                if self.is(Wrong::SecondChildVisited) {
+                    self.to_fields(&schema.children[1..])?;
+                }
+                Ok(DataType::Nested { kind, p, field })
+            }
+            Format::Struct => self.to_fields(&schema.children).map(DataType::Struct),
+            Format::Union(mode, ids) => {
+                if self.is(Wrong::IdsMatched) && ids.len() != schema.children.len() {
+                    return Err(CHILD_ABSENT);
+                }
+                Ok(DataType::Union { mode, ids: Some(ids), fields: self.to_fields(&schema.children)? })
+            }
+        }
+    }
+
+    fn to_fields(&self, children: &[Schema]) -> Result<Vec<Field>, Number> {
+        children.iter().map(|child| self.to_field(child)).collect()
+    }
+}
+
+fn first_child(schema: &Schema) -> Result<&Schema, Number> {
+    schema.children.first().ok_or(CHILD_ABSENT)
+}
+
+fn starts_with(text: &Option<Bytes>, head: &[u8]) -> bool {
+    text.as_ref().is_some_and(|text| text.starts_with(head))
+}

@@ -1,0 +1,85 @@
+//! Whether the generator tells each wrong reading of document 01 from the Rust.
+
+use std::io::Write;
+
+use crate::answer::{Answer, Outcome};
+use crate::call::{Call, Request};
+use crate::compare::{requests, room, Case};
+use crate::demand3::comes_back;
+use crate::failure::Failure;
+use crate::generator::{Generator, Kind, Sheet};
+use crate::model::{Model, Wrong, WRONG_READINGS};
+use crate::oracle::Rust;
+
+/// A wrong reading, and the first sheet and call that told it from the Rust.
+struct Mutant {
+    wrong: Wrong,
+    what: &'static str,
+    caught: Option<(u64, &'static str)>,
+}
+
+/// Generates sheets until each wrong reading is caught, at most `limit` of them; prints after how many sheets and by what.
+pub fn mutants(rust: &Rust, limit: u64, seed: u64, out: &mut dyn Write) -> Result<(), Failure> {
+    let mutant = |(wrong, what): &(Wrong, &'static str)| Mutant { wrong: *wrong, what, caught: None };
+    let mut mutants: Vec<Mutant> = WRONG_READINGS.iter().map(mutant).collect();
+    let mut generator = Generator::new(seed);
+    let mut done = 0;
+    while done < limit && mutants.iter().any(|mutant| mutant.caught.is_none()) {
+        let sheet = generator.sheet();
+        done += 1;
+        try_calls(rust, &mut generator, &sheet, done, &mut mutants);
+        if sheet.kind == Kind::Field {
+            try_plain(rust, &sheet, done, &mut mutants).map_err(Failure::Found)?;
+        }
+    }
+    write_table(&mutants, out)?;
+    let left = mutants.iter().filter(|mutant| mutant.caught.is_none()).count();
+    let caught = mutants.len() - left;
+    writeln!(out, "{} wrong readings, {caught} caught within {done} sheets from seed {seed}", mutants.len())?;
+    match left {
+        0 => Ok(()),
+        _ => Err(Failure::Found(format!("{left} wrong readings were not caught"))),
+    }
+}
+
+fn try_calls(rust: &Rust, generator: &mut Generator, sheet: &Sheet, done: u64, mutants: &mut [Mutant]) {
+    for request in requests(&mut generator.random, sheet.kind) {
+        if !request.call.is_in_rust() {
+            continue;
+        }
+        let answered = rust.answer(request, &sheet.bytes);
+        let case = Case { request, sheet: &sheet.bytes, room: room(&mut generator.random, &answered) };
+        let outcome = Outcome::of(&answered, case.lent());
+        for mutant in mutants.iter_mut().filter(|mutant| mutant.caught.is_none()) {
+            if Model::wrongly(mutant.wrong).outcome(request, case.sheet, case.lent()) != outcome {
+                mutant.caught = Some((done, request.call.name()));
+            }
+        }
+    }
+}
+
+/// Plain form is not in the Rust, but what comes back from its export is, where demand 3 speaks of the field.
+fn try_plain(rust: &Rust, sheet: &Sheet, done: u64, mutants: &mut [Mutant]) -> Result<(), String> {
+    let Some((_, returned)) = comes_back(rust, &Model::new(), &sheet.bytes)? else {
+        return Ok(());
+    };
+    let returned = Ok(Answer::Sheet(returned));
+    for mutant in mutants.iter_mut().filter(|mutant| mutant.caught.is_none()) {
+        if Model::wrongly(mutant.wrong).answer(Request::new(Call::Plain, 0), &sheet.bytes) != returned {
+            mutant.caught = Some((done, "demand 3"));
+        }
+    }
+    Ok(())
+}
+
+fn write_table(mutants: &[Mutant], out: &mut dyn Write) -> Result<(), Failure> {
+    writeln!(out, "{:<26} {:>9}  {:<24}  reading", "name", "sheets", "caught by")?;
+    for mutant in mutants {
+        let (sheets, by) = match mutant.caught {
+            Some((sheets, by)) => (sheets.to_string(), by),
+            None => ("-".to_string(), "not caught"),
+        };
+        writeln!(out, "{:<26} {sheets:>9}  {by:<24}  {}", format!("{:?}", mutant.wrong), mutant.what)?;
+    }
+    Ok(())
+}

@@ -1,0 +1,1 @@
+//! Stands in for `types/aligned_bytes.rs`, of which the seven files use nothing.

@@ -1,0 +1,1 @@
+//! Stands in for `types/offset.rs`, of which the seven files use nothing.
