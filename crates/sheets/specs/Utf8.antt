@@ -62,12 +62,15 @@ following b [] = none
 following b ([] ∷ rows) = following b rows
 following b ((r ∷ rs) ∷ rows) = elim (inRange r b) [ true ↦ some rs | false ↦ following b rows ]
 
--- first a byte from each of these ranges, then sequences of the table up to the end
+-- first a byte from each of these ranges, then sequences of the rows up to the end
+abbrev pub sequencesOf : List (List Range) → List Range → Bytes → Bool
+sequencesOf rows [] [] = true
+sequencesOf rows [] (b ∷ bs) = elim (following b rows) [ none ↦ false | some rs ↦ sequencesOf rows rs bs ]
+sequencesOf rows (r ∷ rs) [] = false
+sequencesOf rows (r ∷ rs) (b ∷ bs) = inRange r b && sequencesOf rows rs bs
+
 abbrev pub sequences : List Range → Bytes → Bool
-sequences [] [] = true
-sequences [] (b ∷ bs) = elim (following b table) [ none ↦ false | some rs ↦ sequences rs bs ]
-sequences (r ∷ rs) [] = false
-sequences (r ∷ rs) (b ∷ bs) = inRange r b && sequences rs bs
+sequences rs bs = sequencesOf table rs bs
 
 abbrev pub isUtf8 : Bytes → Bool
 isUtf8 bs = sequences [] bs

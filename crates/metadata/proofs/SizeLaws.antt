@@ -1,0 +1,156 @@
+-- The columns from a block are no longer than its text: a pair has 16 digits for its lengths there, and at most two separators in the column.
+-- Assumes nothing.
+use mathlib.Core.Path.{_≡_, sym, ap, _∙_}
+use mathlib.Core.Bool.{Bool, true, false, cond}
+use mathlib.Core.List.{List, [], _∷_}
+use mathlib.Core.Option.{Option, none, some}
+use Prim.Native.Nat.{ℕ, zero, suc, _+_, _*_, _/_, _%_, _^_, _≤_}
+use native.Mathlib.Omega.{arith}
+use lib.Dec.{eqb, ltb}
+use lib.ListN.{length, take, drop, length-append, length-take, length-drop}
+use Rattle.sheets.specs.Refusal.{notUtf8, badMetadata}
+use Rattle.sheets.specs.Rule.{is}
+use Rattle.sheets.specs.Bytes.{Bytes, equals, same}
+use Rattle.sheets.specs.Answer.{given, _>>=_, when}
+use Rattle.sheets.specs.Utf8.{isUtf8}
+use Rattle.sheets.specs.Text.{hex, writeText}
+use Rattle.sheets.specs.Field.{Pair, before}
+use Rattle.sheets.specs.FieldSheet.{writeList, pairText}
+use Rattle.sheets.specs.Metadata.{littleValue, cutAt, takeText, takePairs, countOf, readBlock, reserved, insertNew, ordinary, Extension, somePairs, meaning, metadataFromBytes}
+use Rattle.sheets.proofs.Tests.{first-gave, met-when}
+use Rattle.hex.specs.Hex.{isHex, bytesOf}
+use Rattle.hex.proofs.HexLaws.{twice-length}
+use Rattle.hex.proofs.PartLaws.{length-hex}
+use Rattle.metadata.specs.declared.Metadata.{Metadata}
+use Rattle.metadata.specs.Entry.{lengthAt, pairFrom, pairAt, valueAt}
+use Rattle.metadata.specs.Reading.{Means}
+use Rattle.metadata.specs.Pairs.{pairsColumn, valueColumn}
+use Rattle.metadata.proofs.TextLaws.{afterText, afterLength, then}
+use Rattle.metadata.proofs.MeaningLaws.{afterCount}
+use Rattle.metadata.proofs.PutLaws.{afterCommas, joined}
+
+-- the bytes that the pairs take in a block
+abbrev weight : List Pair → ℕ
+weight [] = 0
+weight (p ∷ ps) = 8 + length (p .0) + length (p .1) + weight ps
+
+-- ── what is read is as long as the pairs
+
+is-given : {A : Type 0} (a c : A) → given a ≡ given c → a ≡ c
+is-given a c h = cc
+
+cut-size : (n : ℕ) (l h r : Bytes) → cutAt n l ≡ given (h, r) → (length h ≡ n) × (length h + length r ≡ length l)
+cut-size zero l h r e =
+    let p = is-given {A = Bytes × Bytes} ([], l) (h, r) e in
+    let u : 0 ≡ length h = ap (λ (q : Bytes × Bytes). length (q .0)) p in
+    (sym u, omega (arith, u, ap (λ (q : Bytes × Bytes). length (q .1)) p))
+cut-size (suc n) [] h r e = let z : _≡_ {A = ℕ} 0 1 = cc in absurd (omega arith)
+cut-size (suc n) (x ∷ l) h r e =
+    let (a, f, g) = first-gave (cutAt n l) (λ (p : Bytes × Bytes). given (x ∷ p .0, p .1)) (h, r) e in
+    let s = cut-size n l (a .0) (a .1) f in
+    let p = is-given {A = Bytes × Bytes} (x ∷ a .0, a .1) (h, r) g in
+    let u = ap (λ (q : Bytes × Bytes). length (q .0)) p in
+    let v = ap (λ (q : Bytes × Bytes). length (q .1)) p in
+    (omega (arith, s .0, u), omega (arith, s .1, u, v))
+
+text-size : (bs t r : Bytes) → takeText bs ≡ given (t, r) → 4 + length t + length r ≡ length bs
+text-size bs t r e =
+    let (a, f, g) = first-gave (cutAt 4 bs) afterLength (t, r) e in
+    let (b, x, k) = first-gave (when badMetadata (is (ltb (littleValue (a .0)) (2 ^ 31))) true) (λ _. cutAt (littleValue (a .0)) (a .1) >>= afterText) (t, r) g in
+    let (c, y, z) = first-gave (cutAt (littleValue (a .0)) (a .1)) afterText (t, r) k in
+    let p = met-when notUtf8 (is (isUtf8 (c .0))) (c .0, c .1) (t, r) z .1 in
+    let s = cut-size 4 bs (a .0) (a .1) f in
+    let w = cut-size (littleValue (a .0)) (a .1) (c .0) (c .1) y in
+    omega (arith, s .0, s .1, w .1, ap (λ (q : Bytes × Bytes). length (q .0)) p, ap (λ (q : Bytes × Bytes). length (q .1)) p)
+
+pairs-size : (n : ℕ) (bs : Bytes) (ps : List Pair) → takePairs n bs ≡ given ps → weight ps ≤ length bs
+pairs-size zero bs ps e = let p = is-given {A = List Pair} [] ps e in omega (arith, ap weight p)
+pairs-size (suc n) bs ps e =
+    let (k, f, g) = first-gave (takeText bs) (λ (k : Bytes × Bytes). takeText (k .1) >>= λ (v : Bytes × Bytes). then n (k .0, v .0) (v .1)) ps e in
+    let (v, x, y) = first-gave (takeText (k .1)) (λ (v : Bytes × Bytes). then n (k .0, v .0) (v .1)) ps g in
+    let (qs, z, w) = first-gave (takePairs n (v .1)) (λ (qs : List Pair). given ((k .0, v .0) ∷ qs)) ps y in
+    let p = is-given {A = List Pair} ((k .0, v .0) ∷ qs) ps w in
+    omega (arith, text-size bs (k .0) (k .1) f, text-size (k .1) (v .0) (v .1) x, pairs-size n (v .1) qs z, ap weight p)
+
+block-size : (b : Bytes) (ps : List Pair) → readBlock b ≡ given ps → 4 + weight ps ≤ length b
+block-size b ps e =
+    let (a, f, g) = first-gave (cutAt 4 b) afterCount ps e in
+    let s = cut-size 4 b (a .0) (a .1) f in
+    omega (arith, s .0, s .1, pairs-size (countOf (littleValue (a .0))) (a .1) ps g)
+
+-- ── in order there are no more
+
+insert-weight : (p : Pair) (l : List Pair) → weight (insertNew p l) ≤ 8 + length (p .0) + length (p .1) + weight l
+insert-weight p [] = omega arith
+insert-weight p (q ∷ l) = pick (before (p .0) (q .0)) (same (p .0) (q .0)) (insert-weight p l)
+  where
+    pick : (t u : Bool) → weight (insertNew p l) ≤ 8 + length (p .0) + length (p .1) + weight l
+        → weight (cond t (p ∷ q ∷ l) (cond u (q ∷ l) (q ∷ insertNew p l))) ≤ 8 + length (p .0) + length (p .1) + weight (q ∷ l)
+    pick true u h = omega arith
+    pick false true h = omega arith
+    pick false false h = omega arith
+
+ordinary-weight : (ps : List Pair) → weight (ordinary ps) ≤ weight ps
+ordinary-weight [] = omega arith
+ordinary-weight (p ∷ ps) = pick (reserved (p .0)) (ordinary-weight ps)
+  where
+    pick : (t : Bool) → weight (ordinary ps) ≤ weight ps → weight (cond t (ordinary ps) (insertNew p (ordinary ps))) ≤ weight (p ∷ ps)
+    pick true h = omega arith
+    pick false h = omega (arith, insert-weight p (ordinary ps))
+
+-- ── the column
+
+pair-size : (p : Pair) → length (pairText p) ≡ 2 * length (p .0) + 1 + 2 * length (p .1)
+pair-size p = length-append (hex (p .0)) (equals ∷ hex (p .1)) ∙ omega (arith, length-hex (p .0), length-hex (p .1))
+
+commas-size : (ps : List Pair) → length (afterCommas ps) ≤ 2 * weight ps
+commas-size [] = omega arith
+commas-size (p ∷ ps) = omega (arith, length-append (pairText p) (afterCommas ps), pair-size p, commas-size ps)
+
+column-size : (ps : List Pair) → length (writeList pairText (somePairs ps)) ≤ 1 + 2 * weight ps
+column-size [] = omega arith
+column-size (p ∷ ps) = omega (arith, ap length (joined p ps), length-append (pairText p) (afterCommas ps), pair-size p, commas-size ps)
+
+-- the column `pairs` of a block's pairs is shorter than the block's text
+pub pairs-short : (b : Bytes) (x : Option (List Pair)) (e : Option Extension) → metadataFromBytes (some b) ≡ given (x, e) → 7 + length (writeList pairText x) ≤ 2 * length b
+pairs-short b x e h =
+    let (ps, f, g) = first-gave (readBlock b) (λ (ps : List Pair). given (meaning ps)) (x, e) h in
+    let p = is-given {A = Option (List Pair) × Option Extension} (meaning ps) (x, e) g in
+    omega (
+      arith,
+      block-size b ps f,
+      ordinary-weight ps,
+      column-size (ordinary ps),
+      ap (λ (q : Option (List Pair) × Option Extension). length (writeList pairText (q .0))) p,
+    )
+
+-- the same of the entries that `metadata_from_bytes` leaves
+pub column-short : (m : Bytes) → isHex m ≡ true → (es : List ℕ) (f : Metadata) → Means (bytesOf m) es f → 7 + length (pairsColumn (bytesOf m) es (f .count)) ≤ length m
+unfolding pairsColumn
+column-short m h es f r = omega (arith, twice-length m h, pairs-short (bytesOf m) _ _ (r .answer))
+
+-- ── a value
+
+text-short : (v : Bytes) → length (writeText (some v)) ≤ 1 + 2 * length v
+text-short [] = omega arith
+text-short (x ∷ v) = omega (arith, length-hex (x ∷ v))
+
+take-short : (n : ℕ) (l : Bytes) → length (take n l) ≤ length l
+take-short n l = omega (arith, length-take n l)
+
+from-short : (b : Bytes) (k n : ℕ) → length (pairFrom b k n .1) ≤ length b
+unfolding pairFrom
+from-short b k n = omega (arith, take-short (lengthAt b (k + n)) (drop (k + n + 4) b), length-drop (k + n + 4) b)
+
+pair-short : (b : Bytes) (e : ℕ) → length (pairAt b e .1) ≤ length b
+unfolding pairAt
+pair-short b e = from-short b (e / 65536 / 2) (e % 65536 / 2)
+
+-- the column of an entry's value is no longer than the block's text and one byte
+pub value-short : (m : Bytes) → isHex m ≡ true → (e : ℕ) → length (valueColumn (bytesOf m) e) ≤ 1 + length m
+unfolding valueColumn valueAt
+value-short m h e = pick (eqb e 0)
+  where
+    pick : (t : Bool) → length (writeText (cond t none (some (pairAt (bytesOf m) e .1)))) ≤ 1 + length m
+    pick true = omega arith
+    pick false = omega (arith, text-short (pairAt (bytesOf m) e .1), pair-short (bytesOf m) e, twice-length m h)

@@ -1,0 +1,25 @@
+-- `in_order` meets its contract: keys in hexadecimal stand as the keys do. Assumes nothing.
+use native.Mathlib.Omega.{arith}
+use Rattle.metadata.proofs.MeaningLaws.{orders}
+use borrow.Author.Needs.{needs}
+use Rattle.metadata.proofs.in_order.Statement.{statement}
+use Rattle.metadata.proofs.in_order.Tie as tie
+
+sort-keys-requires : tie.Need-sort-keys-requires
+sort-keys-requires c κs = search needs
+
+same-length : tie.Need-same-length
+same-length c = search needs
+
+same-length-2 : tie.Need-same-length-2
+same-length-2 c = search needs
+
+returns : tie.Need-returns
+returns c =
+    let a = c .before .before .before .before .before .before .before .before .before .before .args in
+    let h = c .before .before .before .before .before .before .before .before .before .before .pre in
+    let s = c .before .before .before .before .sort-keys in
+    orders (a .m .now) (h .isText) (a .entries .now) (a .f) (h .entries .each) (s .result) (s .last .1 .0) (s .ensures .0 .1) (omega (arith, s .ensures .0 .0, s .ensures .1 .0, h .entries .count))
+
+pub in-order-spec : {M : Type 1} → statement M
+in-order-spec = tie.close (tie.spec sort-keys-requires same-length same-length-2 returns)
