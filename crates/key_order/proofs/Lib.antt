@@ -1,7 +1,5 @@
-pub mod OrderLaws
-pub mod CompareLaws
+pub mod KeyLaws
 pub mod MergeLaws
 pub mod InsertLaws
 pub mod HalvesLaws
-pub mod HexOrderLaws
 pub mod PairLaws

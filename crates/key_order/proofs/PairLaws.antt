@@ -13,7 +13,7 @@ use Rattle.sheets.specs.Metadata.{reserved, insertNew, ordinary}
 use Rattle.sheets.specs.Demand3.{noReserved}
 use Rattle.sheets.proofs.TextLaws.{isByte}
 use Rattle.key_order.specs.Order.{insertEntry, ordered}
-use Rattle.key_order.proofs.HexOrderLaws.{before-hex, same-hex}
+use Rattle.byte_order.proofs.HexOrderLaws.{before-hex, same-hex}
 
 -- what holds of each entry
 abbrev pub Each : (ℕ → Type 0) → List ℕ → Type 0

@@ -1,26 +1,13 @@
--- What the functions below `sort_keys` do: the comparison of two keys, and entries in order put in among entries in order. Assumes nothing.
+-- What the functions below `sort_keys` do: entries in order put in among entries in order. Assumes nothing.
 use mathlib.Core.Path.{_≡_}
-use mathlib.Core.Bool.{true, cond}
+use mathlib.Core.Bool.{true}
 use mathlib.Core.List.{List, [], _∷_}
-use Prim.Native.Nat.{ℕ, _+_, _*_, _≤_, _<_}
-use lib.ListN.{length, getD, take, drop}
+use Prim.Native.Nat.{ℕ, _+_, _≤_}
+use lib.ListN.{length, take, drop}
 use Rattle.sheets.specs.Rule.{Rule, is, _and_, each, Meets}
-use Rattle.sheets.specs.Bytes.{Bytes, same}
+use Rattle.sheets.specs.Bytes.{Bytes}
 use Rattle.sheets.specs.Field.{before}
-use Rattle.key_order.specs.declared.Ordering.{Ordering}
-use Rattle.key_order.specs.declared.Ordering.the-variants.{Less, Equal, Greater}
 use Rattle.key_order.specs.Order.{insertEntry, ordered}
-
--- `Ord::cmp` of two byte strings
-unfoldable pub compared : Bytes → Bytes → Ordering
-compared a b = cond (before a b) Less (cond (same a b) Equal Greater)
-
--- the number that the four bytes from i on are in big-endian order
-pub record Word (s : Bytes) (i w : ℕ) : Type 0 where
-  pub second : getD s (i + 1) 0 < 256
-  pub third : getD s (i + 2) 0 < 256
-  pub fourth : getD s (i + 3) 0 < 256
-  pub value : w ≡ getD s i 0 * 16777216 + getD s (i + 1) 0 * 65536 + getD s (i + 2) 0 * 256 + getD s (i + 3) 0
 
 -- the keys of all the entries come after that of p
 abbrev pub allAfter : (ℕ → Bytes) → ℕ → List ℕ → Rule

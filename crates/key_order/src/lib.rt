@@ -5,90 +5,10 @@ ghost use mathlib.Core.List.{_++_, _∷_};
 ghost use Prim.Native.Nat.{_+_, _-_, _≤_, _<_, min};
 ghost use lib.ListN.{length, take, drop};
 ghost use Rattle.sheets.specs.Rule.{Meets};
-ghost use Rattle.sheets.specs.Field.{before};
+ghost use Rattle.byte_order.specs.Compare.{compared};
 ghost use Rattle.key_order.specs.Order.{keyAt, insertEntry, ordered, Room};
-ghost use Rattle.key_order.specs.Merge.{compared, Word, ascends, precedes, Mergeable, Halves, Merges, Sorts};
-
-enum Ordering {
-    Less,
-    Equal,
-    Greater,
-}
-
-fn wide(b: u8) -> u32
-    ensures { λ r. ⌜ (r ≡ b) × (r < 256) ⌝ }
-{
-    b as u32
-}
-
-// Four bytes as one number: two such numbers stand in the order of their bytes, so that a comparison takes four bytes at a time.
-fn word_at(s: &[u8], i: usize) -> u32
-    requires { ⌜ i + 4 ≤ length (now s) ⌝ }
-    ensures { λ r. ⌜ Word (now (s .entry)) i r ⌝ }
-{
-    wide(s[i]) * 16777216 + wide(s[i + 1]) * 65536 + wide(s[i + 2]) * 256 + wide(s[i + 3])
-}
-
-fn compare_bytes(a: &[u8], b: &[u8], from: usize) -> Ordering
-    ensures { λ r. ⌜ r ≡ compared (drop from (now (a .entry))) (drop from (now (b .entry))) ⌝ }
-{
-    let mut i = from;
-    while i < a.len() {
-        if b.len() <= i {
-            return Ordering::Greater;
-        }
-        if a[i] < b[i] {
-            return Ordering::Less;
-        }
-        if b[i] < a[i] {
-            return Ordering::Greater;
-        }
-        i += 1;
-    }
-    if i < b.len() {
-        return Ordering::Less;
-    }
-    Ordering::Equal
-}
-
-fn shorter(a: usize, b: usize) -> usize
-    ensures { λ r. ⌜ r ≡ min a b ⌝ }
-{
-    if a < b {
-        return a;
-    }
-    b
-}
-
-fn compare(a: &[u8], b: &[u8]) -> Ordering
-    ensures { λ r. ⌜ r ≡ compared (now (a .entry)) (now (b .entry)) ⌝ }
-{
-    let n = shorter(a.len(), b.len());
-    let mut i = 0;
-    while 4 <= n - i {
-        let x = word_at(a, i);
-        let y = word_at(b, i);
-        if x != y {
-            if x < y {
-                return Ordering::Less;
-            }
-            return Ordering::Greater;
-        }
-        i += 4;
-    }
-    compare_bytes(a, b, i)
-}
-
-// Whether a comes before b in byte order.
-pub fn is_before(a: &[u8], b: &[u8]) -> bool
-    ensures { λ r. ⌜ r ≡ before (now (a .entry)) (now (b .entry)) ⌝ }
-{
-    match compare(a, b) {
-        Ordering::Less => true,
-        Ordering::Equal => false,
-        Ordering::Greater => false,
-    }
-}
+ghost use Rattle.key_order.specs.Merge.{ascends, precedes, Mergeable, Halves, Merges, Sorts};
+use byte_order::Ordering;
 
 // An entry may tell of more than the text has: the key then ends with the text.
 fn key_of(text: &[u8], p: u32) -> &[u8]
@@ -109,7 +29,7 @@ fn key_of(text: &[u8], p: u32) -> &[u8]
 fn compare_keys(text: &[u8], p: u32, q: u32) -> Ordering
     ensures { λ r. ⌜ r ≡ compared (keyAt (now (text .entry)) p) (keyAt (now (text .entry)) q) ⌝ }
 {
-    compare(key_of(text, p), key_of(text, q))
+    byte_order::compare(key_of(text, p), key_of(text, q))
 }
 
 // Writes s into out from `at` on; where it ends.
@@ -174,7 +94,7 @@ fn all_before(text: &[u8], a: &[u32], b: &[u32]) -> bool
     }
     let p = a[a.len() - 1];
     let q = b[0];
-    is_before(key_of(text, p), key_of(text, q))
+    byte_order::is_before(key_of(text, p), key_of(text, q))
 }
 
 fn put_both(out: &mut [u32], a: &[u32], b: &[u32]) -> usize

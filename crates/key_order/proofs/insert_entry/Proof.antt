@@ -7,7 +7,7 @@ use borrow.Author.Needs.{needs}
 use lib.ListN.{length, getD, take}
 use Rattle.key_order.specs.Order.{keyAt, insertEntry}
 use Rattle.key_order.proofs.InsertLaws.{between, place-start, place-here, place-there, place-later, place-last}
-use Rattle.key_order.proofs.CompareLaws.{is-less, is-equal, is-greater}
+use Rattle.byte_order.proofs.CompareLaws.{is-less, is-equal, is-greater}
 use Rattle.key_order.proofs.insert_entry.Statement.{statement}
 use Rattle.key_order.proofs.insert_entry.Tie as tie
 

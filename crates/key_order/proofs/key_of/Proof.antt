@@ -1,6 +1,6 @@
 -- `key_order::key_of` meets its contract: one case for a start past the text, one for a length past it, and one for a key that stands in it.
 -- Assumes nothing.
-use Rattle.key_order.proofs.CompareLaws.{key-past, key-cut, key-whole}
+use Rattle.key_order.proofs.KeyLaws.{key-past, key-cut, key-whole}
 use borrow.Author.Needs.{needs}
 use Rattle.key_order.proofs.key_of.Statement.{statement}
 use Rattle.key_order.proofs.key_of.Tie as tie

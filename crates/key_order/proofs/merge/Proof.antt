@@ -9,7 +9,7 @@ use lib.ListN.{length, getD, take, drop}
 use Rattle.key_order.specs.Merge.{merged}
 use Rattle.key_order.specs.Order.{keyAt}
 use Rattle.key_order.proofs.MergeLaws.{rest-left, rest-right, step-less, step-equal, step-greater, wrote, finished, rest-length}
-use Rattle.key_order.proofs.CompareLaws.{is-less, is-equal, is-greater}
+use Rattle.byte_order.proofs.CompareLaws.{is-less, is-equal, is-greater}
 use Rattle.key_order.proofs.merge.Statement.{statement}
 use Rattle.key_order.proofs.merge.Tie as tie
 

@@ -1,9 +1,9 @@
 -- `key_order::is_before` meets its contract: the first comes before the second exactly if the comparison says Less. Assumes nothing.
 use mathlib.Core.Path.{sym}
-use Rattle.key_order.proofs.CompareLaws.{is-less, not-less, not-less-either}
+use Rattle.byte_order.proofs.CompareLaws.{is-less, not-less, not-less-either}
 use borrow.Author.Needs.{needs}
-use Rattle.key_order.proofs.is_before.Statement.{statement}
-use Rattle.key_order.proofs.is_before.Tie as tie
+use Rattle.byte_order.proofs.is_before.Statement.{statement}
+use Rattle.byte_order.proofs.is_before.Tie as tie
 
 compare-requires : tie.Need-compare-requires
 compare-requires c κs = search needs

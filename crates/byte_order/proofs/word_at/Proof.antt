@@ -2,8 +2,8 @@
 -- Assumes nothing.
 use native.Mathlib.Omega.{arith}
 use borrow.Author.Needs.{needs}
-use Rattle.key_order.proofs.word_at.Statement.{statement}
-use Rattle.key_order.proofs.word_at.Tie as tie
+use Rattle.byte_order.proofs.word_at.Statement.{statement}
+use Rattle.byte_order.proofs.word_at.Tie as tie
 
 shared-slice-read-wide : tie.Need-shared-slice-read-wide
 shared-slice-read-wide c = search needs

@@ -4,10 +4,10 @@ use mathlib.Core.Path.{_≡_, refl, sym, _∙_}
 use Prim.Native.Nat.{_-_}
 use borrow.Author.Needs.{needs}
 use lib.ListN.{length, drop}
-use Rattle.key_order.specs.Merge.{compared}
-use Rattle.key_order.proofs.CompareLaws as Laws
-use Rattle.key_order.proofs.compare_bytes.Statement.{statement}
-use Rattle.key_order.proofs.compare_bytes.Tie as tie
+use Rattle.byte_order.specs.Compare.{compared}
+use Rattle.byte_order.proofs.CompareLaws as Laws
+use Rattle.byte_order.proofs.compare_bytes.Statement.{statement}
+use Rattle.byte_order.proofs.compare_bytes.Tie as tie
 
 abbrev Inv-loop : tie.InvT-loop
 Inv-loop a b from i₀ i = compared (drop from a) (drop from b) ≡ compared (drop i a) (drop i b)

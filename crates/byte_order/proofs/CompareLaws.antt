@@ -13,11 +13,10 @@ use lib.Seq.{drop-cons, take-all, take-nil}
 use borrow.Author.Tests.{lt-ltb, le-ltb, ltb-true, ltb-false, eq-eqb, ne-eqb}
 use Rattle.sheets.specs.Bytes.{Bytes, same}
 use Rattle.sheets.specs.Field.{before}
-use Rattle.key_order.specs.declared.Ordering.{Ordering}
-use Rattle.key_order.specs.declared.Ordering.the-variants.{Less, Equal, Greater}
-use Rattle.key_order.specs.Order.{keyAt}
-use Rattle.key_order.specs.Merge.{compared, Word}
-use Rattle.key_order.proofs.OrderLaws.{connected}
+use Rattle.byte_order.specs.declared.Ordering.{Ordering}
+use Rattle.byte_order.specs.declared.Ordering.the-variants.{Less, Equal, Greater}
+use Rattle.byte_order.specs.Compare.{compared, Word}
+use Rattle.byte_order.proofs.OrderLaws.{connected}
 
 -- ── what a comparison shows
 
@@ -177,19 +176,3 @@ module _ (a b : Bytes) (i v w : ℕ) (h : i + 4 ≤ length a) (k : i + 4 ≤ len
       rw (four a i h, four b i k)
       (four-same (getD a i 0) (getD a (i + 1) 0) (getD a (i + 2) 0) (getD a (i + 3) 0) (getD b i 0) (getD b (i + 1) 0) (getD b (i + 2) 0) (getD b (i + 3) 0) (drop (i + 4) a) (drop (i + 4) b)
       (p .second) (p .third) (p .fourth) (q .second) (q .third) (q .fourth) (omega arith))
-
--- ── the key of an entry
-
-pub key-past : (text : Bytes) (p : ℕ) → length text ≤ p / 65536 → [] ≡ keyAt text p
-unfolding keyAt
-key-past text p h = rw (drop-of-length-le text h, take-nil (p % 65536))
-
-pub key-cut : (text : Bytes) (p : ℕ) → length text - p / 65536 < p % 65536 → take (length text - p / 65536) (drop (p / 65536) text) ≡ keyAt text p
-unfolding keyAt
-key-cut text p h =
-    take-all (length text - p / 65536) (drop (p / 65536) text) (simp length-drop (omega arith))
-    ∙ sym (take-all (p % 65536) (drop (p / 65536) text) (simp length-drop (omega arith)))
-
-pub key-whole : (text : Bytes) (p : ℕ) → take (p / 65536 + p % 65536 - p / 65536) (drop (p / 65536) text) ≡ keyAt text p
-unfolding keyAt
-key-whole text p = let e : p / 65536 + p % 65536 - p / 65536 ≡ p % 65536 = omega arith in rw e

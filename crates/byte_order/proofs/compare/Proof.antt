@@ -4,10 +4,10 @@ use mathlib.Core.Path.{_≡_, refl, sym, _∙_}
 use Prim.Native.Nat.{_-_, _≤_}
 use borrow.Author.Needs.{needs}
 use lib.ListN.{drop}
-use Rattle.key_order.specs.Merge.{compared}
-use Rattle.key_order.proofs.CompareLaws as Laws
-use Rattle.key_order.proofs.compare.Statement.{statement}
-use Rattle.key_order.proofs.compare.Tie as tie
+use Rattle.byte_order.specs.Compare.{compared}
+use Rattle.byte_order.proofs.CompareLaws as Laws
+use Rattle.byte_order.proofs.compare.Statement.{statement}
+use Rattle.byte_order.proofs.compare.Tie as tie
 
 abbrev Inv-loop : tie.InvT-loop
 Inv-loop a b n i₀ i = (i ≤ n) × (compared a b ≡ compared (drop i a) (drop i b))

@@ -1,0 +1,5 @@
+pub mod PlaceLaws
+pub mod NameLaws
+pub mod PartLaws
+pub mod ReadLaws
+pub mod IdsLaws

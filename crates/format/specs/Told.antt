@@ -1,0 +1,156 @@
+-- What a format tells of the columns of its line: the kind, the two numbers, and where in the format its text stands. Assumes nothing.
+use mathlib.Core.Path.{_≡_}
+use mathlib.Core.Bool.{Bool, true, false, _||_, cond}
+use mathlib.Core.List.{List, [], _∷_}
+use mathlib.Core.Option.{some}
+use Prim.Native.Nat.{ℕ, _+_, _*_, _-_, _≤_, _<_}
+use lib.Dec.{eqb, leb}
+use lib.IntN.{ℤ}
+use lib.ListN.{length, take, drop}
+use Rattle.sheets.specs.Refusal.{Refusal, numberOf}
+use Rattle.sheets.specs.Bytes.{Bytes, comma, split}
+use Rattle.sheets.specs.Answer.{Answer, refused, given, _>>=_, readEach}
+use Rattle.sheets.specs.Number.{writeSigned}
+use Rattle.sheets.specs.Kind
+use Rattle.sheets.specs.Field.{TimeUnit, unitPlace, timestamp, union}
+use Rattle.sheets.specs.FieldSheet.{Shape, columns, noText, toNat, writeList}
+use Rattle.sheets.specs.FieldSheet.{ofScalar as scalarShape, ofNesting as nestingShape, ofGrouping as groupingShape}
+use Rattle.sheets.specs.Format.{Format, ofScalar, ofNesting, ofGrouping, readId, decimalParts, zone}
+use Rattle.hex.specs.Hex.{isHex, bytesOf, gives}
+use Rattle.buffer.specs.Over.{IsUsize}
+use Rattle.field_line.specs.declared.TypeColumns.{TypeColumns}
+use Rattle.field_line.specs.declared.TypeText.{TypeText}
+use Rattle.field_line.specs.declared.TypeText.the-variants.{NoText, Zone, Ids}
+use Rattle.format.specs.declared.FormatRead.{FormatRead}
+use Rattle.format.specs.declared.FormatRead.the-variants as F
+
+abbrev pub shapeOf : Format → Shape
+shapeOf (ofScalar s) = scalarShape s
+shapeOf (ofNesting n) = nestingShape n
+shapeOf (ofGrouping g) = groupingShape g
+
+-- ── a union's ids
+
+-- the ids between the commas
+abbrev pub readIds : Bytes → Answer (List ℤ)
+readIds b = readEach readId (split comma b)
+
+abbrev pub writtenIds : Answer (List ℤ) → Bytes
+writtenIds (refused r) = []
+writtenIds (given zs) = writeList writeSigned (some zs)
+
+-- the column of the ids that a union's format lists after its colon
+unfoldable pub idsText : Bytes → Bytes
+idsText b = writtenIds (readIds b)
+
+abbrev pub writtenId : Answer ℤ → Bytes
+writtenId (refused r) = []
+writtenId (given z) = writeSigned z
+
+-- an id, as it is written
+unfoldable pub idText : Bytes → Bytes
+idText p = writtenId (readId p)
+
+-- each id of the text f reads
+abbrev pub HasIds : Bytes → Type 0
+HasIds f = (isHex f ≡ true) × (gives (readIds (bytesOf f)) ≡ true)
+
+-- ids that read, and places for them
+abbrev pub RoomForIds : Bytes → ℕ → Type 0
+RoomForIds f at = HasIds f × IsUsize (at + 21 * (length f + 1))
+
+-- ── the text of a type
+
+-- the column `text`, from the format's hexadecimal text
+abbrev pub textOf : Bytes → TypeText → Bytes
+textOf f NoText = noText
+textOf f (Zone k) = drop k f
+textOf f (Ids k) = idsText (bytesOf (drop k f))
+
+-- a zone is pairs of digits, one at least; ids are ids
+abbrev pub TextAt : Bytes → TypeText → Type 0
+TextAt f NoText = Unit {0}
+TextAt f (Zone k) = (k < length f) × (isHex (drop k f) ≡ true)
+TextAt f (Ids k) = (k ≤ length f) × HasIds (drop k f)
+
+-- what stands below a type, by its kind: List, FixedSizeList, LargeList and Map nest one, Struct and Union group several, all others none
+abbrev pub isNesting : ℕ → Bool
+isNesting k = eqb k Kind.List || (eqb k Kind.FixedSizeList || (eqb k Kind.LargeList || eqb k Kind.Map))
+
+abbrev pub isGrouping : ℕ → Bool
+isGrouping k = eqb k Kind.Struct || eqb k Kind.Union
+
+abbrev pub nests : Format → Bool
+nests (ofScalar s) = false
+nests (ofNesting n) = true
+nests (ofGrouping g) = false
+
+abbrev pub groups : Format → Bool
+groups (ofScalar s) = false
+groups (ofNesting n) = false
+groups (ofGrouping g) = true
+
+pub record Tells (f : Bytes) (g : Format) (c : TypeColumns) : Type 0 where
+  pub kind : columns (shapeOf g) .kind ≡ c .kind
+  pub p : columns (shapeOf g) .p ≡ c .p
+  pub q : columns (shapeOf g) .q ≡ c .q
+  pub text : columns (shapeOf g) .text ≡ textOf f (c .text)
+  pub more : columns (shapeOf g) .more ≡ noText
+  pub place : TextAt f (c .text)
+  pub nesting : isNesting (c .kind) ≡ nests g
+  pub grouping : isGrouping (c .kind) ≡ groups g
+
+-- the columns of the type that the format f tells, or the number of its refusal
+abbrev pub Told : Bytes → Answer Format → FormatRead → Type 0
+Told f a (F.Type c) = (g : Format) × (a ≡ given g) × Tells f g c
+Told f a (F.Refused n) = (r : Refusal) × (a ≡ refused r) × (numberOf r ≡ n)
+
+-- ── parts of a format
+
+-- pairs of digits that say k bytes or more
+abbrev pub HasBytes : Bytes → ℕ → Type 0
+HasBytes f k = (isHex f ≡ true) × (k ≤ length (bytesOf f))
+
+abbrev pub HasPart : Bytes → ℕ → ℕ → Type 0
+HasPart f from to = (isHex f ≡ true) × (from ≤ to) × (to ≤ length (bytesOf f))
+
+-- the bytes from `from` on and before `to`
+abbrev pub part : ℕ → ℕ → Bytes → Bytes
+part from to b = take (to - from) (drop from b)
+
+-- the parts between commas from `from` on; none past the end
+abbrev pub partsFrom : Bytes → ℕ → List Bytes
+partsFrom b from = cond (leb from (length b)) (split comma (drop from b)) []
+
+-- a part ends at a comma or at the end
+abbrev pub PartEnds : Bytes → ℕ → ℕ → Type 0
+PartEnds b from to = (from ≤ to) × (to ≤ length b) × (partsFrom b from ≡ part from to b ∷ partsFrom b (to + 1))
+
+-- the columns of a type of numbers alone
+abbrev pub numbers : ℕ → ℕ → ℕ → FormatRead
+numbers k p q = F.Type (record { kind = k; p = p; q = q; text = NoText })
+
+abbrev pub sizeRead : ℕ → Answer ℕ → FormatRead
+sizeRead kind (refused r) = F.Refused (numberOf r)
+sizeRead kind (given n) = numbers kind n 0
+
+abbrev pub decimalRead : ℕ → Answer ℕ → Answer ℕ → FormatRead
+decimalRead kind (refused r) b = F.Refused (numberOf r)
+decimalRead kind (given p) (refused r) = F.Refused (numberOf r)
+decimalRead kind (given p) (given s) = numbers kind p s
+
+-- pairs of digits from digit a on
+abbrev pub HasRest : Bytes → ℕ → Type 0
+HasRest f a = (isHex (drop a f) ≡ true) × (a ≤ length f)
+
+-- what a timestamp's unit and zone tell
+abbrev pub TimestampTold : Bytes → ℕ → ℕ → FormatRead → Type 0
+TimestampTold f at unit r = (u : TimeUnit) → unitPlace u ≡ unit → Told f (given (ofScalar (timestamp u (zone (bytesOf (drop at f)))))) r
+
+-- what a union's mode and ids tell
+abbrev pub UnionTold : Bytes → ℕ → ℕ → FormatRead → Type 0
+UnionTold f at mode r = (sparse : Bool) → toNat sparse ≡ mode → Told f (readIds (drop at (bytesOf f)) >>= λ zs. given (ofGrouping (union sparse (some zs)))) r
+
+-- what a decimal's parts tell
+abbrev pub DecimalTold : Bytes → List Bytes → FormatRead → Type 0
+DecimalTold f ps r = Told f (decimalParts ps >>= λ s. given (ofScalar s)) r

@@ -1,0 +1,31 @@
+-- The key of an entry as the part of the text that the code takes: past the text, cut by its end, or whole. By the laws of `take` and `drop`.
+-- Assumes nothing.
+use mathlib.Core.Path.{_≡_, refl, sym, ap, _∙_}
+use mathlib.Core.Bool.{Bool, true, false, cond}
+use mathlib.Core.List.{[], _∷_}
+use mathlib.Core.Logic.{_⊎_, inl, inr, ⊎-elim}
+use Prim.Native.Nat.{ℕ, suc, _+_, _-_, _*_, _/_, _%_, _≤_, _<_}
+use native.Mathlib.Omega.{arith}
+use native.Mathlib.Numerals.{add-one}
+use lib.Dec.{ltb}
+use lib.ListN.{length, getD, take, drop, drop-of-length-le, length-drop}
+use lib.Seq.{drop-cons, take-all, take-nil}
+use borrow.Author.Tests.{lt-ltb, le-ltb, ltb-true, ltb-false, eq-eqb, ne-eqb}
+use Rattle.sheets.specs.Bytes.{Bytes}
+use Rattle.key_order.specs.Order.{keyAt}
+
+-- ── the key of an entry
+
+pub key-past : (text : Bytes) (p : ℕ) → length text ≤ p / 65536 → [] ≡ keyAt text p
+unfolding keyAt
+key-past text p h = rw (drop-of-length-le text h, take-nil (p % 65536))
+
+pub key-cut : (text : Bytes) (p : ℕ) → length text - p / 65536 < p % 65536 → take (length text - p / 65536) (drop (p / 65536) text) ≡ keyAt text p
+unfolding keyAt
+key-cut text p h =
+    take-all (length text - p / 65536) (drop (p / 65536) text) (simp length-drop (omega arith))
+    ∙ sym (take-all (p % 65536) (drop (p / 65536) text) (simp length-drop (omega arith)))
+
+pub key-whole : (text : Bytes) (p : ℕ) → take (p / 65536 + p % 65536 - p / 65536) (drop (p / 65536) text) ≡ keyAt text p
+unfolding keyAt
+key-whole text p = let e : p / 65536 + p % 65536 - p / 65536 ≡ p % 65536 = omega arith in rw e
