@@ -25,3 +25,4 @@ pub mod ForwardCount
 pub mod RefusalLaws
 pub mod FormLaws
 pub mod ImportLaws
+pub mod FieldForward
