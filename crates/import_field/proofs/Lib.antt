@@ -1,0 +1,6 @@
+pub mod PlanLaws
+pub mod BeginLaws
+pub mod EndLaws
+pub mod FieldLaws
+pub mod FieldsLaws
+pub mod SheetLaws

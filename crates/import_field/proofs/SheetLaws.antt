@@ -1,0 +1,137 @@
+-- What is known at each place of `put_sheet` and `import`: the heading is written, then the field's lines; and each way out of `import` is the
+-- outcome that is defined. Assumes nothing.
+use mathlib.Core.Path.{_≡_, refl, sym, ap, subst, _∙_}
+use mathlib.Core.Bool.{false}
+use mathlib.Core.List.{List, [], _∷_, _++_, append-assoc}
+use Prim.Native.Nat.{ℕ, _+_, _-_, _<_, _≤_, min}
+use native.Mathlib.Omega.{arith}
+use lib.ListN.{length, take, drop, replicate, length-append}
+use Rattle.sheets.specs.Refusal.{Refusal, numberOf}
+use Rattle.sheets.specs.Bytes.{Bytes}
+use Rattle.sheets.specs.Answer.{Answer, refused, given, _>>=_}
+use Rattle.sheets.specs.Sheet.{ended, writeSheet}
+use Rattle.sheets.specs.Schema.{Schema}
+use Rattle.sheets.specs.Field.{Field}
+use Rattle.sheets.specs.FieldSheet.{fieldHeading, writeFieldSheet, typeLines}
+use Rattle.sheets.specs.Import.{toField}
+use Rattle.sheets.specs.Outcome.{imported, outcome, refusal, success, importOutcome}
+use Rattle.sheets.proofs.OutcomeLaws.{turned, fits, fits-not}
+use Rattle.sheets.proofs.ImportLaws.{written, shown}
+use Rattle.buffer.specs.Over.{over, overAt}
+use Rattle.buffer.proofs.OverLaws.{over-lent, over-fits, length-over, overAt-zero}
+use Rattle.schema_sheet.specs.Sheets.{Opens, ReadsSheet}
+use Rattle.import_field.specs.Contracts.{FieldAt, HasField, Wrote, FieldWrote, sheetOf, SheetWroteAs, SheetWrote, outcomeOf}
+use Rattle.schema_sheet.specs.declared.SheetRead.{SheetRead}
+use Rattle.schema_sheet.specs.declared.SheetRead.the-variants.{Body, Refused as Unread}
+use Rattle.import_field.specs.declared.Step.{Step}
+use Rattle.import_field.specs.declared.Step.the-variants.{Done, Refused}
+use Rattle.import_field.specs.declared.Imported.{Imported}
+
+-- ── the heading and the lines
+
+-- the heading's bytes with byte 10
+abbrev pub headLine : Bytes
+headLine = fieldHeading ++ (10 ∷ [])
+
+head-lines : (ls : List Bytes) → writeSheet fieldHeading ls ≡ headLine ++ ended ls
+head-lines ls = sym (append-assoc fieldHeading (10 ∷ []) (ended ls))
+
+-- a sheet is its field's lines under the heading
+sheet-lines : (t : Schema) → sheetOf t ≡ (written false t >>= λ ls. given (headLine ++ ended ls))
+unfolding sheetOf
+sheet-lines t = go (toField t)
+  where
+    go : (a : Answer Field) → (a >>= λ f. given (writeFieldSheet f)) ≡ ((a >>= λ f. given (typeLines (f .type) (shown false (f .info)))) >>= λ ls. given (headLine ++ ended ls))
+    go (refused r) = refl
+    go (given f) = ap given (head-lines (typeLines (f .type) (shown false (f .info))))
+
+module _ (s : Bytes) (at : ℕ) (t : Schema) (ts : List Schema) (f : FieldAt s at 32 t ts) where
+  pub sheet-refused : (lent part : Bytes) (r : Step) (n : ℕ) → r ≡ Refused n → FieldWrote s at 32 false lent part r
+      → (q : Refusal) × (sheetOf t ≡ refused q) × (numberOf q ≡ n)
+  sheet-refused lent part r n e h =
+      let w : FieldWrote s at 32 false lent part (Refused n) = subst (λ (y : Step). FieldWrote s at 32 false lent part y) e h in
+      let (q, is, number) = w t ts f in
+      (q, sheet-lines t ∙ ap (λ (o : Answer (List Bytes)). o >>= λ ls. given (headLine ++ ended ls)) is, number)
+
+  module _ (lent part : Bytes) (r : Step) (next len : ℕ) (e : r ≡ Done next len) (h : FieldWrote s at 32 false lent part r) where
+    lines-done : Wrote s at ts (written false t) lent part (Done next len)
+    lines-done = subst (λ (y : Step). FieldWrote s at 32 false lent part y) e h t ts f
+
+    pub lines-long : len ≤ 2097120
+    lines-long = let d = lines-done in omega (arith, d .5, d .6, f .short)
+
+    pub sheet-done : (out mid : Bytes) (head w : ℕ) → (head ≡ 0 + length headLine) × (mid ≡ overAt 0 headLine out) → w ≡ min head (length mid)
+        → lent ≡ take (length mid - w) (drop w mid)
+        → SheetWroteAs t out (take w mid ++ (part ++ drop (length mid - w) (drop w mid))) (Done next (head + len))
+    sheet-done out mid head w p e₁ e₂ =
+        let (ls, is, lenIs, laid, there, long, within) = lines-done in (
+          headLine ++ ended ls,
+          sheet-lines t ∙ ap (λ (o : Answer (List Bytes)). o >>= λ ls. given (headLine ++ ended ls)) is,
+          omega (arith, p .0, lenIs, length-append headLine (ended ls)),
+          over-lent headLine (ended ls) out mid part head w (p .1 ∙ overAt-zero headLine out) (p .0) e₁ (laid ∙ ap (over (ended ls)) e₂),
+        )
+
+-- ── the outcome
+
+-- what `refuse` ensures
+abbrev pub Cleared : ℕ → Bytes → Imported → Bytes → Type 0
+Cleared n mid a out' = (a .number ≡ n) × (a .length ≡ 0) × (out' ≡ replicate (length mid) 0)
+
+module _ (s out : Bytes) where
+  turned-back : (o : Answer Bytes) (n : ℕ) (a : Imported) (mid out' : Bytes) → outcome o out ≡ refusal n out → imported s ≡ o → Cleared n mid a out' → length mid ≡ length out
+      → outcomeOf a out' ≡ importOutcome s out
+  turned-back o n a mid out' e i (x, y, z) l =
+      let p : out' ≡ replicate (length out) 0 = z ∙ ap (λ (m : ℕ). replicate m 0) l in
+      let q : outcomeOf a out' ≡ refusal n out = λ i. record { number = x i; size = y i; buffer = p i } in
+      q ∙ sym e ∙ ap (λ (y : Answer Bytes). outcome y out) (sym i)
+
+  -- no schema sheet
+  pub import-unread : (k : SheetRead) (n : ℕ) → k ≡ Unread n → ReadsSheet s k → (a : Imported) (out' : Bytes) → Cleared n out a out' → outcomeOf a out' ≡ importOutcome s out
+  unfolding imported
+  import-unread k n e h a out' c =
+      let (r, is, number) = subst (ReadsSheet s) e h in
+      turned-back (refused r) n a out out' (turned r out ∙ ap (λ (m : ℕ). refusal m out) number)
+      (ap (λ (o : Answer Schema). o >>= λ t. toField t >>= λ f. given (writeFieldSheet f)) is) c refl
+
+  module _ (k : SheetRead) (at : ℕ) (e : k ≡ Body at) (h : ReadsSheet s k) where
+    read : (t : Schema) × Opens s at t
+    read = subst (ReadsSheet s) e h
+
+    field-at : FieldAt s at 32 (read .0) []
+    field-at = let o = read .1 in record { stands = o .stands; levels = o .levels; short = o .short }
+
+    pub field-there : HasField s at 32
+    field-there = (read .0, [], field-at)
+
+    of-sheet : imported s ≡ sheetOf (read .0)
+    unfolding imported sheetOf
+    of-sheet = ap (λ (o : Answer Schema). o >>= λ t. toField t >>= λ f. given (writeFieldSheet f)) (read .1 .isRead)
+
+    module _ (mid : Bytes) (z : Step) (w : SheetWrote s at out mid z) where
+      -- a refusal on the way
+      pub import-refused : (n : ℕ) → z ≡ Refused n → length mid ≡ length out → (a : Imported) (out' : Bytes) → Cleared n mid a out' → outcomeOf a out' ≡ importOutcome s out
+      import-refused n d l a out' c =
+          let v : SheetWrote s at out mid (Refused n) = subst (λ (y : Step). SheetWrote s at out mid y) d w in
+          let (r, is, number) = v (read .0) [] field-at in
+          turned-back (refused r) n a mid out' (turned r out ∙ ap (λ (m : ℕ). refusal m out) number) (of-sheet ∙ is) c l
+
+      module _ (next len : ℕ) (d : z ≡ Done next len) where
+        wrote : SheetWroteAs (read .0) out mid (Done next len)
+        wrote = subst (λ (y : Step). SheetWrote s at out mid y) d w (read .0) [] field-at
+
+        same : length mid ≡ length out
+        same = let (x, is, lenIs, laid) = wrote in ap length laid ∙ length-over x out
+
+        -- longer than the buffer
+        pub import-long : length mid < len → (a : Imported) (out' : Bytes) → Cleared 16 mid a out' → outcomeOf a out' ≡ importOutcome s out
+        import-long l a out' c =
+            let (x, is, lenIs, laid) = wrote in
+            turned-back (given x) 16 a mid out' (fits-not x out (omega (arith, same, lenIs))) (of-sheet ∙ is) c same
+
+        pub import-done : len ≤ length mid → outcomeOf (record { number = 0; length = len }) mid ≡ importOutcome s out
+        import-done l =
+            let (x, is, lenIs, laid) = wrote in
+            let fit : length x ≤ length out = omega (arith, same, lenIs) in
+            let p : mid ≡ x ++ drop (length x) out = laid ∙ over-fits x out fit in
+            let q : outcomeOf (record { number = 0; length = len }) mid ≡ success x out = λ i. record { number = 0; size = lenIs i; buffer = p i } in
+            q ∙ sym (fits x out fit) ∙ ap (λ (y : Answer Bytes). outcome y out) (sym (of-sheet ∙ is))

@@ -1,0 +1,79 @@
+-- `put_sheet` meets its contract: the laws are in `SheetLaws`. Assumes nothing.
+use mathlib.Core.Path.{refl}
+use native.Mathlib.Omega.{arith}
+use denote.Ref.{now}
+use Rattle.import_field.proofs.SheetLaws.{sheet-refused, lines-long, sheet-done}
+use borrow.Author.Needs.{needs}
+use Rattle.import_field.proofs.put_sheet.Statement.{statement}
+use Rattle.import_field.proofs.put_sheet.Tie as tie
+
+slice-aggregate-put-at : tie.Need-slice-aggregate-put-at
+slice-aggregate-put-at c = search needs
+
+put-at-requires : tie.Need-put-at-requires
+put-at-requires c κs = search needs
+
+within-requires : tie.Need-within-requires
+within-requires c κs = search needs
+
+sub-to-field : tie.Need-sub-to-field
+sub-to-field c = search needs
+
+part-to-field-start : tie.Need-part-to-field-start
+part-to-field-start c = search needs
+
+part-to-field-end : tie.Need-part-to-field-end
+part-to-field-end c = search needs
+
+to-field-requires : tie.Need-to-field-requires
+to-field-requires c κs = search needs
+
+enum-known-n : tie.Need-enum-known-n
+enum-known-n c = search needs
+
+enum-known-next : tie.Need-enum-known-next
+enum-known-next c = search needs
+
+add-t20 : tie.Need-add-t20
+add-t20 c =
+    let p = c .before .before .before .before .before .before .before .before .before .before .before .before .before .before .before .pre in
+    let r = c .before .before .before .before .before .to-field in
+    omega (arith, lines-long _ _ _ _ (p .2) _ (r .last .1 .1 .1 .1 .0) _ _ _ (c .before .next .given .1) (r .ensures), c .before .before .before .before .before .before .before .before .before .before .put-at .ensures .0)
+
+same-length : tie.Need-same-length
+same-length c = search needs
+
+returns : tie.Need-returns
+returns c =
+    let r = c .before .before .before .before .before .to-field in
+    λ t ts f. sheet-refused _ _ t ts f _ (r .last .1 .1 .1 .1 .0) _ _ (c .before .n .given .1) (r .ensures)
+
+same-length-2 : tie.Need-same-length-2
+same-length-2 c = search needs
+
+returns-2 : tie.Need-returns-2
+returns-2 c =
+    let r = c .before .before .before .before .before .to-field in
+    let w = c .before .before .before .before .before .before .before .within in
+    let h = c .before .before .before .before .before .before .before .before .before .before .put-at in
+    λ t ts f. sheet-done _ _ t ts f _ (r .last .1 .1 .1 .1 .0) _ _ _ (c .before .next .given .1) (r .ensures)
+    (now (c .before .before .before .before .before .before .before .before .before .before .before .before .before .before .before .args .out)) (h .last .0) (h .result) (w .result) (h .ensures) (w .ensures) refl
+
+pub put-sheet-spec : {M : Type 1} → statement M
+put-sheet-spec =
+    tie.close
+    (tie.spec
+    slice-aggregate-put-at
+    put-at-requires
+    within-requires
+    sub-to-field
+    part-to-field-start
+    part-to-field-end
+    to-field-requires
+    enum-known-n
+    enum-known-next
+    add-t20
+    same-length
+    returns
+    same-length-2
+    returns-2)

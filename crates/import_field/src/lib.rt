@@ -1,0 +1,161 @@
+// Import: a schema sheet's bytes become a field sheet in a lent buffer. A field is read through its type, and a type through its fields.
+ghost use mathlib.Core.Path.{_≡_};
+ghost use Prim.Native.Nat.{suc};
+ghost use lib.ListN.{length, replicate};
+ghost use Rattle.sheets.specs.Outcome.{importOutcome};
+ghost use Rattle.import_field.specs.Contracts.{HasField, HasFields, HasLeft};
+ghost use Rattle.import_field.specs.Contracts.{FieldBegins, FieldEnds, FieldWrote, FieldsWrote, SheetWrote, outcomeOf};
+use put_node::NodeRead;
+use put_node::Visit;
+use schema_sheet::LineRead;
+use schema_sheet::SheetRead;
+use schema_sheet::Skipped;
+
+// What `import` answers: 0 and the sheet's length, or a refusal's number and 0.
+pub struct Imported {
+    pub number: u8,
+    pub length: usize,
+}
+
+// Where the reading goes on and how many bytes the lines have, or a refusal's number.
+enum Step {
+    Done { next: usize, len: usize },
+    Refused(u8),
+}
+
+// Where the visited subtrees begin and what is to be done with them, or a refusal's number.
+enum FieldBegun {
+    Row(usize, Visit),
+    Refused(u8),
+}
+
+// Reads the line at `at`, writes the lines of its node and skips the subtrees before those that it visits; below it are `most` levels at most.
+fn begin_field(s: &[u8], at: usize, most: usize, bare: bool, out: &mut [u8]) -> FieldBegun
+    requires { ⌜ HasField (now s) at (suc most) ⌝ }
+    ensures { λ r. ⌜ FieldBegins (now (s .entry)) at most bare (now (out .entry)) (now (out .exit)) r ⌝ }
+{
+    // The whole sheet was read before: it has no bad line and no tree of more levels, so neither 2 nor 3 ever comes from here.
+    let LineRead::Line(line) = schema_sheet::read_line(s, at) else {
+        return FieldBegun::Refused(2);
+    };
+    match put_node::put_node(s, at, line, bare, out) {
+        NodeRead::Refused(n) => FieldBegun::Refused(n),
+        NodeRead::Put(visit) => {
+            let Skipped::To(next) = schema_sheet::skip_row(s, line.end, visit.first, most) else {
+                return FieldBegun::Refused(3);
+            };
+            FieldBegun::Row(next, visit)
+        }
+    }
+}
+
+// Skips the last `count` subtrees of a node, then refuses what is pending: metadata and name are refused after what stands below.
+fn end_field(s: &[u8], at: usize, count: u64, most: usize, pending: u8, len: usize) -> Step
+    requires { ⌜ HasLeft (now s) at count most ⌝ }
+    ensures { λ r. ⌜ FieldEnds (now (s .entry)) at count most pending len r ⌝ }
+{
+    let Skipped::To(next) = schema_sheet::skip_row(s, at, count, most) else {
+        return Step::Refused(3);
+    };
+    if pending != 0 {
+        return Step::Refused(pending);
+    }
+    Step::Done { next, len }
+}
+
+// Writes the lines of the field whose schema stands at `at`, as far as they fit.
+fn to_field(s: &[u8], at: usize, most: usize, bare: bool, out: &mut [u8]) -> Step
+    requires { ⌜ HasField (now s) at most ⌝ }
+    ensures { λ r. ⌜ FieldWrote (now (s .entry)) at most bare (now (out .entry)) (now (out .exit)) r ⌝ }
+{
+    let below = most - 1;
+    match begin_field(s, at, below, bare, out) {
+        FieldBegun::Refused(n) => Step::Refused(n),
+        FieldBegun::Row(from, visit) => {
+            let w = buffer::within(visit.len, out.len());
+            match to_dtype(s, from, visit.count, below, visit.bare, &mut out[w..]) {
+                Step::Refused(n) => Step::Refused(n),
+                Step::Done { next, len } => end_field(
+                    s,
+                    next,
+                    visit.last,
+                    below,
+                    visit.pending,
+                    visit.len + len,
+                ),
+            }
+        }
+    }
+}
+
+// Writes the lines of a type's fields, whose schemas stand one after the other from `at` on, as far as they fit.
+fn to_dtype(s: &[u8], at: usize, count: u64, most: usize, bare: bool, out: &mut [u8]) -> Step
+    requires { ⌜ HasFields (now s) at count most ⌝ }
+    ensures { λ r. ⌜ FieldsWrote (now (s .entry)) at count most bare (now (out .entry)) (now (out .exit)) r ⌝ }
+{
+    let mut here = at;
+    let mut sum = 0;
+    let mut i = 0;
+    while i < count {
+        let w = buffer::within(sum, out.len());
+        match to_field(s, here, most, bare, &mut out[w..]) {
+            Step::Refused(n) => {
+                return Step::Refused(n);
+            }
+            Step::Done { next, len } => {
+                here = next;
+                sum = sum + len;
+            }
+        }
+        i += 1;
+    }
+    Step::Done {
+        next: here,
+        len: sum,
+    }
+}
+
+// Writes the heading and the field's lines, as far as they fit.
+fn put_sheet(s: &[u8], at: usize, out: &mut [u8]) -> Step
+    requires { ⌜ HasField (now s) at 32 ⌝ }
+    ensures { λ r. ⌜ SheetWrote (now (s .entry)) at (now (out .entry)) (now (out .exit)) r ⌝ }
+{
+    let head = buffer::put_at(out, 0, b"kind p q text more name nullable pairs children\n");
+    let w = buffer::within(head, out.len());
+    match to_field(s, at, 32, false, &mut out[w..]) {
+        Step::Refused(n) => Step::Refused(n),
+        Step::Done { next, len } => Step::Done {
+            next,
+            len: head + len,
+        },
+    }
+}
+
+// A refusal: the number, and zeros.
+fn refuse(out: &mut [u8], number: u8) -> Imported
+    ensures { λ r. ⌜ (r .number ≡ number) × (r .length ≡ 0) × (now (out .exit) ≡ replicate (length (now (out .entry))) 0) ⌝ }
+{
+    buffer::clear(out);
+    Imported { number, length: 0 }
+}
+
+// The field sheet of a schema sheet, written over the first bytes of out; or the number of its refusal, and zeros.
+pub fn import(s: &[u8], out: &mut [u8]) -> Imported
+    ensures { λ r. ⌜ outcomeOf r (now (out .exit)) ≡ importOutcome (now (s .entry)) (now (out .entry)) ⌝ }
+{
+    match schema_sheet::read_sheet(s) {
+        SheetRead::Refused(n) => refuse(out, n),
+        SheetRead::Body(at) => match put_sheet(s, at, out) {
+            Step::Refused(n) => refuse(out, n),
+            Step::Done { next: _, len } => {
+                if out.len() < len {
+                    return refuse(out, 16);
+                }
+                Imported {
+                    number: 0,
+                    length: len,
+                }
+            }
+        },
+    }
+}

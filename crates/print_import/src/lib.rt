@@ -1,0 +1,23 @@
+// What the programs print of a schema sheet: its field sheet, or `refused N`. The output buffer has 65,536 bytes.
+use libc::STDOUT_FILENO;
+
+fn print_sheet(out: &[u8], length: usize) {
+    let n = buffer::within(length, out.len());
+    io::write_all(STDOUT_FILENO, &out[..n]);
+}
+
+fn print_refusal(number: u8) {
+    io::write_all(STDOUT_FILENO, b"refused ");
+    io::print_decimal(STDOUT_FILENO, number as u64);
+    io::write_all(STDOUT_FILENO, b"\n");
+}
+
+pub fn print_import(sheet: &[u8]) {
+    let mut out = io::large_buffer();
+    let answer = import_field::import(sheet, &mut out);
+    if answer.number != 0 {
+        print_refusal(answer.number);
+        return;
+    }
+    print_sheet(&out, answer.length);
+}

@@ -1,0 +1,4 @@
+pub mod TypeLaws
+pub mod WriteLaws
+pub mod OwnLaws
+pub mod NodeLaws

@@ -1,0 +1,28 @@
+-- `put_number` meets its contract: a chain of two writes. Assumes nothing.
+use Rattle.field_line.specs.Columns.{column}
+use Rattle.sheets.specs.Number.{decimal}
+use mathlib.Core.List.{[], _∷_}
+use Rattle.buffer.proofs.OverLaws.{none-yet, and-then}
+use borrow.Author.Needs.{needs}
+use Rattle.put_node.proofs.put_number.Statement.{statement}
+use Rattle.put_node.proofs.put_number.Tie as tie
+
+put-u64-requires : tie.Need-put-u64-requires
+put-u64-requires c κs = search needs
+
+put-byte-requires : tie.Need-put-byte-requires
+put-byte-requires c κs = search needs
+
+same-length : tie.Need-same-length
+same-length c = search needs
+
+returns : tie.Need-returns
+unfolding column
+returns c =
+    let a = c .before .before .before .before .before .before .before .before .before .args in
+    let digits = and-then (decimal (a .n)) (none-yet (a .at) (a .out .now)) (c .before .before .before .before .before .before .put-u64 .ensures .0, c .before .before .before .before .before .before .put-u64 .ensures .1) in
+    let w = and-then (32 ∷ []) digits (c .before .before .put-byte .ensures) in
+    (w .place, w .holds)
+
+pub put-number-spec : {M : Type 1} → statement M
+put-number-spec = tie.close (tie.spec put-u64-requires put-byte-requires same-length returns)

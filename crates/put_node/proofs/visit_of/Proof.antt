@@ -1,0 +1,49 @@
+-- `visit_of` meets its contract: by cases of what the type visits. Assumes nothing.
+use mathlib.Core.Path.{sym, ap}
+use Rattle.put_node.specs.declared.Below.{Below}
+use Rattle.put_node.specs.NodeTypes.{visitOf}
+use Rattle.put_node.proofs.TypeLaws.{has-first}
+use borrow.Author.Needs.{needs}
+use Rattle.put_node.proofs.visit_of.Statement.{statement}
+use Rattle.put_node.proofs.visit_of.Tie as tie
+
+enum-told : tie.Need-enum-told
+enum-told c = search needs
+
+enum-told-2 : tie.Need-enum-told-2
+enum-told-2 c = search needs
+
+sub-t7 : tie.Need-sub-t7
+sub-t7 c = has-first (c .before .before .args .b) (c .before .before .args .children) (c .enum-told2 .given .1) (c .before .before .pre)
+
+enum-told-3 : tie.Need-enum-told-3
+enum-told-3 c = search needs
+
+enum-told-4 : tie.Need-enum-told-4
+enum-told-4 c = search needs
+
+returns : tie.Need-returns
+returns c = ap (λ (b : Below). visitOf b (c .before .before .args .children) (c .before .before .args .own)) (sym (c .enum-told .given .1))
+
+returns-2 : tie.Need-returns-2
+returns-2 c = ap (λ (b : Below). visitOf b (c .before .before .args .children) (c .before .before .args .own)) (sym (c .enum-told2 .given .1))
+
+returns-3 : tie.Need-returns-3
+returns-3 c = ap (λ (b : Below). visitOf b (c .before .before .args .children) (c .before .before .args .own)) (sym (c .enum-told3 .given .1))
+
+returns-4 : tie.Need-returns-4
+returns-4 c = ap (λ (b : Below). visitOf b (c .before .before .args .children) (c .before .before .args .own)) (sym (c .enum-told4 .given .1))
+
+pub visit-of-spec : {M : Type 1} → statement M
+visit-of-spec =
+    tie.close
+    (tie.spec
+    enum-told
+    enum-told-2
+    sub-t7
+    enum-told-3
+    enum-told-4
+    returns
+    returns-2
+    returns-3
+    returns-4)

@@ -1,0 +1,44 @@
+/* Schemas over the Arrow C data interface, as sheets of bytes.
+ *
+ * Every call takes any bytes of any length and returns; it allocates nothing, keeps nothing between calls, calls nothing of the
+ * host's, and uses at most 64 KB of stack. It reads `sheet_len` bytes at `sheet`, which it does not change, and writes within the
+ * `out_len` bytes at `out`; the two must not overlap. A pointer may be null if its length is 0: an empty sheet, or a buffer without
+ * room. Calls may run at the same time on different buffers.
+ *
+ * The answer's number is 0 for success, or says who is turned back:
+ *    1  over 65,535 bytes, wrong heading, or no byte 10 after it
+ *    2  a line breaks its rules, or lines are missing or left over
+ *    3  over 32 levels
+ *    4  null format                      5  format, name or metadata text not UTF-8
+ *    6  unsupported format               7  bad number in a format
+ *    8  decimal not 2 or 3 parts         9  dictionary index format outside c C s S i I l L
+ *   10  needed child absent             11  metadata cut short or a negative length
+ *   16  the answer is longer than the buffer
+ * (12 to 15 belong to calls that take a field sheet.)
+ * On success `length` bytes of the buffer are the answer, and the bytes past them keep what they held. On refusal `length` is 0 and
+ * the whole buffer is zeros.
+ */
+#ifndef JUZONTEFA_H
+#define JUZONTEFA_H
+
+#include <stddef.h>
+#include <stdint.h>
+
+#ifdef __cplusplus
+extern "C" {
+#endif
+
+/* By value, in two registers. */
+struct juzontefa_answer {
+    uint64_t number;
+    uint64_t length;
+};
+
+/* The field sheet of a schema sheet. An answer can be longer than its sheet: the longest that was found has 95,754 bytes. */
+struct juzontefa_answer juzontefa_import(const uint8_t *sheet, size_t sheet_len, uint8_t *out, size_t out_len);
+
+#ifdef __cplusplus
+}
+#endif
+
+#endif
