@@ -1,6 +1,6 @@
 // The bench cases of document 01 that import answers, A1 to A11, one after the other: each prints its field sheet, or `refused N`.
 
-fn main() {
+fn formats_and_flags() {
     // A1
     print_import::print_import(
         b"format name flags metadata children dictionary\n2b6c 7065616b 2 ~ 1 0\n67 6974656d 0 ~ 0 0\n",
@@ -30,6 +30,9 @@ fn main() {
     print_import::print_import(
         b"format name flags metadata children dictionary\n2b75733a - 0 ~ 0 0\n",
     );
+}
+
+fn metadata_and_children() {
     // A7
     print_import::print_import(
         b"format name flags metadata children dictionary\n67 - 0 02000000010000006d0100000031010000006d0100000032 0 0\n",
@@ -49,6 +52,9 @@ fn main() {
     print_import::print_import(
         b"format name flags metadata children dictionary\n6c - 0 ~ 1 0\n~ - 0 ~ 0 0\n",
     );
+}
+
+fn levels() {
     // A11
     print_import::print_import(
         b"format name flags metadata children dictionary\n2b6c 70 2 ~ 1 0\n2b6c 70 2 ~ 1 0\n2b6c 70 2 ~ 1 0\n2b6c 70 2 ~ 1 0\n2b6c 70 2 ~ 1 0\n2b6c 70 2 ~ 1 0\n2b6c 70 2 ~ 1 0\n2b6c 70 2 ~ 1 0\n2b6c 70 2 ~ 1 0\n2b6c 70 2 ~ 1 0\n2b6c 70 2 ~ 1 0\n2b6c 70 2 ~ 1 0\n2b6c 70 2 ~ 1 0\n2b6c 70 2 ~ 1 0\n2b6c 70 2 ~ 1 0\n2b6c 70 2 ~ 1 0\n2b6c 70 2 ~ 1 0\n2b6c 70 2 ~ 1 0\n2b6c 70 2 ~ 1 0\n2b6c 70 2 ~ 1 0\n2b6c 70 2 ~ 1 0\n2b6c 70 2 ~ 1 0\n2b6c 70 2 ~ 1 0\n2b6c 70 2 ~ 1 0\n2b6c 70 2 ~ 1 0\n2b6c 70 2 ~ 1 0\n2b6c 70 2 ~ 1 0\n2b6c 70 2 ~ 1 0\n2b6c 70 2 ~ 1 0\n2b6c 70 2 ~ 1 0\n2b6c 70 2 ~ 1 0\n67 69 0 ~ 0 0\n",
@@ -56,4 +62,10 @@ fn main() {
     print_import::print_import(
         b"format name flags metadata children dictionary\n2b6c 70 2 ~ 1 0\n2b6c 70 2 ~ 1 0\n2b6c 70 2 ~ 1 0\n2b6c 70 2 ~ 1 0\n2b6c 70 2 ~ 1 0\n2b6c 70 2 ~ 1 0\n2b6c 70 2 ~ 1 0\n2b6c 70 2 ~ 1 0\n2b6c 70 2 ~ 1 0\n2b6c 70 2 ~ 1 0\n2b6c 70 2 ~ 1 0\n2b6c 70 2 ~ 1 0\n2b6c 70 2 ~ 1 0\n2b6c 70 2 ~ 1 0\n2b6c 70 2 ~ 1 0\n2b6c 70 2 ~ 1 0\n2b6c 70 2 ~ 1 0\n2b6c 70 2 ~ 1 0\n2b6c 70 2 ~ 1 0\n2b6c 70 2 ~ 1 0\n2b6c 70 2 ~ 1 0\n2b6c 70 2 ~ 1 0\n2b6c 70 2 ~ 1 0\n2b6c 70 2 ~ 1 0\n2b6c 70 2 ~ 1 0\n2b6c 70 2 ~ 1 0\n2b6c 70 2 ~ 1 0\n2b6c 70 2 ~ 1 0\n2b6c 70 2 ~ 1 0\n2b6c 70 2 ~ 1 0\n2b6c 70 2 ~ 1 0\n2b6c 70 2 ~ 1 0\n67 69 0 ~ 0 0\n",
     );
+}
+
+fn main() {
+    formats_and_flags();
+    metadata_and_children();
+    levels();
 }
