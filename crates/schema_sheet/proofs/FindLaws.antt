@@ -2,9 +2,10 @@
 -- column has one end. Assumes nothing.
 use mathlib.Core.Path.{_≡_, refl, sym, ap, subst, _∙_}
 use mathlib.Core.Bool.{Bool, true, false, true≢false}
-use Prim.Native.Nat.{ℕ, _^_}
+use Prim.Native.Nat.{ℕ, _^_, _<_}
 use native.Mathlib.Omega.{arith}
 use lib.IntN.{ℤ}
+use lib.Signed.{mag}
 use Rattle.sheets.specs.Bytes.{Bytes}
 use Rattle.sheets.specs.Answer.{given}
 use Rattle.sheets.specs.Number.{readNumber, readSigned}
@@ -16,7 +17,7 @@ use Rattle.decimal.specs.declared.Signed64.{Signed64}
 use Rattle.decimal.specs.declared.Signed64.the-variants as I
 use Rattle.decimal.proofs.ColumnLaws.{column-within, signed-within}
 use Rattle.decimal.proofs.AnswerLaws.{u64-read, i64-read}
-use Rattle.schema_sheet.specs.Columns.{part, isStop, ColumnAt, anyBytes, Finds, FindsNumber, FindsSigned}
+use Rattle.schema_sheet.specs.Columns.{part, isStop, ColumnAt, anyBytes, Finds, FindsNumber, FindsSigned, HasSigned}
 use Rattle.schema_sheet.specs.declared.Place.{Place}
 use Rattle.schema_sheet.specs.declared.Place.the-variants.{At, Nowhere}
 use Rattle.schema_sheet.specs.declared.NumberColumn.the-variants as Unsigned
@@ -62,3 +63,15 @@ module _ {s : Bytes} {at e stop : ℕ} (is : isStop stop ≡ true) (c : ColumnAt
     where
       clash : _≡_ {A = Signed64} I.Bad (I.Value z) → ⊥
       clash e = let y : _≡_ {A = ℕ} 0 1 = cc in omega arith
+
+-- ── a number that is known to stand
+
+module _ (s : Bytes) (a b : ℕ) (h : HasSigned s a b) (r : Signed64) (e : r ≡ toSigned64 (signedColumn (2 ^ 63) (part s a b))) where
+  pub signed-known : (z : ℤ) → r ≡ I.Value z → (readSigned (part s a b) ≡ given z) × (mag z < 2 ^ 63)
+  signed-known z t = i64-read (2 ^ 63) (part s a b) z (sym e ∙ t)
+
+  pub signed-never : r ≡ I.Bad → ⊥
+  signed-never t = clash (sym t ∙ e ∙ ap toSigned64 (signed-within (2 ^ 63) (part s a b) (h .0) (h .1) (h .2)))
+    where
+      clash : _≡_ {A = Signed64} I.Bad (I.Value (h .0)) → ⊥
+      clash q = let y : _≡_ {A = ℕ} 0 1 = cc in omega arith

@@ -6,7 +6,8 @@ pub mod TailLaws
 pub mod LineLaws
 pub mod WalkLaws
 pub mod NumberAtLaws
-pub mod CountLaws
+pub mod KnownLaws
 pub mod StandingLaws
 pub mod SkipLaws
+pub mod ReadLaws
 pub mod SheetLaws

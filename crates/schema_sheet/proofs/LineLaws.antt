@@ -84,11 +84,11 @@ row-begins p b w = go (first-of 10 b)
 
 -- ── texts
 
-c-string-is : (c : Bytes) (t : Option Bytes) → readText c ≡ given t → Meets (lacksZero t) → isCString c ≡ true
+pub c-string-is : (c : Bytes) (t : Option Bytes) → readText c ≡ given t → Meets (lacksZero t) → isCString c ≡ true
 unfolding isCString
 c-string-is c t e h = ap lacksZeroIn e ∙ passing (lacksZero t) h
 
-text-is : (c : Bytes) (t : Option Bytes) → readText c ≡ given t → isText c ≡ true
+pub text-is : (c : Bytes) (t : Option Bytes) → readText c ≡ given t → isText c ≡ true
 unfolding isText
 text-is c t e = ap gives e
 
@@ -121,7 +121,7 @@ text-at {s} {a} {e} {stop} {t} c r =
 abbrev pub schemaRow : Columns Line
 schemaRow = text ▸ text ▸ signed ▸ text ▸ number ▸ number ▸ done
 
-same-number : {m n : ℕ} → _≡_ {A = Answer ℕ} (given m) (given n) → m ≡ n
+pub same-number : {m n : ℕ} → _≡_ {A = Answer ℕ} (given m) (given n) → m ≡ n
 same-number {m} {n} e = cc
 
 module _ (s : Bytes) (at p : ℕ) (w : Row (suc p) (drop at s)) where

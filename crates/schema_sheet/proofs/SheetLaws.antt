@@ -14,13 +14,15 @@ use Rattle.sheets.specs.Rule.{is, Meets}
 use Rattle.sheets.specs.Bytes.{Bytes, same, after}
 use Rattle.sheets.specs.Answer.{given, when}
 use Rattle.sheets.specs.Schema.{Schema, schemaLevels, schemaHeading, schemaRule, readSchemaSheet}
-use Rattle.sheets.proofs.FormLaws.{Standing, sheet-formed, sheet-unformed, treesOf}
+use Rattle.sheets.proofs.FormLaws.{Row, Standing, sheet-formed, sheet-unformed, treesOf}
 use Rattle.schema_sheet.specs.Lines.{Forms}
-use Rattle.schema_sheet.specs.Trees.{HasTree, Skips}
+use Rattle.schema_sheet.specs.Trees.{Skips, ReadsTree}
 use Rattle.schema_sheet.specs.Sheets.{isSome, isHeaded, ReadsSheet}
-use Rattle.schema_sheet.specs.declared.Skipped.{Skipped}
-use Rattle.schema_sheet.specs.declared.Skipped.the-variants.{To, Deep}
+use Rattle.schema_sheet.specs.declared.Skipped.the-variants.{To}
+use Rattle.schema_sheet.specs.declared.TreeRead.{TreeRead}
+use Rattle.schema_sheet.specs.declared.TreeRead.the-variants as Read
 use Rattle.schema_sheet.specs.declared.SheetRead.the-variants.{Body, Refused}
+use Rattle.schema_sheet.proofs.WalkLaws.{walk-end}
 
 -- ── the heading
 
@@ -108,24 +110,24 @@ module _ (s : Bytes) where
       pub sheet-broken : (r : Bool) → r ≡ false → Forms s 47 r → ReadsSheet s (Refused 2)
       sheet-broken r e f = (badLines, sheet-unformed s (drop 47 s) (le-leb (length s) 65535 short) body (subst (Forms s 47) e f), refl)
 
-      module _ (r : Bool) (e : r ≡ true) (f : Forms s 47 r) where
+      pub sheet-bad : (q : TreeRead) → q ≡ Read.Bad → ReadsTree s 47 32 q → ReadsSheet s (Refused 2)
+      sheet-bad q e k = sheet-broken false refl (subst (ReadsTree s 47 32) e k 0)
+
+      module _ (f : Row 1 (drop 47 s)) where
         formed : (t : Schema) × (treesOf (drop 47 s) ≡ given (t ∷ [])) × Meets (schemaRule t) × (readSchemaSheet s ≡ when tooDeep (is (leb (schemaLevels t) 32)) t)
-        formed = sheet-formed s (drop 47 s) (le-leb (length s) 65535 short) body (subst (Forms s 47) e f)
+        formed = sheet-formed s (drop 47 s) (le-leb (length s) 65535 short) body f
 
         standing : Standing (drop 47 s) (formed .0 ∷ [])
         standing = record { isRead = formed .1; rules = (formed .2, refl) }
 
-        pub sheet-tree : HasTree s 47
-        sheet-tree = (formed .0, [], standing)
-
-        pub sheet-deep : (q : Skipped) → q ≡ Deep → Skips s 47 32 q → ReadsSheet s (Refused 3)
+        pub sheet-deep : (q : TreeRead) → q ≡ Read.Deep → ReadsTree s 47 32 q → ReadsSheet s (Refused 3)
         sheet-deep q d k =
-            let deep : 32 < schemaLevels (formed .0) = subst (Skips s 47 32) d k (formed .0) [] standing in
+            let deep : 32 < schemaLevels (formed .0) = subst (ReadsTree s 47 32) d k (formed .0) [] standing in
             (tooDeep, formed .3 ∙ rw (lt-leb (schemaLevels (formed .0)) 32 deep), refl)
 
-        pub sheet-good : (q : Skipped) (next : ℕ) → q ≡ To next → Skips s 47 32 q → ReadsSheet s (Body 47)
-        sheet-good q next d k =
-            let w = subst (Skips s 47 32) d k (formed .0) [] standing in (
+        sheet-good : (next : ℕ) → Skips s 47 32 (To next) → ReadsSheet s (Body 47)
+        sheet-good next k =
+            let w = k (formed .0) [] standing in (
               formed .0,
               record {
                 isRead = formed .3 ∙ rw (le-leb (schemaLevels (formed .0)) 32 (w .0));
@@ -135,3 +137,14 @@ module _ (s : Bytes) where
                 short = short;
               },
             )
+
+      module _ (q : TreeRead) (next : ℕ) (e : q ≡ Read.To next) (k : ReadsTree s 47 32 q) where
+        read : ReadsTree s 47 32 (Read.To next)
+        read = subst (ReadsTree s 47 32) e k
+
+        -- the tree ends where the sheet does, or something is left over
+        pub sheet-whole : length s ≤ next → ReadsSheet s (Body 47)
+        sheet-whole h = sheet-good (walk-end s 47 next 0 (read .2 0) (omega arith) true (le-leb (length s) next h)) next (read .3)
+
+        pub sheet-left : next < length s → ReadsSheet s (Refused 2)
+        sheet-left h = sheet-broken false refl (walk-end s 47 next 0 (read .2 0) (omega arith) false (lt-leb (length s) next h))

@@ -8,60 +8,54 @@ use lib.ListN.{length, drop, length-append, length-drop}
 use Rattle.sheets.specs.Bytes.{Bytes}
 use Rattle.sheets.specs.Schema.{Schema, schema, schemaLevels}
 use Rattle.sheets.proofs.FormLaws.{Standing, standing-row, row-many}
-use Rattle.schema_sheet.specs.Lines.{CountsLine}
+use Rattle.schema_line.specs.declared.SchemaLine.{SchemaLine}
+use Rattle.schema_sheet.specs.Lines.{LineAt}
 use Rattle.schema_sheet.specs.Trees.{tallest, HasTree, HasRow, Skips, SkipsRow}
-use Rattle.schema_sheet.specs.declared.Counts.{Counts}
 use Rattle.schema_sheet.specs.declared.Skipped.{Skipped}
 use Rattle.schema_sheet.specs.declared.Skipped.the-variants.{To, Deep}
-use Rattle.schema_sheet.proofs.StandingLaws.{subtrees, sub-append, sub-length, sub-levels, standing-stands, tree-line}
+use Rattle.schema_sheet.proofs.StandingLaws.{subtrees, sub-append, sub-length, sub-levels, standing-line}
 
 -- ── a tree
 
 -- the subtrees of the tree t stand after its line
-pub record Below (s : Bytes) (at : ℕ) (r : Counts) (t : Schema) (ts : List Schema) : Type 0 where
+pub record Below (s : Bytes) (l : SchemaLine) (t : Schema) (ts : List Schema) : Type 0 where
   pub us : List Schema
-  pub stands : Standing (drop (r .end) s) (us ++ ts)
-  pub many : length us ≡ r .children + r .dictionary
+  pub stands : Standing (drop (l .end) s) (us ++ ts)
+  pub many : length us ≡ l .children + l .dictionary
   pub levels : schemaLevels t ≡ suc (tallest us)
-  pub low : at < r .end
-  pub high : r .end ≤ length s
 
 pub levels-some : (t : Schema) → 0 < schemaLevels t
 levels-some (schema n cs d) = omega arith
 
-module _ {s : Bytes} {at : ℕ} (fits : length s < 2 ^ 64) (r : Counts) (f : CountsLine s at r) where
-  pub below : (t : Schema) (ts : List Schema) → Standing (drop at s) (t ∷ ts) → Below s at r t ts
+module _ {s : Bytes} {at : ℕ} (l : SchemaLine) (k : LineAt s at l) where
+  pub below : (t : Schema) (ts : List Schema) → Standing (drop at s) (t ∷ ts) → Below s l t ts
   below t ts w =
-      let h = tree-line fits (t, ts, w) in
-      let k = f (h .0) (h .1) (h .2) in
-      let o = standing-stands w (h .2) in
+      let o = standing-line w k in
       record {
         us = subtrees (o .children) (o .dictionary);
-        stands = subst (λ b. Standing b (subtrees (o .children) (o .dictionary) ++ ts)) (sym (k .next)) (subst (Standing (h .1)) (sub-append (o .children) (o .dictionary) ts) (o .stands));
-        many = sub-length (o .children) (o .dictionary) ∙ omega (arith, o .counted, o .one, k .children, k .dictionary);
+        stands = subst (Standing (drop (l .end) s)) (sub-append (o .children) (o .dictionary) ts) (o .stands);
+        many = sub-length (o .children) (o .dictionary) ∙ omega (arith, o .counted, o .one, k .shows .children, k .shows .dictionary);
         levels = ap schemaLevels (o .isNode) ∙ ap suc (sym (sub-levels (o .children) (o .dictionary)));
-        low = k .low;
-        high = k .high;
       }
 
   module _ (h : HasTree s at) where
-    first : Below s at r (h .0) (h .1)
+    first : Below s l (h .0) (h .1)
     first = below (h .0) (h .1) (h .2)
 
     -- no more subtrees than bytes
-    pub below-fits : r .children + r .dictionary < 2 ^ 64
-    below-fits =
+    pub below-fits : length s < 2 ^ 64 → l .children + l .dictionary < 2 ^ 64
+    below-fits fits =
         let b = first in
-        omega (arith, row-many (standing-row (b .stands)), b .many, length-append (b .us) (h .1), length-drop (r .end) s)
+        omega (arith, row-many (standing-row (b .stands)), b .many, length-append (b .us) (h .1), length-drop (l .end) s)
 
-    pub below-row : HasRow s (r .end) (r .children + r .dictionary)
-    below-row = let b = first in (b .us, h .1, b .stands, b .many, b .high)
+    pub below-row : HasRow s (l .end) (l .children + l .dictionary)
+    below-row = let b = first in (b .us, h .1, b .stands, b .many, k .high)
 
-  pub below-skipped : (most : ℕ) → 0 < most → (n : ℕ) → n ≡ r .children + r .dictionary → (q : Skipped) → SkipsRow s (r .end) n (most - 1) q → Skips s at most q
+  pub below-skipped : (most : ℕ) → 0 < most → (n : ℕ) → n ≡ l .children + l .dictionary → (q : Skipped) → SkipsRow s (l .end) n (most - 1) q → Skips s at most q
   below-skipped most some n many (To next) g t ts w =
       let b = below t ts w in
-      let k = g (b .us) ts (b .stands) (b .many ∙ sym many) in
-      (omega (arith, k .0, b .levels), k .1, omega (arith, b .low, k .2), k .3)
+      let j = g (b .us) ts (b .stands) (b .many ∙ sym many) in
+      (omega (arith, j .0, b .levels), j .1, omega (arith, k .low, j .2), j .3)
   below-skipped most some n many Deep g t ts w =
       let b = below t ts w in
       omega (arith, g (b .us) ts (b .stands) (b .many ∙ sym many), b .levels)

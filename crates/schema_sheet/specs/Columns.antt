@@ -86,3 +86,7 @@ FindsSigned s at stop Signed.Bad = (e : ℕ) (z : ℤ) → ColumnAt s at e stop 
 -- the bytes from a to b are a number of 64 bits
 abbrev pub HasNumber : Bytes → ℕ → ℕ → Type 0
 HasNumber s a b = (n : ℕ) × (readNumber (part s a b) ≡ given n) × (n < 2 ^ 64) × (b ≤ length s)
+
+-- the bytes from a to b are a signed number of 64 bits
+abbrev pub HasSigned : Bytes → ℕ → ℕ → Type 0
+HasSigned s a b = (z : ℤ) × (readSigned (part s a b) ≡ given z) × (mag z < 2 ^ 63) × (a ≤ b) × (b ≤ length s)

@@ -3,7 +3,7 @@ use mathlib.Core.Path.{_≡_}
 use mathlib.Core.Bool.{Bool, true, false}
 use mathlib.Core.List.{_∷_, _++_}
 use mathlib.Core.Option.{Option}
-use Prim.Native.Nat.{ℕ, suc, _^_, _≤_, _<_}
+use Prim.Native.Nat.{ℕ, suc, _≤_, _<_}
 use lib.ListN.{length, drop}
 use Rattle.sheets.specs.Rule.{Meets}
 use Rattle.sheets.specs.Bytes.{Bytes, lacks}
@@ -16,7 +16,6 @@ use Rattle.schema_line.specs.declared.SchemaLine.{SchemaLine}
 use Rattle.schema_sheet.specs.Columns.{part}
 use Rattle.schema_sheet.specs.declared.LineRead.{LineRead}
 use Rattle.schema_sheet.specs.declared.LineRead.the-variants.{Line as Good, Bad}
-use Rattle.schema_sheet.specs.declared.Counts.{Counts}
 
 abbrev pub partOf : ℕ → ℕ → Part
 partOf a b = record { start = a; end = b }
@@ -62,18 +61,3 @@ ReadsLine s at Bad = (p : ℕ) → Row (suc p) (drop at s) → ⊥
 abbrev pub Forms : Bytes → ℕ → Bool → Type 0
 Forms s at true = Row 1 (drop at s)
 Forms s at false = Row 1 (drop at s) → ⊥
-
--- a line stands here whose children can be counted in 64 bits
-abbrev pub HasLine : Bytes → ℕ → Type 0
-HasLine s at = (x : Line) × (rest : Bytes) × Stands s at x rest × (childrenOf x < 2 ^ 64) × (dictionaryOf x < 2 ^ 64)
-
--- how many children and dictionaries the line has, and where it ends
-pub record Counted (s : Bytes) (at : ℕ) (x : Line) (rest : Bytes) (r : Counts) : Type 0 where
-  pub children : r .children ≡ childrenOf x
-  pub dictionary : r .dictionary ≡ dictionaryOf x
-  pub next : drop (r .end) s ≡ rest
-  pub low : at < r .end
-  pub high : r .end ≤ length s
-
-abbrev pub CountsLine : Bytes → ℕ → Counts → Type 0
-CountsLine s at r = (x : Line) (rest : Bytes) → Stands s at x rest → Counted s at x rest r

@@ -1,16 +1,16 @@
 // The reader of schema sheets: a line at a place, the form of the whole sheet, its levels, and the skipping of subtrees.
 ghost use mathlib.Core.Path.{_≡_};
 ghost use mathlib.Core.Bool.{true};
-ghost use Prim.Native.Nat.{_+_, _<_};
-ghost use lib.ListN.{drop};
+ghost use Prim.Native.Nat.{_+_, _<_, _≤_};
+ghost use lib.ListN.{length, drop};
 ghost use Rattle.sheets.specs.Rule.{passes};
 ghost use Rattle.sheets.specs.Bytes.{lacks};
 ghost use Rattle.sheets.specs.Answer.{given};
-ghost use Rattle.sheets.specs.Number.{readNumber};
+ghost use Rattle.sheets.specs.Number.{readNumber, readSigned};
 ghost use Rattle.hex.specs.Hex.{isHex, bytesOf};
-ghost use Rattle.schema_sheet.specs.Columns.{columnLength, isStop, isMark, isText, isZero, isCString, anyBytes, Finds, FindsNumber, FindsSigned, part, HasNumber};
-ghost use Rattle.schema_sheet.specs.Lines.{partOf, ReadsLine, Forms, HasLine, CountsLine};
-ghost use Rattle.schema_sheet.specs.Trees.{HasTree, HasRow, Skips, SkipsRow};
+ghost use Rattle.schema_sheet.specs.Columns.{columnLength, isStop, isMark, isText, isZero, isCString, anyBytes, Finds, FindsNumber, FindsSigned, part, HasNumber, HasSigned};
+ghost use Rattle.schema_sheet.specs.Lines.{partOf, LineAt, ReadsLine, Forms};
+ghost use Rattle.schema_sheet.specs.Trees.{HasTree, HasRow, Skips, SkipsRow, ReadsTree, ReadsRow};
 ghost use Rattle.schema_sheet.specs.Sheets.{isHeaded, ReadsSheet};
 use decimal::Signed64;
 use decimal::Unsigned64;
@@ -37,6 +37,13 @@ pub enum LineRead {
     Bad,
 }
 
+// The end of a tree whose lines were tested; that it has too many levels; that there is none.
+enum TreeRead {
+    To(usize),
+    Deep,
+    Bad,
+}
+
 // The end of a subtree, or that it has too many levels.
 pub enum Skipped {
     To(usize),
@@ -47,13 +54,6 @@ pub enum Skipped {
 pub enum SheetRead {
     Body(usize),
     Refused(u8),
-}
-
-// What of a line is needed to skip it.
-struct Counts {
-    children: u64,
-    dictionary: u64,
-    end: usize,
 }
 
 // The first place from at on whose byte ends a column, or the sheet's end.
@@ -244,7 +244,7 @@ pub fn read_line(s: &[u8], at: usize) -> LineRead
 }
 
 // Whether one tree stands from place at on and nothing after it. No recursion: a sheet of any depth is tested.
-pub fn form(s: &[u8], at: usize) -> bool
+fn form(s: &[u8], at: usize) -> bool
     ensures { λ r. ⌜ Forms (now (s .entry)) at r ⌝ }
 {
     let mut here = at;
@@ -289,10 +289,21 @@ fn number_at(s: &[u8], at: usize, end: usize) -> u64
     v
 }
 
-// The counts of the line from place at on, which is known to be good: its texts are not looked at again.
-fn counts_at(s: &[u8], at: usize) -> Counts
-    requires { ⌜ HasLine (now s) at ⌝ }
-    ensures { λ r. ⌜ CountsLine (now (s .entry)) at r ⌝ }
+// The signed number that stands from place at up to end.
+fn signed_at(s: &[u8], at: usize, end: usize) -> i64
+    requires { ⌜ HasSigned (now s) at end ⌝ }
+    ensures { λ r. ⌜ readSigned (part (now (s .entry)) at end) ≡ given r ⌝ }
+{
+    let Signed64::Value(z) = decimal::read_i64(&s[at..end]) else {
+        return 0;
+    };
+    z
+}
+
+// The line from place at on, where a tree is known to stand: its texts are not looked at again.
+pub fn line_at(s: &[u8], at: usize) -> SchemaLine
+    requires { ⌜ HasTree (now s) at ⌝ }
+    ensures { λ r. ⌜ LineAt (now (s .entry)) at r ⌝ }
 {
     let format = column_end(s, at);
     let name = column_end(s, format + 1);
@@ -300,11 +311,52 @@ fn counts_at(s: &[u8], at: usize) -> Counts
     let metadata = column_end(s, flags + 1);
     let children = column_end(s, metadata + 1);
     let dictionary = column_end(s, children + 1);
-    Counts {
+    SchemaLine {
+        format: between(at, format),
+        name: between(format + 1, name),
+        flags: signed_at(s, name + 1, flags),
+        metadata: between(flags + 1, metadata),
         children: number_at(s, metadata + 1, children),
         dictionary: number_at(s, children + 1, dictionary),
         end: dictionary + 1,
     }
+}
+
+// The end of the tree from place at on, every line of it tested, unless it has more levels than there may be.
+fn read_tree(s: &[u8], at: usize, levels: usize) -> TreeRead
+    ensures { λ r. ⌜ ReadsTree (now (s .entry)) at levels r ⌝ }
+{
+    if levels == 0 {
+        return TreeRead::Deep;
+    }
+    let LineRead::Line(l) = read_line(s, at) else {
+        return TreeRead::Bad;
+    };
+    // no more than there are bytes, so that the sum does not wrap
+    if s.len() - l.end < l.children as usize {
+        return TreeRead::Bad;
+    }
+    read_row(s, l.end, l.dictionary + l.children, levels - 1)
+}
+
+// The same of `count` trees from place at on.
+fn read_row(s: &[u8], at: usize, count: u64, levels: usize) -> TreeRead
+    requires { ⌜ at ≤ length (now s) ⌝ }
+    ensures { λ r. ⌜ ReadsRow (now (s .entry)) at count levels r ⌝ }
+{
+    let mut here = at;
+    let mut due = count;
+    while due != 0 {
+        match read_tree(s, here, levels) {
+            TreeRead::Deep => return TreeRead::Deep,
+            TreeRead::Bad => return TreeRead::Bad,
+            TreeRead::To(end) => {
+                here = end;
+                due -= 1;
+            }
+        }
+    }
+    TreeRead::To(here)
 }
 
 // The end of the subtree from place at on, unless it has more levels than `most`.
@@ -315,8 +367,8 @@ pub fn skip(s: &[u8], at: usize, most: usize) -> Skipped
     if most == 0 {
         return Skipped::Deep;
     }
-    let c = counts_at(s, at);
-    skip_row(s, c.end, c.children + c.dictionary, most - 1)
+    let l = line_at(s, at);
+    skip_row(s, l.end, l.children + l.dictionary, most - 1)
 }
 
 // The end of `count` subtrees from place at on, unless one of them has more levels than `most`.
@@ -359,11 +411,20 @@ pub fn read_sheet(s: &[u8]) -> SheetRead
     if !has_heading(s) {
         return SheetRead::Refused(1);
     }
-    if !form(s, 47) {
-        return SheetRead::Refused(2);
+    match read_tree(s, 47, 32) {
+        TreeRead::Bad => SheetRead::Refused(2),
+        // 2 comes before 3, wherever in the sheet it is
+        TreeRead::Deep => {
+            if form(s, 47) {
+                return SheetRead::Refused(3);
+            }
+            SheetRead::Refused(2)
+        }
+        TreeRead::To(end) => {
+            if end < s.len() {
+                return SheetRead::Refused(2);
+            }
+            SheetRead::Body(47)
+        }
     }
-    if let Skipped::Deep = skip(s, 47, 32) {
-        return SheetRead::Refused(3);
-    }
-    SheetRead::Body(47)
 }

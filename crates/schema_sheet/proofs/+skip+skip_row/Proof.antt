@@ -7,7 +7,6 @@ use borrow.Author.Needs.{needs}
 use lib.ListN.{length, drop}
 use Rattle.sheets.specs.Schema.{Schema}
 use Rattle.sheets.proofs.FormLaws.{Standing}
-use Rattle.schema_sheet.proofs.StandingLaws.{tree-line}
 use Rattle.schema_sheet.proofs.SkipLaws.{levels-some, below-fits, below-row, below-skipped, Going, going-none, going-tree, going-next, going-more, going-deep, going-all}
 use Prim.Native.Nat.{ℕ, _+_, _^_, _<_, _≤_}
 use borrow.Fn.Kinds.{In}
@@ -18,7 +17,7 @@ use Rattle.schema_sheet.proofs.+skip+skip_row.Lts-skip as skip-lts
 use Rattle.schema_sheet.proofs.skip_row.Reads as skip-row
 use Rattle.schema_sheet.proofs.skip_row.Kinds as skip-row-kinds
 use Rattle.schema_sheet.proofs.+skip+skip_row.Lts-skip_row as skip-row-lts
-use Rattle.schema_sheet.proofs.counts_at.Reads as counts-at-reads
+use Rattle.schema_sheet.proofs.line_at.Reads as line-at-reads
 use Rattle.schema_sheet.proofs.+skip+skip_row.{statement}
 use Rattle.schema_sheet.proofs.+skip+skip_row.Tie.{close}
 
@@ -42,7 +41,7 @@ skip-row-below t =
     and 1 skip-row-kinds.ps (falls 1 skip-row-kinds.ps _<_ μ-skip-row t) skip-row.Pre
 
 abbrev skip-calls : ℕ → skip-lts.Claims
-skip-calls t = (counts-at-reads.Asked, counts-at-reads.Learnt, skip-row-below t, skip-row.Post)
+skip-calls t = (line-at-reads.Asked, line-at-reads.Learnt, skip-row-below t, skip-row.Post)
 
 abbrev skip-row-calls : ℕ → skip-row-lts.Claims
 skip-row-calls t = (skip-below t, skip.Post)
@@ -50,26 +49,24 @@ skip-row-calls t = (skip-below t, skip.Post)
 skip-returns : (t : ℕ) → skip-lts.Need-returns (skip-calls t) (skip-at t) skip.Post
 skip-returns t c = λ tr ts w. omega (arith, levels-some tr, c .if1 .taken)
 
-skip-counts-at-requires : (t : ℕ) → skip-lts.Need-counts-at-requires (skip-calls t) (skip-at t) skip.Post
-skip-counts-at-requires t c κs = tree-line (omega arith) (c .before .before .pre .1)
+skip-line-at-requires : (t : ℕ) → skip-lts.Need-line-at-requires (skip-calls t) (skip-at t) skip.Post
+skip-line-at-requires t c κs = c .before .before .pre .1
 
 skip-add-skip-row : (t : ℕ) → skip-lts.Need-add-skip-row (skip-calls t) (skip-at t) skip.Post
 skip-add-skip-row t c =
     let fits : length (c .before .before .before .before .args .s .now) < 2 ^ 64 = omega arith in
-    omega (arith, below-fits fits _ (c .before .counts-at .ensures) (c .before .before .before .before .pre .1))
+    omega (arith, below-fits _ (c .before .line-at .ensures) (c .before .before .before .before .pre .1) fits)
 
 skip-sub-skip-row : (t : ℕ) → skip-lts.Need-sub-skip-row (skip-calls t) (skip-at t) skip.Post
 skip-sub-skip-row t c = omega arith
 
 skip-skip-row-requires : (t : ℕ) → skip-lts.Need-skip-row-requires (skip-calls t) (skip-at t) skip.Post
 skip-skip-row-requires t c κs =
-    let fits : length (c .before .before .before .before .args .s .now) < 2 ^ 64 = omega arith in
-    (omega (arith, c .before .before .before .before .pre .0), below-row fits _ (c .before .counts-at .ensures) (c .before .before .before .before .pre .1))
+    (omega (arith, c .before .before .before .before .pre .0), below-row _ (c .before .line-at .ensures) (c .before .before .before .before .pre .1))
 
 skip-returns-2 : (t : ℕ) → skip-lts.Need-returns-2 (skip-calls t) (skip-at t) skip.Post
 skip-returns-2 t c =
-    let fits : length (c .before .before .before .before .before .args .s .now) < 2 ^ 64 = omega arith in
-    below-skipped fits _ (c .before .before .counts-at .ensures) (c .before .before .before .before .before .args .most) (omega arith) _ refl (c .skip-row .result) (c .skip-row .ensures)
+    below-skipped _ (c .before .before .line-at .ensures) (c .before .before .before .before .before .args .most) (omega arith) _ refl (c .skip-row .result) (c .skip-row .ensures)
 
 abbrev skip-row-Inv-loop : skip-row-lts.InvT-loop
 skip-row-Inv-loop s at count most here₀ left₀ here left = (at ≤ here) × (here ≤ length s) × ((us ts : List Schema) → Standing (drop at s) (us ++ ts) → length us ≡ count → Going s most here left us ts)
@@ -119,7 +116,7 @@ pub +skip+skip-row-spec : {M : Type 1} → statement M
 +skip+skip-row-spec = close μ-skip μ-skip-row (λ t. skip-lts.spec (skip-calls t) (skip-at t)
     skip.Post
     (skip-returns t)
-    (skip-counts-at-requires t)
+    (skip-line-at-requires t)
     (skip-add-skip-row t)
     (skip-sub-skip-row t)
     (skip-skip-row-requires t)

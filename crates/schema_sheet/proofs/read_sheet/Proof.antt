@@ -1,7 +1,8 @@
 -- `schema_sheet::read_sheet` meets its contract: each way out has its law in `SheetLaws`. Assumes nothing.
-use mathlib.Core.Path.{sym, _∙_}
+use mathlib.Core.Path.{sym, subst, _∙_}
+use Rattle.schema_sheet.specs.Lines.{Forms}
 use borrow.Author.Tests.{not-true, not-false}
-use Rattle.schema_sheet.proofs.SheetLaws.{sheet-long, sheet-headless, sheet-broken, sheet-tree, sheet-deep, sheet-good}
+use Rattle.schema_sheet.proofs.SheetLaws.{sheet-long, sheet-headless, sheet-broken, sheet-bad, sheet-deep, sheet-whole, sheet-left}
 use borrow.Author.Needs.{needs}
 use Rattle.schema_sheet.proofs.read_sheet.Statement.{statement}
 use Rattle.schema_sheet.proofs.read_sheet.Tie as tie
@@ -15,34 +16,35 @@ has-heading-requires c κs = search needs
 returns-2 : tie.Need-returns-2
 returns-2 c = sheet-headless (c .before .before .before .before .args .s .now) (c .before .before .if1 .left) (sym (c .before .has-heading .ensures) ∙ not-true _ (c .if2 .taken))
 
-form-requires : tie.Need-form-requires
-form-requires c κs = search needs
-
-returns-3 : tie.Need-returns-3
-returns-3 c =
-    let headed = sym (c .before .before .before .has-heading .ensures) ∙ not-false _ (c .before .before .if2 .left) in
-    sheet-broken (c .before .before .before .before .before .before .args .s .now) (c .before .before .before .before .if1 .left) headed (c .before .form .result) (not-true _ (c .if3 .taken)) (c .before .form .ensures)
-
-skip-requires : tie.Need-skip-requires
-skip-requires c κs =
-    let headed = sym (c .before .before .before .has-heading .ensures) ∙ not-false _ (c .before .before .if2 .left) in
-    sheet-tree (c .before .before .before .before .before .before .args .s .now) (c .before .before .before .before .if1 .left) headed (c .before .form .result) (not-false _ (c .if3 .left)) (c .before .form .ensures)
+read-tree-requires : tie.Need-read-tree-requires
+read-tree-requires c κs = search needs
 
 enum-told : tie.Need-enum-told
 enum-told c = search needs
 
-returns-4 : tie.Need-returns-4
-returns-4 c =
-    let headed = sym (c .before .before .before .before .before .before .has-heading .ensures) ∙ not-false _ (c .before .before .before .before .before .if2 .left) in
-    sheet-deep (c .before .before .before .before .before .before .before .before .before .args .s .now) (c .before .before .before .before .before .before .before .if1 .left) headed (c .before .before .before .before .form .result) (not-false _ (c .before .before .before .if3 .left)) (c .before .before .before .before .form .ensures) (c .before .before .skip .result) (c .enum-told .given .1) (c .before .before .skip .ensures)
-
 enum-told-2 : tie.Need-enum-told-2
 enum-told-2 c = search needs
 
+form-requires : tie.Need-form-requires
+form-requires c κs = search needs
+
+returns-3 : tie.Need-returns-3
+returns-3 c = sheet-deep (c .before .before .before .before .before .before .before .before .before .args .s .now) (c .before .before .before .before .before .before .before .if1 .left) (sym (c .before .before .before .before .before .before .has-heading .ensures) ∙ not-false _ (c .before .before .before .before .before .if2 .left)) (subst (Forms (c .before .before .before .before .before .before .before .before .before .args .s .now) 47) (c .if3 .taken) (c .before .form .ensures)) _ (c .before .before .enum-told2 .given .1) (c .before .before .before .before .read-tree .ensures)
+
+enum-known-end : tie.Need-enum-known-end
+enum-known-end c = search needs
+
+returns-4 : tie.Need-returns-4
+returns-4 c = sheet-left (c .before .before .before .before .before .before .before .before .before .args .s .now) (c .before .before .before .before .before .before .before .if1 .left) (sym (c .before .before .before .before .before .before .has-heading .ensures) ∙ not-false _ (c .before .before .before .before .before .if2 .left)) (c .before .before .before .before .read-tree .result) _ (c .before .before .end .given .1) (c .before .before .before .before .read-tree .ensures) (c .if4 .taken)
+
 returns-5 : tie.Need-returns-5
-returns-5 c =
-    let headed = sym (c .before .before .before .before .before .before .has-heading .ensures) ∙ not-false _ (c .before .before .before .before .before .if2 .left) in
-    sheet-good (c .before .before .before .before .before .before .before .before .before .args .s .now) (c .before .before .before .before .before .before .before .if1 .left) headed (c .before .before .before .before .form .result) (not-false _ (c .before .before .before .if3 .left)) (c .before .before .before .before .form .ensures) (c .before .before .skip .result) _ (c .enum-told2 .given .1) (c .before .before .skip .ensures)
+returns-5 c = sheet-bad (c .before .before .before .before .before .before .before .args .s .now) (c .before .before .before .before .before .if1 .left) (sym (c .before .before .before .before .has-heading .ensures) ∙ not-false _ (c .before .before .before .if2 .left)) _ (c .enum-told .given .1) (c .before .before .read-tree .ensures)
+
+returns-6 : tie.Need-returns-6
+returns-6 c = sheet-broken (c .before .before .before .before .before .before .before .before .before .args .s .now) (c .before .before .before .before .before .before .before .if1 .left) (sym (c .before .before .before .before .before .before .has-heading .ensures) ∙ not-false _ (c .before .before .before .before .before .if2 .left)) _ (c .if3 .left) (c .before .form .ensures)
+
+returns-7 : tie.Need-returns-7
+returns-7 c = sheet-whole (c .before .before .before .before .before .before .before .before .before .args .s .now) (c .before .before .before .before .before .before .before .if1 .left) (sym (c .before .before .before .before .before .before .has-heading .ensures) ∙ not-false _ (c .before .before .before .before .before .if2 .left)) (c .before .before .before .before .read-tree .result) _ (c .before .before .end .given .1) (c .before .before .before .before .read-tree .ensures) (c .if4 .left)
 
 pub read-sheet-spec : {M : Type 1} → statement M
 read-sheet-spec =
@@ -51,10 +53,13 @@ read-sheet-spec =
     returns
     has-heading-requires
     returns-2
+    read-tree-requires
+    enum-told
+    enum-told-2
     form-requires
     returns-3
-    skip-requires
-    enum-told
+    enum-known-end
     returns-4
-    enum-told-2
-    returns-5)
+    returns-5
+    returns-6
+    returns-7)
