@@ -14,15 +14,13 @@ use Rattle.sheets.specs.FieldSheet.{Shape}
 use Rattle.sheets.specs.Import.{formatText}
 use Rattle.sheets.proofs.Tests.{chain-same}
 use Rattle.sheets.proofs.SchemaLaws.{pushChildren}
-use Rattle.sheets.proofs.FormLaws.{Standing, standing-row, standing-on, Opened}
+use Rattle.sheets.proofs.FormLaws.{Standing, standing-on, Opened}
 use Rattle.sheets.proofs.ImportLaws.{written, rowWritten, nodeShape, below, ownOf, ownLines, visited, isBare, withOwn, node-written}
 use Rattle.schema_line.specs.declared.SchemaLine.{SchemaLine}
-use Rattle.schema_sheet.specs.Lines.{LineAt, ReadsLine}
+use Rattle.schema_sheet.specs.Lines.{LineAt}
 use Rattle.schema_sheet.specs.Trees.{HasRow, SkipsRow}
-use Rattle.put_node.specs.Nodes.{lineType, nodeLines, Plan, NodeAt, Puts, PutsNode}
-use Rattle.import_field.specs.Contracts.{FieldAt, HasField, Begins}
-use Rattle.schema_sheet.specs.declared.LineRead.{LineRead}
-use Rattle.schema_sheet.specs.declared.LineRead.the-variants.{Line as Good, Bad}
+use Rattle.put_node.specs.Nodes.{lineType, nodeLines, Plan, Puts, PutsNode}
+use Rattle.import_field.specs.Contracts.{FieldAt, Begins}
 use Rattle.schema_sheet.specs.declared.Skipped.{Skipped}
 use Rattle.schema_sheet.specs.declared.Skipped.the-variants.{To, Deep}
 use Rattle.put_node.specs.declared.Visit.{Visit}
@@ -59,19 +57,9 @@ line-written bare x cs d e f =
     step : ℕ → Shape → Answer (List Bytes)
     step k sh = rowWritten (isBare sh) (visited sh cs d) >>= λ ls. withOwn bare (nodeOf x) sh (below sh k) ls
 
--- ── the line is read
-
--- a tree has a line
-pub line-there : (s : Bytes) (at most : ℕ) (r : LineRead) → r ≡ Bad → ReadsLine s at r → (t : Schema) (ts : List Schema) → FieldAt s at most t ts → ⊥
-line-there s at most r e h t ts f = subst (ReadsLine s at) e h (length ts) (standing-row (f .stands))
-
-pub line-read : (s : Bytes) (at : ℕ) (r : LineRead) (l : SchemaLine) → r ≡ Good l → ReadsLine s at r → LineAt s at l
-line-read s at r l e h = subst (ReadsLine s at) e h
+-- ── the line is known
 
 module _ (s : Bytes) (at : ℕ) (l : SchemaLine) (p : LineAt s at l) where
-  pub node-at : (most : ℕ) → HasField s at most → NodeAt s at l
-  node-at most h = record { line = p; short = h .2 .short }
-
   module _ (most : ℕ) (bare : Bool) (t : Schema) (ts : List Schema) (f : FieldAt s at (suc most) t ts) (out mid : Bytes) where
     opened : Opened (p .line) (drop (l .end) s) t ts
     opened =

@@ -16,6 +16,7 @@ use Rattle.sheets.proofs.OutcomeLaws.{number-range}
 use Rattle.sheets.proofs.ImportLaws.{written, rowWritten}
 use Rattle.buffer.specs.Over.{over}
 use Rattle.buffer.proofs.OverLaws.{over-lent}
+use Rattle.put_node.specs.Pieces.{HasRoom}
 use Rattle.put_node.specs.Nodes.{Owns}
 use Rattle.import_field.specs.Contracts.{FieldAt, LeftAt, HasFields, HasLeft, Wrote, FieldsWrote, Begins, FieldBegins, Ends, FieldEnds}
 use Rattle.put_node.specs.declared.Visit.{Visit}
@@ -23,6 +24,10 @@ use Rattle.import_field.specs.declared.FieldBegun.{FieldBegun}
 use Rattle.import_field.specs.declared.FieldBegun.the-variants.{Row, Refused as Unbegun}
 use Rattle.import_field.specs.declared.Step.{Step}
 use Rattle.import_field.specs.declared.Step.the-variants.{Done, Refused}
+
+-- only the lengths of the entries count
+pub room-kept : {s : Bytes} {es fs es' fs' : List ℕ} → HasRoom s es fs → length es' ≡ length es → length fs' ≡ length fs → HasRoom s es' fs'
+room-kept h e f = record { entries = omega (arith, h .entries, e); spare = omega (arith, h .spare, f) }
 
 -- the levels below the node: the node has one
 pub level-below : (s : Bytes) (at most : ℕ) (t : Schema) (ts : List Schema) → FieldAt s at most t ts → FieldAt s at (suc (most - 1)) t ts

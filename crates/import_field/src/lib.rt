@@ -1,13 +1,13 @@
 // Import: a schema sheet's bytes become a field sheet in a lent buffer. A field is read through its type, and a type through its fields.
 ghost use mathlib.Core.Path.{_≡_};
-ghost use Prim.Native.Nat.{suc};
+ghost use Prim.Native.Nat.{suc, _≤_};
 ghost use lib.ListN.{length, replicate};
 ghost use Rattle.sheets.specs.Outcome.{importOutcome};
+ghost use Rattle.put_node.specs.Pieces.{HasRoom};
 ghost use Rattle.import_field.specs.Contracts.{HasField, HasFields, HasLeft};
 ghost use Rattle.import_field.specs.Contracts.{FieldBegins, FieldEnds, FieldWrote, FieldsWrote, SheetWrote, outcomeOf};
 use put_node::NodeRead;
 use put_node::Visit;
-use schema_sheet::LineRead;
 use schema_sheet::SheetRead;
 use schema_sheet::Skipped;
 
@@ -30,17 +30,23 @@ enum FieldBegun {
 }
 
 // Reads the line at `at`, writes the lines of its node and skips the subtrees before those that it visits; below it are `most` levels at most.
-fn begin_field(s: &[u8], at: usize, most: usize, bare: bool, out: &mut [u8]) -> FieldBegun
-    requires { ⌜ HasField (now s) at (suc most) ⌝ }
+fn begin_field(
+    s: &[u8],
+    at: usize,
+    most: usize,
+    bare: bool,
+    out: &mut [u8],
+    entries: &mut [u32],
+    spare: &mut [u32],
+) -> FieldBegun
+    requires { ⌜ HasField (now s) at (suc most) × HasRoom (now s) (now entries) (now spare) ⌝ }
     ensures { λ r. ⌜ FieldBegins (now (s .entry)) at most bare (now (out .entry)) (now (out .exit)) r ⌝ }
 {
-    // The whole sheet was read before: it has no bad line and no tree of more levels, so neither 2 nor 3 ever comes from here.
-    let LineRead::Line(line) = schema_sheet::read_line(s, at) else {
-        return FieldBegun::Refused(2);
-    };
-    match put_node::put_node(s, at, line, bare, out) {
+    let line = schema_sheet::line_at(s, at);
+    match put_node::put_node(s, at, line, bare, out, entries, spare) {
         NodeRead::Refused(n) => FieldBegun::Refused(n),
         NodeRead::Put(visit) => {
+            // The whole sheet was read before, and no tree has more levels: 3 never comes from here.
             let Skipped::To(next) = schema_sheet::skip_row(s, line.end, visit.first, most) else {
                 return FieldBegun::Refused(3);
             };
@@ -64,16 +70,33 @@ fn end_field(s: &[u8], at: usize, count: u64, most: usize, pending: u8, len: usi
 }
 
 // Writes the lines of the field whose schema stands at `at`, as far as they fit.
-fn to_field(s: &[u8], at: usize, most: usize, bare: bool, out: &mut [u8]) -> Step
-    requires { ⌜ HasField (now s) at most ⌝ }
+fn to_field(
+    s: &[u8],
+    at: usize,
+    most: usize,
+    bare: bool,
+    out: &mut [u8],
+    entries: &mut [u32],
+    spare: &mut [u32],
+) -> Step
+    requires { ⌜ HasField (now s) at most × HasRoom (now s) (now entries) (now spare) ⌝ }
     ensures { λ r. ⌜ FieldWrote (now (s .entry)) at most bare (now (out .entry)) (now (out .exit)) r ⌝ }
 {
     let below = most - 1;
-    match begin_field(s, at, below, bare, out) {
+    match begin_field(s, at, below, bare, out, entries, spare) {
         FieldBegun::Refused(n) => Step::Refused(n),
         FieldBegun::Row(from, visit) => {
             let w = buffer::within(visit.len, out.len());
-            match to_dtype(s, from, visit.count, below, visit.bare, &mut out[w..]) {
+            match to_dtype(
+                s,
+                from,
+                visit.count,
+                below,
+                visit.bare,
+                &mut out[w..],
+                entries,
+                spare,
+            ) {
                 Step::Refused(n) => Step::Refused(n),
                 Step::Done { next, len } => end_field(
                     s,
@@ -89,8 +112,17 @@ fn to_field(s: &[u8], at: usize, most: usize, bare: bool, out: &mut [u8]) -> Ste
 }
 
 // Writes the lines of a type's fields, whose schemas stand one after the other from `at` on, as far as they fit.
-fn to_dtype(s: &[u8], at: usize, count: u64, most: usize, bare: bool, out: &mut [u8]) -> Step
-    requires { ⌜ HasFields (now s) at count most ⌝ }
+fn to_dtype(
+    s: &[u8],
+    at: usize,
+    count: u64,
+    most: usize,
+    bare: bool,
+    out: &mut [u8],
+    entries: &mut [u32],
+    spare: &mut [u32],
+) -> Step
+    requires { ⌜ HasFields (now s) at count most × HasRoom (now s) (now entries) (now spare) ⌝ }
     ensures { λ r. ⌜ FieldsWrote (now (s .entry)) at count most bare (now (out .entry)) (now (out .exit)) r ⌝ }
 {
     let mut here = at;
@@ -98,7 +130,7 @@ fn to_dtype(s: &[u8], at: usize, count: u64, most: usize, bare: bool, out: &mut 
     let mut i = 0;
     while i < count {
         let w = buffer::within(sum, out.len());
-        match to_field(s, here, most, bare, &mut out[w..]) {
+        match to_field(s, here, most, bare, &mut out[w..], entries, spare) {
             Step::Refused(n) => {
                 return Step::Refused(n);
             }
@@ -116,19 +148,49 @@ fn to_dtype(s: &[u8], at: usize, count: u64, most: usize, bare: bool, out: &mut 
 }
 
 // Writes the heading and the field's lines, as far as they fit.
-fn put_sheet(s: &[u8], at: usize, out: &mut [u8]) -> Step
-    requires { ⌜ HasField (now s) at 32 ⌝ }
+fn put_sheet(s: &[u8], at: usize, out: &mut [u8], entries: &mut [u32], spare: &mut [u32]) -> Step
+    requires { ⌜ HasField (now s) at 32 × HasRoom (now s) (now entries) (now spare) ⌝ }
     ensures { λ r. ⌜ SheetWrote (now (s .entry)) at (now (out .entry)) (now (out .exit)) r ⌝ }
 {
     let head = buffer::put_at(out, 0, b"kind p q text more name nullable pairs children\n");
     let w = buffer::within(head, out.len());
-    match to_field(s, at, 32, false, &mut out[w..]) {
+    match to_field(s, at, 32, false, &mut out[w..], entries, spare) {
         Step::Refused(n) => Step::Refused(n),
         Step::Done { next, len } => Step::Done {
             next,
             len: head + len,
         },
     }
+}
+
+// A metadata pair takes 16 digits of the sheet. The entries of the pairs are lent down from here, so that they stand on the stack once and not at
+// each of 32 levels; and there are two sizes, so that a short sheet does not pay for clearing 32 KB.
+fn put_short(s: &[u8], at: usize, out: &mut [u8]) -> Step
+    requires { ⌜ HasField (now s) at 32 × (length (now s) ≤ 2048) ⌝ }
+    ensures { λ r. ⌜ SheetWrote (now (s .entry)) at (now (out .entry)) (now (out .exit)) r ⌝ }
+{
+    let mut entries: [u32; 128] = [0; 128];
+    let mut spare: [u32; 128] = [0; 128];
+    put_sheet(s, at, out, &mut entries[..], &mut spare[..])
+}
+
+fn put_long(s: &[u8], at: usize, out: &mut [u8]) -> Step
+    requires { ⌜ HasField (now s) at 32 ⌝ }
+    ensures { λ r. ⌜ SheetWrote (now (s .entry)) at (now (out .entry)) (now (out .exit)) r ⌝ }
+{
+    let mut entries: [u32; 4096] = [0; 4096];
+    let mut spare: [u32; 4096] = [0; 4096];
+    put_sheet(s, at, out, &mut entries[..], &mut spare[..])
+}
+
+fn put_by_length(s: &[u8], at: usize, out: &mut [u8]) -> Step
+    requires { ⌜ HasField (now s) at 32 ⌝ }
+    ensures { λ r. ⌜ SheetWrote (now (s .entry)) at (now (out .entry)) (now (out .exit)) r ⌝ }
+{
+    if s.len() <= 2048 {
+        return put_short(s, at, out);
+    }
+    put_long(s, at, out)
 }
 
 // A refusal: the number, and zeros.
@@ -145,7 +207,7 @@ pub fn import(s: &[u8], out: &mut [u8]) -> Imported
 {
     match schema_sheet::read_sheet(s) {
         SheetRead::Refused(n) => refuse(out, n),
-        SheetRead::Body(at) => match put_sheet(s, at, out) {
+        SheetRead::Body(at) => match put_by_length(s, at, out) {
             Step::Refused(n) => refuse(out, n),
             Step::Done { next: _, len } => {
                 if out.len() < len {

@@ -243,7 +243,7 @@ visit-own Values c o = (refl, refl)
 part-within : (s : Bytes) (a b : ℕ) → length (part s a b) ≤ length s
 part-within s a b = omega (arith, length-take (b - a) (drop a s), length-drop a s)
 
-module _ (s : Bytes) (at : ℕ) (l : SchemaLine) (p : NodeAt s at l) (t : Bytes) (q : t ≡ part s (l .format .start) (l .format .end)) where
+module _ (s : Bytes) (at : ℕ) (l : SchemaLine) (es fs : List ℕ) (p : NodeAt s at l es fs) (t : Bytes) (q : t ≡ part s (l .format .start) (l .format .end)) where
   pub is-format : IsText t
   is-format = (p .line .line .0, ap readText q ∙ p .line .shows .format .reads)
 
@@ -267,7 +267,7 @@ module _ (s : Bytes) (at : ℕ) (l : SchemaLine) (p : NodeAt s at l) (t : Bytes)
         told-text : Told f (told .0) c
         told-text = subst (λ (y : Bytes). Told y (told .0) c) (sym g) (told .2)
 
-        pub columns-ready : HasMetadata f c n m
+        pub columns-ready : HasMetadata f c n m es fs
         columns-ready =
             record {
               columns = record {
@@ -278,6 +278,10 @@ module _ (s : Bytes) (at : ℕ) (l : SchemaLine) (p : NodeAt s at l) (t : Bytes)
               };
               isMetadata = (p .line .line .1 .1 .1 .0, ap readText v ∙ p .line .shows .metadata .reads);
               short = omega (arith, ap length v, part-within s (l .metadata .start) (l .metadata .end), p .short);
+              room = record {
+                entries = omega (arith, ap length v, part-within s (l .metadata .start) (l .metadata .end), p .room .entries);
+                spare = omega (arith, ap length v, part-within s (l .metadata .start) (l .metadata .end), p .room .spare);
+              };
             }
 
         module _ (bare flag : Bool) (a : flag ≡ nullable (l .flags)) (k : ℕ) (j : k ≡ childrenBelow b (l .children)) (o : Own) (out end : Bytes) (puts : PutsOwn (columnAnswer f c k bare n flag m) f n m o out end) where

@@ -33,10 +33,10 @@ use Rattle.put_node.specs.declared.Own.{Own}
 use Rattle.format.specs.Told.{textOf, idsText, TextAt}
 use Rattle.metadata.specs.Entry.{pairsAt, valueAt}
 use Rattle.metadata.specs.Pairs.{pairsColumn}
-use Rattle.metadata.specs.Reading.{Block, Means, Reads}
+use Rattle.metadata.specs.Reading.{Means, Reads}
 use Rattle.put_node.specs.NodeTypes.{IsText, textIn}
 use Rattle.put_node.specs.Pieces.{typePiece, ownText, typeLine, extensionLine, nodeText, namedAnswer, textAnswer, columnAnswer, linesText, OwnPuts, PutsOwn, longest}
-use Rattle.put_node.specs.Pieces.{CanPutIds, CanPutType, CanPutLines, HasColumns, HasEntries, HasBlock}
+use Rattle.put_node.specs.Pieces.{CanPutIds, CanPutType, CanPutLines, HasColumns, HasEntries, HasMetadata}
 use Rattle.put_node.proofs.TypeLaws.{text-bytes, text-one, text-whole}
 use Rattle.sheets.proofs.BytesLaws.{same-eq, same-refl}
 use Rattle.sheets.proofs.InverseLaws.{text-read}
@@ -226,6 +226,19 @@ text-shorter t = pick (eqb (length t) 1) refl
     pick true e = omega (arith, ap length (sym (text-one t (eqb-true (length t) 1 e))), length-take (length t - 1) (drop 1 t), length-drop 1 t)
     pick false e = omega (arith, ap length (text-whole t (λ q. true≢false (sym (eq-eqb (length t) 1 q) ∙ e))))
 
+-- the metadata is no longer than its column, so there are entries for its pairs
+pub entries-ready : (f : Bytes) (c : TypeColumns) (name t m : Bytes) → m ≡ textIn t → (es fs : List ℕ) → HasMetadata f c name t es fs → HasEntries f c name m es fs
+entries-ready f c name t m q es fs p =
+    let h = p .isMetadata in
+    record {
+      columns = p .columns;
+      room = record {
+        block = record { isText = subst (λ (y : Bytes). isHex y ≡ true) (sym q) (text-bytes t (h .0) (h .1) .0); short = omega (arith, p .short, ap length q, text-shorter t) };
+        entries = omega (arith, ap length q, text-shorter t, p .room .entries);
+        spare = omega (arith, ap length q, text-shorter t, p .room .spare);
+      };
+    }
+
 module _ (f : Bytes) (c : TypeColumns) (k : ℕ) (bare : Bool) (name : Bytes) (nullable : Bool) (t : Bytes) (h : IsText t) (o : Own) (out end : Bytes) where
   pub column-null : same t noText ≡ true → PutsOwn (textAnswer f c k bare name nullable (metadataFromBytes none)) f name [] o out end → PutsOwn (columnAnswer f c k bare name nullable t) f name t o out end
   column-null e p =
@@ -233,9 +246,6 @@ module _ (f : Bytes) (c : TypeColumns) (k : ℕ) (bare : Bool) (name : Bytes) (n
       (subst (λ (y : Bytes). OwnPuts (columnAnswer f c k bare name nullable y) o out end) (sym q) (p .0), omega (arith, p .1))
 
   module _ (m : Bytes) (q : m ≡ textIn t) where
-    pub block-ready : length t < 65536 → Block m
-    block-ready l = record { isText = subst (λ (y : Bytes). isHex y ≡ true) (sym q) (text-bytes t (h .0) (h .1) .0); short = omega (arith, ap length q, text-shorter t) }
-
     pub column-some : same t noText ≡ false → PutsOwn (textAnswer f c k bare name nullable (metadataFromBytes (some (bytesOf m)))) f name m o out end
         → PutsOwn (columnAnswer f c k bare name nullable t) f name t o out end
     column-some e p = (subst (λ (a : Answer Bytes). OwnPuts a o out end) (pick (h .0) (h .1)) (p .0), omega (arith, p .1, ap length q, text-shorter t))
@@ -247,7 +257,3 @@ module _ (f : Bytes) (c : TypeColumns) (k : ℕ) (bare : Bool) (name : Bytes) (n
         pick (some b) r =
             ap (λ (y : Bytes). textAnswer f c k bare name nullable (metadataFromBytes (some y))) (ap bytesOf q ∙ text-bytes t (some b) r .1)
             ∙ sym (ap (λ (a : Answer (Option Bytes)). a >>= λ x. textAnswer f c k bare name nullable (metadataFromBytes x)) r)
-
--- arrays of n entries
-pub entries-ready : (f : Bytes) (c : TypeColumns) (name m : Bytes) (n : ℕ) (es fs : List ℕ) → n ≡ length es → n ≡ length fs → HasBlock f c name m n → HasEntries f c name m es fs
-entries-ready f c name m n es fs a b h = record { columns = h .0; room = record { block = h .1; entries = omega (arith, h .2, a); spare = omega (arith, h .2, b) } }

@@ -19,6 +19,7 @@ use Rattle.schema_sheet.specs.Lines.{Shows, LineAt}
 use Rattle.put_node.specs.declared.Visit.{Visit}
 use Rattle.put_node.specs.declared.NodeRead.{NodeRead}
 use Rattle.put_node.specs.declared.NodeRead.the-variants.{Put, Refused}
+use Rattle.put_node.specs.Pieces.{HasRoom}
 
 -- the type that a node's line tells, or the refusal of its format
 unfoldable pub lineType : Line → Answer Shape
@@ -42,9 +43,10 @@ Owns (given ls) v out out' = (v .pending ≡ 0) × (v .len ≡ length (ended ls)
 Owns (refused r) v out out' = (v .pending ≡ numberOf r) × (v .len ≡ 0)
 
 -- what `put_node` requires
-pub record NodeAt (s : Bytes) (at : ℕ) (l : SchemaLine) : Type 0 where
+pub record NodeAt (s : Bytes) (at : ℕ) (l : SchemaLine) (es fs : List ℕ) : Type 0 where
   pub line : LineAt s at l
   pub short : length s ≤ 65535
+  pub room : HasRoom s es fs
 
 -- what `put_node` tells of the line x from `at` on
 pub record Puts (at : ℕ) (l : SchemaLine) (bare : Bool) (x : Line) (out out' : Bytes) (v : Visit) : Type 0 where

@@ -22,7 +22,7 @@ use Rattle.metadata.specs.declared.Metadata.{Metadata}
 use Rattle.format.specs.Told.{textOf, HasIds, TextAt}
 use Rattle.metadata.specs.Entry.{valueAt, Entries, OrNone}
 use Rattle.metadata.specs.Pairs.{pairsColumn}
-use Rattle.metadata.specs.Reading.{Block, Room}
+use Rattle.metadata.specs.Reading.{Room}
 use Rattle.put_node.specs.NodeTypes.{IsText}
 
 -- kind p q text more of a type
@@ -146,10 +146,13 @@ pub record HasEntries (f : Bytes) (c : TypeColumns) (name m : Bytes) (es fs : Li
   pub columns : HasColumns f c name
   pub room : Room m es fs
 
-abbrev pub HasBlock : Bytes → TypeColumns → Bytes → Bytes → ℕ → Type 0
-HasBlock f c name m n = HasColumns f c name × Block m × (length m / 16 ≤ n)
+-- entries for the pairs of any metadata that is a part of s: a pair takes 16 digits for its lengths
+pub record HasRoom (s : Bytes) (es fs : List ℕ) : Type 0 where
+  pub entries : length s / 16 ≤ length es
+  pub spare : length s / 16 ≤ length fs
 
-pub record HasMetadata (f : Bytes) (c : TypeColumns) (name metadata : Bytes) : Type 0 where
+pub record HasMetadata (f : Bytes) (c : TypeColumns) (name metadata : Bytes) (es fs : List ℕ) : Type 0 where
   pub columns : HasColumns f c name
   pub isMetadata : IsText metadata
   pub short : length metadata < 65536
+  pub room : HasRoom metadata es fs

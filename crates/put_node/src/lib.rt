@@ -15,7 +15,7 @@ ghost use Rattle.metadata.specs.Entry.{valueAt};
 ghost use Rattle.metadata.specs.Pairs.{pairsColumn};
 ghost use Rattle.put_node.specs.Visits.{belowAt};
 ghost use Rattle.put_node.specs.Pieces.{IsPlace, CanPutIds, CanPutType, CanPutOwn, CanPutLine, CanPutExtension, typePiece, ownText, typeLine};
-ghost use Rattle.put_node.specs.Pieces.{CanPutLines, HasColumns, HasEntries, HasBlock, HasMetadata, Writes, PutsOwn, namedAnswer, textAnswer, columnAnswer, linesText, longest};
+ghost use Rattle.put_node.specs.Pieces.{CanPutLines, HasColumns, HasEntries, HasMetadata, Writes, PutsOwn, namedAnswer, textAnswer, columnAnswer, linesText, longest};
 ghost use Rattle.put_node.specs.Nodes.{NodeAt, PutsNode};
 ghost use Rattle.schema_sheet.specs.Columns.{part};
 ghost use Rattle.sheets.specs.Metadata.{metadataFromBytes};
@@ -397,65 +397,6 @@ fn put_with(
     }
 }
 
-// Most blocks have few pairs: the large arrays are not cleared for them.
-fn put_few(
-    out: &mut [u8],
-    f: &[u8],
-    c: TypeColumns,
-    k: u64,
-    bare: bool,
-    name: &[u8],
-    nullable: bool,
-    m: &[u8],
-) -> Own
-    requires { ⌜ HasBlock (now f) c (now name) (now m) 32 ⌝ }
-    ensures { λ r. ⌜ PutsOwn (textAnswer (now (f .entry)) c k bare (now (name .entry)) nullable (metadataFromBytes (some (bytesOf (now (m .entry)))))) (now (f .entry)) (now (name .entry)) (now (m .entry)) r (now (out .entry)) (now (out .exit)) ⌝ }
-{
-    let mut entries: [u32; 32] = [0; 32];
-    let mut spare: [u32; 32] = [0; 32];
-    put_with(
-        out,
-        f,
-        c,
-        k,
-        bare,
-        name,
-        nullable,
-        m,
-        &mut entries[..],
-        &mut spare[..],
-    )
-}
-
-fn put_many(
-    out: &mut [u8],
-    f: &[u8],
-    c: TypeColumns,
-    k: u64,
-    bare: bool,
-    name: &[u8],
-    nullable: bool,
-    m: &[u8],
-) -> Own
-    requires { ⌜ HasBlock (now f) c (now name) (now m) 4096 ⌝ }
-    ensures { λ r. ⌜ PutsOwn (textAnswer (now (f .entry)) c k bare (now (name .entry)) nullable (metadataFromBytes (some (bytesOf (now (m .entry)))))) (now (f .entry)) (now (name .entry)) (now (m .entry)) r (now (out .entry)) (now (out .exit)) ⌝ }
-{
-    let mut entries: [u32; 4096] = [0; 4096];
-    let mut spare: [u32; 4096] = [0; 4096];
-    put_with(
-        out,
-        f,
-        c,
-        k,
-        bare,
-        name,
-        nullable,
-        m,
-        &mut entries[..],
-        &mut spare[..],
-    )
-}
-
 // The lines of a node without metadata.
 fn put_without(
     out: &mut [u8],
@@ -499,18 +440,27 @@ fn put_columns(
     name: &[u8],
     nullable: bool,
     metadata: &[u8],
+    entries: &mut [u32],
+    spare: &mut [u32],
 ) -> Own
-    requires { ⌜ HasMetadata (now f) c (now name) (now metadata) ⌝ }
+    requires { ⌜ HasMetadata (now f) c (now name) (now metadata) (now entries) (now spare) ⌝ }
     ensures { λ r. ⌜ PutsOwn (columnAnswer (now (f .entry)) c k bare (now (name .entry)) nullable (now (metadata .entry))) (now (f .entry)) (now (name .entry)) (now (metadata .entry)) r (now (out .entry)) (now (out .exit)) ⌝ }
 {
     if buffer::same(metadata, b"~") {
         return put_without(out, f, c, k, bare, name, nullable);
     }
-    let m = text_of(metadata);
-    if m.len() < 528 {
-        return put_few(out, f, c, k, bare, name, nullable, m);
-    }
-    put_many(out, f, c, k, bare, name, nullable, m)
+    put_with(
+        out,
+        f,
+        c,
+        k,
+        bare,
+        name,
+        nullable,
+        text_of(metadata),
+        entries,
+        spare,
+    )
 }
 
 fn column_of(s: &[u8], p: Part) -> &[u8]
@@ -523,9 +473,17 @@ fn column_of(s: &[u8], p: Part) -> &[u8]
 }
 
 // Writes the lines of the node whose line stands at `at`, as far as they fit. 4 to 10 are refused at once; 11, and 5 for metadata or name, come
-// after what stands below.
-pub fn put_node(s: &[u8], at: usize, line: SchemaLine, bare: bool, out: &mut [u8]) -> NodeRead
-    requires { ⌜ NodeAt (now s) at line ⌝ }
+// after what stands below. The entries are for the pairs of the line's metadata: lent, since this is called at each of 32 levels.
+pub fn put_node(
+    s: &[u8],
+    at: usize,
+    line: SchemaLine,
+    bare: bool,
+    out: &mut [u8],
+    entries: &mut [u32],
+    spare: &mut [u32],
+) -> NodeRead
+    requires { ⌜ NodeAt (now s) at line (now entries) (now spare) ⌝ }
     ensures { λ r. ⌜ PutsNode (now (s .entry)) at line bare (now (out .entry)) (now (out .exit)) r ⌝ }
 {
     let format = column_of(s, line.format);
@@ -536,7 +494,8 @@ pub fn put_node(s: &[u8], at: usize, line: SchemaLine, bare: bool, out: &mut [u8
         TypeRead::Type(c, b) => {
             let k = children_below(b, line.children);
             let f = text_of(format);
-            let own = put_columns(out, f, c, k, bare, name, line.nullable(), metadata);
+            let nullable = line.nullable();
+            let own = put_columns(out, f, c, k, bare, name, nullable, metadata, entries, spare);
             NodeRead::Put(visit_of(b, line.children, own))
         }
     }

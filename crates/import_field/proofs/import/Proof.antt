@@ -17,8 +17,8 @@ refuse-requires c κs = search needs
 enum-known-at : tie.Need-enum-known-at
 enum-known-at c = search needs
 
-put-sheet-requires : tie.Need-put-sheet-requires
-put-sheet-requires c κs =
+put-by-length-requires : tie.Need-put-by-length-requires
+put-by-length-requires c κs =
     let a = c .before .before .before .before .before .before .before .args in
     let r = c .before .before .before .before .read-sheet in
     field-there (now (a .s)) (now (a .out)) (r .result) _ (c .before .before .at .given .1) (r .ensures)
@@ -45,7 +45,7 @@ returns c =
     let out = now (a .out) in
     let r = c .before .before .before .before .before .before .before .before .before .before .before .before .before .before .before .read-sheet in
     let e = c .before .before .before .before .before .before .before .before .before .before .before .before .before .at .given .1 in
-    let p = c .before .before .before .before .before .before .before .before .before .before .put-sheet in
+    let p = c .before .before .before .before .before .before .before .before .before .before .put-by-length in
     import-long s out (r .result) _ e (r .ensures) _ (p .result) (p .ensures) _ _ (c .before .before .before .before .before .before .len .given .1) (c .before .before .before .before .if1 .taken) _ _ (c .before .before .refuse3 .ensures)
 
 same-length-2 : tie.Need-same-length-2
@@ -67,7 +67,7 @@ returns-3 c =
     let out = now (a .out) in
     let r = c .before .before .before .before .before .before .before .before .before .before .before .before .before .before .read-sheet in
     let e = c .before .before .before .before .before .before .before .before .before .before .before .before .at .given .1 in
-    let p = c .before .before .before .before .before .before .before .before .before .put-sheet in
+    let p = c .before .before .before .before .before .before .before .before .before .put-by-length in
     import-refused s out (r .result) _ e (r .ensures) _ (p .result) (p .ensures) _ (c .before .before .before .before .before .n2 .given .1) (p .kept .1 .1 .0) _ _ (c .before .before .refuse2 .ensures)
 
 same-length-4 : tie.Need-same-length-4
@@ -80,7 +80,7 @@ returns-4 c =
     let out = now (a .out) in
     let r = c .before .before .before .before .before .before .before .before .before .before .before .read-sheet in
     let e = c .before .before .before .before .before .before .before .before .before .at .given .1 in
-    let p = c .before .before .before .before .before .before .put-sheet in
+    let p = c .before .before .before .before .before .before .put-by-length in
     import-done s out (r .result) _ e (r .ensures) _ (p .result) (p .ensures) _ _ (c .before .before .len .given .1) (c .if1 .left)
 
 pub import-spec : {M : Type 1} → statement M
@@ -91,7 +91,7 @@ import-spec =
     enum-known-n
     refuse-requires
     enum-known-at
-    put-sheet-requires
+    put-by-length-requires
     enum-known-n-2
     refuse-requires-2
     enum-known-len

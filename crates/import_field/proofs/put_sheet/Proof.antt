@@ -1,8 +1,8 @@
 -- `put_sheet` meets its contract: the laws are in `SheetLaws`. Assumes nothing.
-use mathlib.Core.Path.{refl}
-use native.Mathlib.Omega.{arith}
-use denote.Ref.{now}
 use Rattle.import_field.proofs.SheetLaws.{sheet-refused, lines-long, sheet-done}
+use denote.Ref.{now}
+use native.Mathlib.Omega.{arith}
+use mathlib.Core.Path.{refl}
 use borrow.Author.Needs.{needs}
 use Rattle.import_field.proofs.put_sheet.Statement.{statement}
 use Rattle.import_field.proofs.put_sheet.Tie as tie
@@ -34,30 +34,42 @@ enum-known-n c = search needs
 enum-known-next : tie.Need-enum-known-next
 enum-known-next c = search needs
 
-add-t20 : tie.Need-add-t20
-add-t20 c =
-    let p = c .before .before .before .before .before .before .before .before .before .before .before .before .before .before .before .pre in
-    let r = c .before .before .before .before .before .to-field in
-    omega (arith, lines-long _ _ _ _ (p .2) _ (r .last .1 .1 .1 .1 .0) _ _ _ (c .before .next .given .1) (r .ensures), c .before .before .before .before .before .before .before .before .before .before .put-at .ensures .0)
+add-t26 : tie.Need-add-t26
+add-t26 c =
+    let h = c .before .before .before .before .before .before .before .before .before .before .before .before .before .before .before .before .before .before .before .before .before .before .before .pre .0 in
+    let r = c .before .before .before .before .before .before .before .before .before .to-field in
+    omega (arith, lines-long _ _ _ _ (h .2) _ (r .last .1 .1 .1 .1 .0) _ _ _ (c .before .next .given .1) (r .ensures), c .before .before .before .before .before .before .before .before .before .before .before .before .before .before .before .before .put-at .ensures .0)
 
 same-length : tie.Need-same-length
 same-length c = search needs
 
-returns : tie.Need-returns
-returns c =
-    let r = c .before .before .before .before .before .to-field in
-    λ t ts f. sheet-refused _ _ t ts f _ (r .last .1 .1 .1 .1 .0) _ _ (c .before .n .given .1) (r .ensures)
-
 same-length-2 : tie.Need-same-length-2
 same-length-2 c = search needs
 
+same-length-3 : tie.Need-same-length-3
+same-length-3 c = search needs
+
+returns : tie.Need-returns
+returns c =
+    let r = c .before .before .before .before .before .before .before .before .before .to-field in
+    λ t ts f. sheet-refused _ _ t ts f _ (r .last .1 .1 .1 .1 .0) _ _ (c .before .n .given .1) (r .ensures)
+
+same-length-4 : tie.Need-same-length-4
+same-length-4 c = search needs
+
+same-length-5 : tie.Need-same-length-5
+same-length-5 c = search needs
+
+same-length-6 : tie.Need-same-length-6
+same-length-6 c = search needs
+
 returns-2 : tie.Need-returns-2
 returns-2 c =
-    let r = c .before .before .before .before .before .to-field in
-    let w = c .before .before .before .before .before .before .before .within in
-    let h = c .before .before .before .before .before .before .before .before .before .before .put-at in
+    let r = c .before .before .before .before .before .before .before .before .before .to-field in
+    let w = c .before .before .before .before .before .before .before .before .before .before .before .before .before .within in
+    let h = c .before .before .before .before .before .before .before .before .before .before .before .before .before .before .before .before .put-at in
     λ t ts f. sheet-done _ _ t ts f _ (r .last .1 .1 .1 .1 .0) _ _ _ (c .before .next .given .1) (r .ensures)
-    (now (c .before .before .before .before .before .before .before .before .before .before .before .before .before .before .before .args .out)) (h .last .0) (h .result) (w .result) (h .ensures) (w .ensures) refl
+    (now (c .before .before .before .before .before .before .before .before .before .before .before .before .before .before .before .before .before .before .before .before .before .before .before .args .out)) (h .last .0) (h .result) (w .result) (h .ensures) (w .ensures) refl
 
 pub put-sheet-spec : {M : Type 1} → statement M
 put-sheet-spec =
@@ -72,8 +84,12 @@ put-sheet-spec =
     to-field-requires
     enum-known-n
     enum-known-next
-    add-t20
+    add-t26
     same-length
-    returns
     same-length-2
+    same-length-3
+    returns
+    same-length-4
+    same-length-5
+    same-length-6
     returns-2)

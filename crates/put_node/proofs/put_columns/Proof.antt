@@ -1,8 +1,6 @@
--- `put_columns` meets its contract: by whether there is metadata, and how much. Assumes nothing.
-use lib.ListN.{length}
-use native.Mathlib.Omega.{arith}
-use mathlib.Core.Path.{sym, ap, _∙_}
-use Rattle.put_node.proofs.OwnLaws.{column-null, column-some, block-ready, text-shorter}
+-- `put_columns` meets its contract: by whether there is metadata. Assumes nothing.
+use Rattle.put_node.proofs.OwnLaws.{column-null, column-some, entries-ready}
+use mathlib.Core.Path.{sym, _∙_}
 use borrow.Author.Needs.{needs}
 use Rattle.put_node.proofs.put_columns.Statement.{statement}
 use Rattle.put_node.proofs.put_columns.Tie as tie
@@ -21,37 +19,33 @@ same-length c = search needs
 
 returns : tie.Need-returns
 returns c =
-    let a = c .before .before .before .before .before .before .before .before .before .before .before .args in
-    column-null (a .f .now) (a .c) (a .k) (a .bare) (a .name .now) (a .nullable) (a .metadata .now) (c .before .before .before .before .before .before .before .before .before .before .before .pre .isMetadata) _ _ _ (sym (c .before .before .before .before .before .same .ensures) ∙ c .before .before .before .before .if1 .taken) (c .before .before .put-without .ensures)
+    let st = c .before .before .before .before .before .before .before .before .before .before .before .before .before in
+    let a = st .args in
+    column-null (a .f .now) (a .c) (a .k) (a .bare) (a .name .now) (a .nullable) (a .metadata .now) (st .pre .isMetadata) _ _ _ (sym (c .before .before .before .before .before .same .ensures) ∙ c .before .before .before .before .if1 .taken) (c .before .before .put-without .ensures)
 
 text-of-requires : tie.Need-text-of-requires
 text-of-requires c κs = search needs
 
-put-few-requires : tie.Need-put-few-requires
-put-few-requires c κs =
-    let a = c .before .before .before .before .before .before .before .before .before .before .args in
-    (c .before .before .before .before .before .before .before .before .before .before .pre .columns, block-ready (a .f .now) (a .c) (a .k) (a .bare) (a .name .now) (a .nullable) (a .metadata .now) (c .before .before .before .before .before .before .before .before .before .before .pre .isMetadata) (record { len = 0; pending = 0 }) (a .f .now) (a .f .now) _ (c .before .before .text-of .ensures) (c .before .before .before .before .before .before .before .before .before .before .pre .short), omega arith)
+put-with-requires : tie.Need-put-with-requires
+put-with-requires c κs =
+    let st = c .before .before .before .before .before .before .before .before .before .before .before .before .before in
+    let a = st .args in
+    entries-ready (a .f .now) (a .c) (a .name .now) (a .metadata .now) _ (c .before .before .text-of .ensures) _ _ (st .pre)
 
 same-length-2 : tie.Need-same-length-2
 same-length-2 c = search needs
 
-returns-2 : tie.Need-returns-2
-returns-2 c =
-    let a = c .before .before .before .before .before .before .before .before .before .before .before .before .before .args in
-    column-some (a .f .now) (a .c) (a .k) (a .bare) (a .name .now) (a .nullable) (a .metadata .now) (c .before .before .before .before .before .before .before .before .before .before .before .before .before .pre .isMetadata) _ _ _ _ (c .before .before .before .before .before .text-of .ensures) (sym (c .before .before .before .before .before .before .before .same .ensures) ∙ c .before .before .before .before .before .before .if1 .left) (c .before .before .put-few .ensures)
-
-put-many-requires : tie.Need-put-many-requires
-put-many-requires c κs =
-    let a = c .before .before .before .before .before .before .before .before .before .before .args in
-    (c .before .before .before .before .before .before .before .before .before .before .pre .columns, block-ready (a .f .now) (a .c) (a .k) (a .bare) (a .name .now) (a .nullable) (a .metadata .now) (c .before .before .before .before .before .before .before .before .before .before .pre .isMetadata) (record { len = 0; pending = 0 }) (a .f .now) (a .f .now) _ (c .before .before .text-of .ensures) (c .before .before .before .before .before .before .before .before .before .before .pre .short), omega (arith, c .before .before .before .before .before .before .before .before .before .before .pre .short, ap length (c .before .before .text-of .ensures), text-shorter (a .metadata .now)))
-
 same-length-3 : tie.Need-same-length-3
 same-length-3 c = search needs
 
-returns-3 : tie.Need-returns-3
-returns-3 c =
-    let a = c .before .before .before .before .before .before .before .before .before .before .before .before .before .args in
-    column-some (a .f .now) (a .c) (a .k) (a .bare) (a .name .now) (a .nullable) (a .metadata .now) (c .before .before .before .before .before .before .before .before .before .before .before .before .before .pre .isMetadata) _ _ _ _ (c .before .before .before .before .before .text-of .ensures) (sym (c .before .before .before .before .before .before .before .same .ensures) ∙ c .before .before .before .before .before .before .if1 .left) (c .before .before .put-many .ensures)
+same-length-4 : tie.Need-same-length-4
+same-length-4 c = search needs
+
+returns-2 : tie.Need-returns-2
+returns-2 c =
+    let st = c .before .before .before .before .before .before .before .before .before .before .before .before .before .before .before .before .before .before .before .before in
+    let a = st .args in
+    column-some (a .f .now) (a .c) (a .k) (a .bare) (a .name .now) (a .nullable) (a .metadata .now) (st .pre .isMetadata) _ _ _ _ (c .before .before .before .before .before .before .before .before .before .text-of .ensures) (sym (c .before .before .before .before .before .before .before .before .before .before .before .before .same .ensures) ∙ c .before .before .before .before .before .before .before .before .before .before .before .if1 .left) (c .before .before .before .before .before .before .put-with .ensures)
 
 pub put-columns-spec : {M : Type 1} → statement M
 put-columns-spec =
@@ -63,9 +57,8 @@ put-columns-spec =
     same-length
     returns
     text-of-requires
-    put-few-requires
+    put-with-requires
     same-length-2
-    returns-2
-    put-many-requires
     same-length-3
-    returns-3)
+    same-length-4
+    returns-2)
