@@ -52,10 +52,6 @@ pub name-piece-length : (name : Bytes) (nullable : Bool) → length (namePiece n
 unfolding namePiece
 name-piece-length name nullable = simp (length-append, column-length, name-length, flag-length) (omega arith)
 
-pub own-length : (name nullable pairs : Bytes) → length (ownPiece name nullable pairs) ≡ 3 + (length name + length nullable + length pairs)
-unfolding ownPiece
-own-length name nullable pairs = simp (length-append, column-length) (omega arith)
-
 pub bare-length : length (ownPiece noText noText noText) ≡ 6
 unfolding column ownPiece
 bare-length = refl

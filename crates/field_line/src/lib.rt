@@ -7,7 +7,7 @@ ghost use lib.ListN.{length};
 ghost use Rattle.sheets.specs.Number.{decimal};
 ghost use Rattle.sheets.specs.FieldSheet.{noText, toNat};
 ghost use Rattle.buffer.specs.Over.{overAt, IsUsize};
-ghost use Rattle.field_line.specs.Columns.{column, shapePiece, nameColumn, namePiece, ownPiece, endPiece, pairPiece};
+ghost use Rattle.field_line.specs.Columns.{column, nameColumn, namePiece, ownPiece, endPiece, pairPiece};
 
 // What a format says of the column `text`: nothing, or where in its hexadecimal text the timezone or the union's ids begin.
 pub enum TypeText {
@@ -37,7 +37,7 @@ pub fn put_byte(out: &mut [u8], at: usize, b: u8) -> usize
 }
 
 // A column as it stands, and a space.
-pub fn put_column(out: &mut [u8], at: usize, text: &[u8]) -> usize
+fn put_column(out: &mut [u8], at: usize, text: &[u8]) -> usize
     requires { ⌜ IsUsize (at + (1 + length (now text))) ⌝ }
     ensures { λ r. ⌜ (r ≡ at + length (column (now (text .entry)))) × (now (out .exit) ≡ overAt at (column (now (text .entry))) (now (out .entry))) ⌝ }
 {
@@ -45,32 +45,13 @@ pub fn put_column(out: &mut [u8], at: usize, text: &[u8]) -> usize
     put_byte(out, end, b' ')
 }
 
-fn put_number(out: &mut [u8], at: usize, n: u64) -> usize
+// A column that is a number, and a space.
+pub fn put_number(out: &mut [u8], at: usize, n: u64) -> usize
     requires { ⌜ IsUsize (at + 21) ⌝ }
     ensures { λ r. ⌜ (r ≡ at + length (column (decimal n))) × (now (out .exit) ≡ overAt at (column (decimal n)) (now (out .entry))) ⌝ }
 {
     let after = decimal::put_u64(out, at, n);
     put_byte(out, after, b' ')
-}
-
-// The columns `kind p q text more`.
-pub fn put_shape(
-    out: &mut [u8],
-    at: usize,
-    kind: u64,
-    p: u64,
-    q: u64,
-    text: &[u8],
-    more: &[u8],
-) -> usize
-    requires { ⌜ IsUsize (at + (65 + length (now text) + length (now more))) ⌝ }
-    ensures { λ r. ⌜ (r ≡ at + length (shapePiece kind p q (now (text .entry)) (now (more .entry)))) × (now (out .exit) ≡ overAt at (shapePiece kind p q (now (text .entry)) (now (more .entry))) (now (out .entry))) ⌝ }
-{
-    let a = put_number(out, at, kind);
-    let b = put_number(out, a, p);
-    let c = put_number(out, b, q);
-    let d = put_column(out, c, text);
-    put_column(out, d, more)
 }
 
 // A field's name from a schema's name column: a null name is written as an empty one.
@@ -102,15 +83,6 @@ pub fn put_name(out: &mut [u8], at: usize, name: &[u8], nullable: bool) -> usize
 {
     let end = put_name_column(out, at, name);
     put_flag(out, end, nullable)
-}
-
-// The columns `name nullable pairs`, the pairs as they stand.
-pub fn put_own(out: &mut [u8], at: usize, name: &[u8], nullable: bool, pairs: &[u8]) -> usize
-    requires { ⌜ IsUsize (at + (4 + length (now name) + length (now pairs))) ⌝ }
-    ensures { λ r. ⌜ (r ≡ at + length (ownPiece (nameColumn (now (name .entry))) (decimal (toNat nullable)) (now (pairs .entry)))) × (now (out .exit) ≡ overAt at (ownPiece (nameColumn (now (name .entry))) (decimal (toNat nullable)) (now (pairs .entry))) (now (out .entry))) ⌝ }
-{
-    let end = put_name(out, at, name, nullable);
-    put_column(out, end, pairs)
 }
 
 // The columns `name nullable pairs` of a bare line.

@@ -1,4 +1,2 @@
-pub mod TypeLaws
-pub mod WriteLaws
 pub mod OwnLaws
 pub mod NodeLaws

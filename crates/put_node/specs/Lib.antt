@@ -1,5 +1,3 @@
 pub mod Visits
-pub mod Types
-pub mod NodeTypes
-pub mod Pieces
+pub mod Own
 pub mod Nodes

@@ -1,33 +1,18 @@
 // From one line of a schema sheet to the field lines of its node, and what is to be done with the subtrees below it.
 ghost use mathlib.Core.Path.{_≡_};
-ghost use mathlib.Core.Bool.{true, false};
-ghost use Prim.Native.Nat.{_+_, _*_, _≤_};
-ghost use lib.ListN.{length};
-ghost use Rattle.hex.specs.Hex.{isHex, bytesOf};
-ghost use Rattle.sheets.specs.Number.{decimal};
-ghost use Rattle.sheets.specs.Text.{writeText};
-ghost use Rattle.sheets.specs.FieldSheet.{toNat, noText};
-ghost use Rattle.sheets.proofs.ImportLaws.{nodeShape};
-ghost use Rattle.buffer.specs.Over.{overAt};
-ghost use Rattle.field_line.specs.Columns.{column, shapePiece};
-ghost use Rattle.format.specs.Told.{idsText};
-ghost use Rattle.metadata.specs.Entry.{valueAt};
-ghost use Rattle.metadata.specs.Pairs.{pairsColumn};
-ghost use Rattle.put_node.specs.Visits.{belowAt};
-ghost use Rattle.put_node.specs.Pieces.{IsPlace, CanPutIds, CanPutType, CanPutOwn, CanPutLine, CanPutExtension, typePiece, ownText, typeLine};
-ghost use Rattle.put_node.specs.Pieces.{CanPutLines, HasColumns, HasEntries, HasMetadata, Writes, PutsOwn, namedAnswer, textAnswer, columnAnswer, linesText, longest};
-ghost use Rattle.put_node.specs.Nodes.{NodeAt, PutsNode};
+ghost use mathlib.Core.Bool.{false};
+ghost use Rattle.schema_line.specs.Texts.{textIn};
 ghost use Rattle.schema_sheet.specs.Columns.{part};
-ghost use Rattle.sheets.specs.Metadata.{metadataFromBytes};
-ghost use mathlib.Core.Option.{none, some};
-ghost use mathlib.Core.List.{[]};
-ghost use Rattle.put_node.specs.NodeTypes.{IsText, textIn, columnType, indexShape, formatShape, lacksChild, childrenBelow, visitOf, ShapeTold, IsPart};
+ghost use Rattle.node_type.specs.Visits.{lacksChild};
+ghost use Rattle.node_type.specs.NodeTypes.{IsText};
+ghost use Rattle.put_node.specs.Visits.{childrenBelow, visitOf, IsPart};
+ghost use Rattle.put_node.specs.Own.{metadataOf, ownAnswer, ReadsAs, columnAnswer, PutsOwn, HasBlock, HasColumns};
+ghost use Rattle.put_node.specs.Nodes.{NodeAt, PutsNode};
 use field_line::TypeColumns;
-use field_line::TypeText;
-use format::FormatRead;
-use format::IndexRead;
 use metadata::Metadata;
 use metadata::MetadataRead;
+use node_type::Below;
+use node_type::TypeRead;
 use schema_line::Part;
 use schema_line::SchemaLine;
 
@@ -47,69 +32,10 @@ pub enum NodeRead {
     Refused(u8),
 }
 
-// Which subtrees a type visits: none, the first child, all children, the dictionary's values.
-enum Below {
-    Nothing,
-    First,
-    All,
-    Values,
-}
-
-// A type's columns and what it visits, or a refusal's number.
-enum TypeRead {
-    Type(TypeColumns, Below),
-    Refused(u8),
-}
-
 // The length of a node's own lines, or the number of their refusal.
 struct Own {
     len: usize,
     pending: u8,
-}
-
-// The hexadecimal text of a column: none for `~` and `-`.
-fn text_of(column: &[u8]) -> &[u8]
-    ensures { λ r. ⌜ now r ≡ textIn (now (column .entry)) ⌝ }
-{
-    if column.len() == 1 {
-        return &column[1..];
-    }
-    column
-}
-
-fn below_of(kind: u64) -> Below
-    ensures { λ r. ⌜ r ≡ belowAt kind ⌝ }
-{
-    if kind == 27 {
-        return Below::First;
-    }
-    if kind == 28 {
-        return Below::First;
-    }
-    if kind == 29 {
-        return Below::First;
-    }
-    if kind == 31 {
-        return Below::First;
-    }
-    if kind == 30 {
-        return Below::All;
-    }
-    if kind == 41 {
-        return Below::All;
-    }
-    Below::Nothing
-}
-
-fn lacks_child(b: Below, children: u64) -> bool
-    ensures { λ r. ⌜ r ≡ lacksChild b children ⌝ }
-{
-    match b {
-        Below::Nothing => false,
-        Below::First => children == 0,
-        Below::All => false,
-        Below::Values => false,
-    }
 }
 
 // The children of the field line.
@@ -122,77 +48,6 @@ fn children_below(b: Below, children: u64) -> u64
         Below::All => children,
         Below::Values => 1,
     }
-}
-
-fn flag(b: bool) -> u64
-    ensures { λ r. ⌜ r ≡ toNat b ⌝ }
-{
-    if b {
-        return 1;
-    }
-    0
-}
-
-// The type of a line with a dictionary.
-fn index_type(f: &[u8], ordered: bool) -> TypeRead
-    requires { ⌜ isHex (now f) ≡ true ⌝ }
-    ensures { λ r. ⌜ ShapeTold (now (f .entry)) (indexShape (bytesOf (now (f .entry))) ordered) r ⌝ }
-{
-    match format::to_integer_type(f) {
-        IndexRead::Refused(n) => TypeRead::Refused(n),
-        IndexRead::Index(ix) => TypeRead::Type(
-            TypeColumns {
-                kind: 32,
-                p: ix,
-                q: flag(ordered),
-                text: TypeText::NoText,
-            },
-            Below::Values,
-        ),
-    }
-}
-
-// The type of a line without a dictionary.
-fn plain_type(f: &[u8], sorted: bool, children: u64) -> TypeRead
-    requires { ⌜ isHex (now f) ≡ true ⌝ }
-    ensures { λ r. ⌜ ShapeTold (now (f .entry)) (formatShape (bytesOf (now (f .entry))) sorted children) r ⌝ }
-{
-    match format::read_format(f, sorted) {
-        FormatRead::Refused(n) => TypeRead::Refused(n),
-        FormatRead::Type(c) => {
-            let b = below_of(c.kind);
-            if lacks_child(b, children) {
-                return TypeRead::Refused(10);
-            }
-            TypeRead::Type(c, b)
-        }
-    }
-}
-
-// 6 to 10.
-fn utf8_type(f: &[u8], line: SchemaLine) -> TypeRead
-    requires { ⌜ isHex (now f) ≡ true ⌝ }
-    ensures { λ r. ⌜ ShapeTold (now (f .entry)) (nodeShape (bytesOf (now (f .entry))) (line .flags) (line .children) (line .dictionary)) r ⌝ }
-{
-    if line.dictionary == 0 {
-        return plain_type(f, line.sorted(), line.children);
-    }
-    index_type(f, line.ordered())
-}
-
-// 4 to 10, which are refused at once.
-fn node_type(column: &[u8], line: SchemaLine) -> TypeRead
-    requires { ⌜ IsText (now column) ⌝ }
-    ensures { λ r. ⌜ ShapeTold (textIn (now (column .entry))) (columnType (now (column .entry)) line) r ⌝ }
-{
-    if buffer::same(column, b"~") {
-        return TypeRead::Refused(4);
-    }
-    let f = text_of(column);
-    if utf8::is_utf8_hex(f) {
-        return utf8_type(f, line);
-    }
-    TypeRead::Refused(5)
 }
 
 // The subtrees below a node, by what its type visits.
@@ -238,199 +93,38 @@ fn visit_of(b: Below, children: u64, own: Own) -> Visit
     }
 }
 
-fn put_number(out: &mut [u8], at: usize, n: u64) -> usize
-    requires { ⌜ IsPlace at ⌝ }
-    ensures { λ r. ⌜ (r ≡ at + length (column (decimal n))) × (now (out .exit) ≡ overAt at (column (decimal n)) (now (out .entry))) ⌝ }
+// What the metadata's column says; a null pointer has no pairs.
+fn read_metadata(column: &[u8], entries: &mut [u32], spare: &mut [u32]) -> MetadataRead
+    requires { ⌜ HasBlock (now column) (now entries) (now spare) ⌝ }
+    ensures { λ r. ⌜ ReadsAs (metadataOf (now (column .entry))) (textIn (now (column .entry))) (now (entries .exit)) r ⌝ }
 {
-    let after = decimal::put_u64(out, at, n);
-    field_line::put_byte(out, after, b' ')
+    if buffer::same(column, b"~") {
+        return MetadataRead::Found(Metadata {
+            count: 0,
+            name: 0,
+            more: 0,
+        });
+    }
+    metadata::metadata_from_bytes(schema_line::text_of(column), entries, spare)
 }
 
-// The columns `kind p q text more` of a union: its ids from the format.
-fn put_union(out: &mut [u8], at: usize, kind: u64, p: u64, q: u64, ids: &[u8]) -> usize
-    requires { ⌜ CanPutIds (now ids) at ⌝ }
-    ensures { λ r. ⌜ (r ≡ at + length (shapePiece kind p q (idsText (bytesOf (now (ids .entry)))) noText)) × (now (out .exit) ≡ overAt at (shapePiece kind p q (idsText (bytesOf (now (ids .entry)))) noText) (now (out .entry))) × (r ≤ at + (87 + 21 * length (now (ids .entry)))) ⌝ }
+// The same, unless the name is refused: the metadata's refusal comes before the name's.
+fn read_own(name: &[u8], column: &[u8], entries: &mut [u32], spare: &mut [u32]) -> MetadataRead
+    requires { ⌜ IsText (now name) × HasBlock (now column) (now entries) (now spare) ⌝ }
+    ensures { λ r. ⌜ ReadsAs (ownAnswer (now (name .entry)) (now (column .entry))) (textIn (now (column .entry))) (now (entries .exit)) r ⌝ }
 {
-    let a = put_number(out, at, kind);
-    let b = put_number(out, a, p);
-    let c = put_number(out, b, q);
-    let d = format::put_ids(out, c, ids);
-    buffer::put_at(out, d, b" ~ ")
-}
-
-// The columns `kind p q text more` of a type whose format's text is f.
-fn put_type(out: &mut [u8], at: usize, f: &[u8], c: TypeColumns) -> usize
-    requires { ⌜ CanPutType (now f) c at ⌝ }
-    ensures { λ r. ⌜ (r ≡ at + length (typePiece (now (f .entry)) c)) × (now (out .exit) ≡ overAt at (typePiece (now (f .entry)) c) (now (out .entry))) × (r ≤ at + (87 + 21 * length (now (f .entry)))) ⌝ }
-{
-    let text = c.text;
-    match text {
-        TypeText::NoText => field_line::put_shape(out, at, c.kind, c.p, c.q, b"~", b"~"),
-        TypeText::Zone(k) => field_line::put_shape(out, at, c.kind, c.p, c.q, &f[k..], b"~"),
-        TypeText::Ids(k) => put_union(out, at, c.kind, c.p, c.q, &f[k..]),
+    match read_metadata(column, entries, spare) {
+        MetadataRead::Refused(n) => MetadataRead::Refused(n),
+        MetadataRead::Found(d) => {
+            if utf8::is_utf8_hex(schema_line::text_of(name)) {
+                return MetadataRead::Found(d);
+            }
+            MetadataRead::Refused(5)
+        }
     }
 }
 
-// The columns `name nullable pairs`.
-fn put_own(
-    out: &mut [u8],
-    at: usize,
-    bare: bool,
-    name: &[u8],
-    nullable: bool,
-    m: &[u8],
-    entries: &[u32],
-    count: usize,
-) -> usize
-    requires { ⌜ CanPutOwn (now name) (now m) (now entries) count at ⌝ }
-    ensures { λ r. ⌜ (r ≡ at + length (ownText bare (now (name .entry)) nullable (pairsColumn (bytesOf (now (m .entry))) (now (entries .entry)) count))) × (now (out .exit) ≡ overAt at (ownText bare (now (name .entry)) nullable (pairsColumn (bytesOf (now (m .entry))) (now (entries .entry)) count)) (now (out .entry))) ⌝ }
-{
-    if bare {
-        return field_line::put_bare(out, at);
-    }
-    let a = field_line::put_name(out, at, name, nullable);
-    let b = metadata::put_pairs(out, a, m, entries, count);
-    field_line::put_byte(out, b, b' ')
-}
-
-// The line of a type.
-fn put_line(
-    out: &mut [u8],
-    at: usize,
-    f: &[u8],
-    c: TypeColumns,
-    k: u64,
-    bare: bool,
-    name: &[u8],
-    nullable: bool,
-    m: &[u8],
-    entries: &[u32],
-    count: usize,
-) -> usize
-    requires { ⌜ CanPutLine (now f) c (now name) (now m) (now entries) count at ⌝ }
-    ensures { λ r. ⌜ (r ≡ at + length (typeLine (now (f .entry)) c (ownText bare (now (name .entry)) nullable (pairsColumn (bytesOf (now (m .entry))) (now (entries .entry)) count)) k)) × (now (out .exit) ≡ overAt at (typeLine (now (f .entry)) c (ownText bare (now (name .entry)) nullable (pairsColumn (bytesOf (now (m .entry))) (now (entries .entry)) count)) k) (now (out .entry))) × (r ≤ at + (108 + 21 * length (now (f .entry)) + length (ownText bare (now (name .entry)) nullable (pairsColumn (bytesOf (now (m .entry))) (now (entries .entry)) count)))) ⌝ }
-{
-    let a = put_type(out, at, f, c);
-    let b = put_own(out, a, bare, name, nullable, m, entries, count);
-    field_line::put_end(out, b, k)
-}
-
-// The columns `kind p q text more` of an extension.
-fn put_extension(out: &mut [u8], at: usize, m: &[u8], name: u32, more: u32) -> usize
-    requires { ⌜ CanPutExtension (now m) name more at ⌝ }
-    ensures { λ r. ⌜ (r ≡ at + length (shapePiece 37 0 0 (writeText (valueAt (bytesOf (now (m .entry))) name)) (writeText (valueAt (bytesOf (now (m .entry))) more)))) × (now (out .exit) ≡ overAt at (shapePiece 37 0 0 (writeText (valueAt (bytesOf (now (m .entry))) name)) (writeText (valueAt (bytesOf (now (m .entry))) more))) (now (out .entry))) ⌝ }
-{
-    let a = buffer::put_at(out, at, b"37 0 0 ");
-    let b = metadata::put_value(out, a, m, name);
-    let c = field_line::put_byte(out, b, b' ');
-    let d = metadata::put_value(out, c, m, more);
-    field_line::put_byte(out, d, b' ')
-}
-
-// The lines of a node: that of its type, under its extension's if there is one.
-fn put_lines(
-    out: &mut [u8],
-    f: &[u8],
-    c: TypeColumns,
-    k: u64,
-    bare: bool,
-    name: &[u8],
-    nullable: bool,
-    m: &[u8],
-    entries: &[u32],
-    d: Metadata,
-) -> usize
-    requires { ⌜ CanPutLines (now f) c (now name) (now m) (now entries) d ⌝ }
-    ensures { λ r. ⌜ Writes (linesText (now (f .entry)) c k bare (now (name .entry)) nullable (bytesOf (now (m .entry))) (now (entries .entry)) d) r (now (out .entry)) (now (out .exit)) × (r ≤ longest (now (f .entry)) (now (name .entry)) (now (m .entry))) ⌝ }
-{
-    if d.name == 0 {
-        return put_line(out, 0, f, c, k, bare, name, nullable, m, entries, d.count);
-    }
-    let a = put_extension(out, 0, m, d.name, d.more);
-    let b = put_own(out, a, bare, name, nullable, m, entries, d.count);
-    let e = field_line::put_end(out, b, 1);
-    put_line(out, e, f, c, k, true, name, nullable, m, entries, d.count)
-}
-
-// The lines, or 5 pending for the name.
-fn put_named(
-    out: &mut [u8],
-    f: &[u8],
-    c: TypeColumns,
-    k: u64,
-    bare: bool,
-    name: &[u8],
-    nullable: bool,
-    m: &[u8],
-    entries: &[u32],
-    d: Metadata,
-) -> Own
-    requires { ⌜ CanPutLines (now f) c (now name) (now m) (now entries) d × IsText (now name) ⌝ }
-    ensures { λ r. ⌜ PutsOwn (namedAnswer (now (name .entry)) (linesText (now (f .entry)) c k bare (now (name .entry)) nullable (bytesOf (now (m .entry))) (now (entries .entry)) d)) (now (f .entry)) (now (name .entry)) (now (m .entry)) r (now (out .entry)) (now (out .exit)) ⌝ }
-{
-    if utf8::is_utf8_hex(text_of(name)) {
-        let len = put_lines(out, f, c, k, bare, name, nullable, m, entries, d);
-        return Own { len, pending: 0 };
-    }
-    Own { len: 0, pending: 5 }
-}
-
-// The lines of a node with metadata, or the number of its refusal: metadata before name.
-fn put_with(
-    out: &mut [u8],
-    f: &[u8],
-    c: TypeColumns,
-    k: u64,
-    bare: bool,
-    name: &[u8],
-    nullable: bool,
-    m: &[u8],
-    entries: &mut [u32],
-    spare: &mut [u32],
-) -> Own
-    requires { ⌜ HasEntries (now f) c (now name) (now m) (now entries) (now spare) ⌝ }
-    ensures { λ r. ⌜ PutsOwn (textAnswer (now (f .entry)) c k bare (now (name .entry)) nullable (metadataFromBytes (some (bytesOf (now (m .entry)))))) (now (f .entry)) (now (name .entry)) (now (m .entry)) r (now (out .entry)) (now (out .exit)) ⌝ }
-{
-    match metadata::metadata_from_bytes(m, entries, spare) {
-        MetadataRead::Refused(n) => Own { len: 0, pending: n },
-        MetadataRead::Found(d) => put_named(out, f, c, k, bare, name, nullable, m, entries, d),
-    }
-}
-
-// The lines of a node without metadata.
-fn put_without(
-    out: &mut [u8],
-    f: &[u8],
-    c: TypeColumns,
-    k: u64,
-    bare: bool,
-    name: &[u8],
-    nullable: bool,
-) -> Own
-    requires { ⌜ HasColumns (now f) c (now name) ⌝ }
-    ensures { λ r. ⌜ PutsOwn (textAnswer (now (f .entry)) c k bare (now (name .entry)) nullable (metadataFromBytes none)) (now (f .entry)) (now (name .entry)) [] r (now (out .entry)) (now (out .exit)) ⌝ }
-{
-    let entries: [u32; 1] = [0];
-    let d = Metadata {
-        count: 0,
-        name: 0,
-        more: 0,
-    };
-    put_named(
-        out,
-        f,
-        c,
-        k,
-        bare,
-        name,
-        nullable,
-        &name[..0],
-        &entries[..],
-        d,
-    )
-}
-
-// A node's own lines from its metadata's column.
+// A node's own lines from the columns of its name and its metadata.
 fn put_columns(
     out: &mut [u8],
     f: &[u8],
@@ -439,28 +133,21 @@ fn put_columns(
     bare: bool,
     name: &[u8],
     nullable: bool,
-    metadata: &[u8],
+    column: &[u8],
     entries: &mut [u32],
     spare: &mut [u32],
 ) -> Own
-    requires { ⌜ HasMetadata (now f) c (now name) (now metadata) (now entries) (now spare) ⌝ }
-    ensures { λ r. ⌜ PutsOwn (columnAnswer (now (f .entry)) c k bare (now (name .entry)) nullable (now (metadata .entry))) (now (f .entry)) (now (name .entry)) (now (metadata .entry)) r (now (out .entry)) (now (out .exit)) ⌝ }
+    requires { ⌜ HasColumns (now f) c (now name) (now column) (now entries) (now spare) ⌝ }
+    ensures { λ r. ⌜ PutsOwn (columnAnswer (now (f .entry)) c k bare (now (name .entry)) nullable (now (column .entry))) (now (f .entry)) (now (name .entry)) (now (column .entry)) r (now (out .entry)) (now (out .exit)) ⌝ }
 {
-    if buffer::same(metadata, b"~") {
-        return put_without(out, f, c, k, bare, name, nullable);
+    match read_own(name, column, entries, spare) {
+        MetadataRead::Refused(n) => Own { len: 0, pending: n },
+        MetadataRead::Found(d) => {
+            let m = schema_line::text_of(column);
+            let len = node_lines::put_lines(out, f, c, k, bare, name, nullable, m, entries, d);
+            Own { len, pending: 0 }
+        }
     }
-    put_with(
-        out,
-        f,
-        c,
-        k,
-        bare,
-        name,
-        nullable,
-        text_of(metadata),
-        entries,
-        spare,
-    )
 }
 
 fn column_of(s: &[u8], p: Part) -> &[u8]
@@ -489,11 +176,11 @@ pub fn put_node(
     let format = column_of(s, line.format);
     let name = column_of(s, line.name);
     let metadata = column_of(s, line.metadata);
-    match node_type(format, line) {
+    match node_type::node_type(format, line) {
         TypeRead::Refused(n) => NodeRead::Refused(n),
         TypeRead::Type(c, b) => {
             let k = children_below(b, line.children);
-            let f = text_of(format);
+            let f = schema_line::text_of(format);
             let nullable = line.nullable();
             let own = put_columns(out, f, c, k, bare, name, nullable, metadata, entries, spare);
             NodeRead::Put(visit_of(b, line.children, own))

@@ -1,6 +1,7 @@
-// A line of a schema sheet: its columns as parts of the sheet, and its flags.
+// A line of a schema sheet: its columns as parts of the sheet, the text of a column, and its flags.
 ghost use mathlib.Core.Path.{_≡_};
 ghost use Rattle.sheets.specs.Flags.{isOrdered, nullable, isSorted};
+ghost use Rattle.schema_line.specs.Texts.{textIn};
 
 // The bytes of a sheet from `start` up to `end`.
 pub struct Part {
@@ -49,4 +50,14 @@ impl SchemaLine {
         let flags = self.flags;
         flags & Self::SORTED != 0
     }
+}
+
+// The hexadecimal text of a text's column: none for `~` and `-`.
+pub fn text_of(column: &[u8]) -> &[u8]
+    ensures { λ r. ⌜ now r ≡ textIn (now (column .entry)) ⌝ }
+{
+    if column.len() == 1 {
+        return &column[1..];
+    }
+    column
 }
