@@ -32,6 +32,9 @@ use Rattle.node_lines.specs.Pieces.{ownText, typeLine, extensionLine, no
 rest : (k : ℕ) (f : Bytes) → take (length f - k) (drop k f) ≡ drop k f
 rest k f = take-all (length f - k) (drop k f) (omega (arith, length-drop k f))
 
+pub rest-short : (k : ℕ) (f : Bytes) → length (take (length f - k) (drop k f)) ≤ length f
+rest-short k f = omega (arith, ap length (rest k f), length-drop k f)
+
 module _ (f : Bytes) (t : TypeText) where
   pub text-none : t ≡ NoText → noText ≡ textOf f t
   text-none e = ap (textOf f) (sym e)

@@ -1,2 +1,3 @@
 pub mod OwnLaws
+pub mod VisitLaws
 pub mod NodeLaws

@@ -4,50 +4,48 @@ use mathlib.Core.Path.{_≡_, refl, sym, ap, subst, _∙_}
 use mathlib.Core.Bool.{Bool, true, false, true≢false}
 use mathlib.Core.List.{List, [], _∷_, _++_, append-assoc}
 use mathlib.Core.Option.{Option, none, some}
-use Prim.Native.Nat.{ℕ, zero, suc, _+_, _-_, _≤_, _<_}
+use Prim.Native.Nat.{ℕ, _+_, _-_, _≤_, _<_}
 use native.Mathlib.Omega.{arith}
 use lib.IntN.{ℤ}
 use lib.ListN.{length, drop, length-append, length-take, length-drop}
-use borrow.Author.Tests.{ne-eqb}
 use Rattle.sheets.specs.Bytes.{Bytes}
 use Rattle.sheets.specs.Answer.{Answer, refused, given, _>>=_}
 use Rattle.sheets.specs.Number.{decimal, readNumber}
 use Rattle.sheets.specs.Text.{readText, writeText}
-use Rattle.sheets.proofs.NumberLaws.{read-decimal}
 use Rattle.sheets.specs.Flags.{nullable}
 use Rattle.sheets.specs.Field.{Pair, Info}
 use Rattle.sheets.specs.Sheet.{ended}
 use Rattle.sheets.specs.Schema.{Line, nodeOf, childrenOf, dictionaryOf, schemaLine}
-use Rattle.sheets.specs.FieldSheet.{Shape, ofScalar, ofNesting, ofGrouping, ofDictionary, ofExtension, columns, noText, writeList, pairText, fieldLine, lineOf}
-use Rattle.sheets.specs.Format.{Format, readFormat, toIntegerType}
-use Rattle.sheets.specs.Format.{ofScalar as scalarFormat, ofNesting as nestingFormat, ofGrouping as groupingFormat}
-use Rattle.sheets.specs.Flags.{isSorted, isOrdered}
+use Rattle.sheets.specs.FieldSheet.{Shape, ofExtension, columns, noText, writeList, pairText, fieldLine, lineOf}
 use Rattle.sheets.specs.Import.{formatText, nameText}
 use Rattle.sheets.specs.Metadata.{Extension, metadataFromBytes}
-use Rattle.sheets.proofs.Tests.{first-gave}
+use Rattle.sheets.proofs.NumberLaws.{read-decimal}
 use Rattle.sheets.proofs.InverseLaws.{text-read}
 use Rattle.sheets.proofs.SchemaLaws.{schema-line-read}
-use Rattle.sheets.proofs.ImportLaws.{nodeShape, needed, below, ownLines, shown, isBare}
-use Rattle.hex.specs.Hex.{gives, givenOr}
+use Rattle.sheets.proofs.ImportLaws.{nodeShape, below, ownLines, shown, isBare}
+use Rattle.hex.specs.Hex.{gives}
 use Rattle.field_line.specs.Columns.{column, shapePiece, columnsPiece, namePiece, ownPiece, endPiece}
-use Rattle.field_line.proofs.ColumnLaws.{named-line, bare-line}
 use Rattle.field_line.specs.declared.TypeColumns.{TypeColumns}
+use Rattle.field_line.proofs.ColumnLaws.{named-line, bare-line}
 use Rattle.schema_line.specs.declared.SchemaLine.{SchemaLine}
+use Rattle.schema_line.specs.Texts.{textIn}
+use Rattle.schema_line.proofs.TextLaws.{text-shorter}
 use Rattle.schema_sheet.specs.Columns.{part}
 use Rattle.schema_sheet.specs.Lines.{TextAt, Shows, LineAt}
-use Rattle.put_node.specs.declared.TypeRead.{TypeRead}
-use Rattle.put_node.specs.declared.TypeRead.the-variants as Read
-use Rattle.put_node.specs.declared.NodeRead.the-variants.{Put, Refused}
-use Rattle.put_node.proofs.OwnLaws.{text-shorter}
-use Rattle.put_node.specs.declared.Below.{Below}
-use Rattle.put_node.specs.declared.Below.the-variants.{Nothing, First, All, Values}
+use Rattle.node_type.specs.declared.Below.{Below}
+use Rattle.node_type.specs.declared.TypeRead.{TypeRead}
+use Rattle.node_type.specs.declared.TypeRead.the-variants as Read
+use Rattle.node_type.specs.Types.{Told}
+use Rattle.node_type.specs.Visits.{belowOf, lacksChild}
+use Rattle.node_type.specs.NodeTypes.{IsText, columnType, ShapeTold}
+use Rattle.node_lines.specs.Pieces.{typePiece, ownText, typeLine, extensionLine, nodeText}
 use Rattle.put_node.specs.declared.Own.{Own}
 use Rattle.put_node.specs.declared.Visit.{Visit}
-use Rattle.put_node.specs.Types.{Told}
-use Rattle.put_node.specs.Visits.{belowOf}
-use Rattle.put_node.specs.NodeTypes.{IsText, textIn, columnType, lacksChild, childrenBelow, visitOf, ShapeTold}
-use Rattle.put_node.specs.Pieces.{typePiece, ownText, typeLine, extensionLine, nodeText, columnAnswer, OwnPuts, PutsOwn, HasMetadata}
+use Rattle.put_node.specs.declared.NodeRead.the-variants.{Put, Refused}
+use Rattle.put_node.specs.Visits.{childrenBelow, visitOf}
+use Rattle.put_node.specs.Own.{columnAnswer, OwnPuts, PutsOwn, HasColumns}
 use Rattle.put_node.specs.Nodes.{lineType, nodeLines, Plan, Owns, NodeAt, PutsNode}
+use Rattle.put_node.proofs.VisitLaws.{line-plan, column-there, children-there, visit-own}
 
 -- ── the length of the line
 
@@ -92,67 +90,6 @@ module _ (s : Bytes) (l : SchemaLine) (x : Line) (w : Shows s l x) where
       ∙ ap (λ (n : ℕ). formatText (x .0) >>= λ f. nodeShape f (x .1 .1 .0) n (l .dictionary)) (w .children)
       ∙ ap (λ (n : ℕ). formatText (x .0) >>= λ f. nodeShape f (x .1 .1 .0) (childrenOf x) n) (w .dictionary)
 
--- ── what it visits
-
-given-is : {A : Type 0} {a b : A} → given a ≡ given b → a ≡ b
-given-is {a = a} e = ap (givenOr a) e
-
-last-one : (c : ℕ) → suc c ≡ suc (suc c - 1)
-last-one c = ap suc (omega arith)
-
-needed-plan : (g : Format) (c : ℕ) (sh : Shape) (o : Own) → needed g c ≡ given sh → Plan sh c 0 (visitOf (belowOf sh) c o) × (visitOf (belowOf sh) c o .bare ≡ isBare sh)
-needed-plan (scalarFormat s) c sh o e = subst (λ (y : Shape). Plan y c 0 (visitOf (belowOf y) c o) × (visitOf (belowOf y) c o .bare ≡ isBare y)) (given-is e) ((refl, refl, refl, refl), refl)
-needed-plan (nestingFormat n) zero sh o e = absurd (true≢false (sym (ap gives e)))
-needed-plan (nestingFormat n) (suc c) sh o e =
-    subst (λ (y : Shape). Plan y (suc c) 0 (visitOf (belowOf y) (suc c) o) × (visitOf (belowOf y) (suc c) o .bare ≡ isBare y)) (given-is e) ((refl, refl, refl, last-one c), refl)
-needed-plan (groupingFormat g) c sh o e = subst (λ (y : Shape). Plan y c 0 (visitOf (belowOf y) c o) × (visitOf (belowOf y) c o .bare ≡ isBare y)) (given-is e) ((refl, refl, refl, refl), refl)
-
-shape-plan : (f : Bytes) (flags : ℤ) (c d : ℕ) (sh : Shape) (o : Own) → d < 2 → nodeShape f flags c d ≡ given sh
-    → Plan sh c d (visitOf (belowOf sh) c o) × (visitOf (belowOf sh) c o .bare ≡ isBare sh)
-shape-plan f flags c zero sh o h e =
-    let (g, is, told) = first-gave (readFormat (isSorted flags) f) (λ g. needed g c) sh e in
-    needed-plan g c sh o told
-shape-plan f flags c (suc zero) sh o h e =
-    let (ix, is, told) = first-gave (toIntegerType f) (λ ix. given (ofDictionary ix (isOrdered flags))) sh e in
-    subst (λ (y : Shape). Plan y c 1 (visitOf (belowOf y) c o) × (visitOf (belowOf y) c o .bare ≡ isBare y)) (given-is told) ((refl, refl, refl, refl), refl)
-shape-plan f flags c (suc (suc d)) sh o h e = absurd (omega arith)
-
-pub line-plan : (x : Line) (sh : Shape) (o : Own) → dictionaryOf x < 2 → lineType x ≡ given sh
-    → Plan sh (childrenOf x) (dictionaryOf x) (visitOf (belowOf sh) (childrenOf x) o) × (visitOf (belowOf sh) (childrenOf x) o .bare ≡ isBare sh)
-unfolding lineType
-line-plan x sh o h e =
-    let (f, is, told) = first-gave (formatText (nodeOf x .format)) (λ f. nodeShape f (nodeOf x .flags) (childrenOf x) (dictionaryOf x)) sh e in
-    shape-plan f (nodeOf x .flags) (childrenOf x) (dictionaryOf x) sh o h told
-
--- the needed child is there
-needed-there : (g : Format) (c : ℕ) (sh : Shape) → needed g c ≡ given sh → lacksChild (belowOf sh) c ≡ false
-needed-there (scalarFormat s) c sh e = subst (λ (y : Shape). lacksChild (belowOf y) c ≡ false) (given-is e) refl
-needed-there (nestingFormat n) zero sh e = absurd (true≢false (sym (ap gives e)))
-needed-there (nestingFormat n) (suc c) sh e = subst (λ (y : Shape). lacksChild (belowOf y) (suc c) ≡ false) (given-is e) (ne-eqb (suc c) 0 (λ h. absurd (omega arith)))
-needed-there (groupingFormat g) c sh e = subst (λ (y : Shape). lacksChild (belowOf y) c ≡ false) (given-is e) refl
-
-shape-there : (f : Bytes) (flags : ℤ) (c d : ℕ) (sh : Shape) → nodeShape f flags c d ≡ given sh → lacksChild (belowOf sh) c ≡ false
-shape-there f flags c zero sh e =
-    let (g, is, told) = first-gave (readFormat (isSorted flags) f) (λ g. needed g c) sh e in
-    needed-there g c sh told
-shape-there f flags c (suc d) sh e =
-    let (ix, is, told) = first-gave (toIntegerType f) (λ ix. given (ofDictionary ix (isOrdered flags))) sh e in
-    subst (λ (y : Shape). lacksChild (belowOf y) c ≡ false) (given-is told) refl
-
-pub column-there : (t : Bytes) (l : SchemaLine) (sh : Shape) → columnType t l ≡ given sh → lacksChild (belowOf sh) (l .children) ≡ false
-unfolding columnType
-column-there t l sh e =
-    let (y, is, told) = first-gave (readText t) (λ y. formatText y >>= λ f. nodeShape f (l .flags) (l .children) (l .dictionary)) sh e in
-    let (f, is2, told2) = first-gave (formatText y) (λ f. nodeShape f (l .flags) (l .children) (l .dictionary)) sh told in
-    shape-there f (l .flags) (l .children) (l .dictionary) sh told2
-
-pub children-there : (sh : Shape) (c : ℕ) → childrenBelow (belowOf sh) c ≡ below sh c
-children-there (ofScalar s) c = refl
-children-there (ofNesting n) c = refl
-children-there (ofGrouping g) c = refl
-children-there (ofDictionary ix ordered) c = refl
-children-there (ofExtension n m) c = refl
-
 -- ── its lines
 
 type-piece : (f : Bytes) (sh : Shape) (c : TypeColumns) → Told f sh c → columnsPiece (columns sh) ≡ typePiece f c
@@ -192,40 +129,30 @@ module _ (s : Bytes) (l : SchemaLine) (x : Line) (w : Shows s l x) (f : Bytes) (
       → columnAnswer f c k bare (part s (l .name .start) (l .name .end)) flag (part s (l .metadata .start) (l .metadata .end)) ≡ (nodeLines bare x sh >>= λ ls. given (ended ls))
   unfolding nodeLines
   answer k flag g u =
-      ap (λ (a : Answer (Option Bytes)). a >>= λ y. metadataFromBytes y >>= rest k flag) (w .metadata .reads)
-      ∙ ap (λ (j : ℕ). metadataFromBytes (x .1 .1 .1 .0) >>= rest j flag) g
-      ∙ ap (λ (b : Bool). metadataFromBytes (x .1 .1 .1 .0) >>= rest (below sh (childrenOf x)) b) u
+      ap (λ (a : Answer (Option Bytes)). ((a >>= λ y. metadataFromBytes y) >>= λ o. readText (part s (l .name .start) (l .name .end)) >>= λ y. nameText y >>= λ n. given o) >>= text k flag) (w .metadata .reads)
+      ∙ ap (λ (a : Answer (Option Bytes)). (metadataFromBytes (x .1 .1 .1 .0) >>= λ o. a >>= λ y. nameText y >>= λ n. given o) >>= text k flag) (w .name .reads)
+      ∙ ap (λ (j : ℕ). (metadataFromBytes (x .1 .1 .1 .0) >>= λ o. nameText (x .1 .0) >>= λ n. given o) >>= text j flag) g
+      ∙ ap (λ (b : Bool). (metadataFromBytes (x .1 .1 .1 .0) >>= λ o. nameText (x .1 .0) >>= λ n. given o) >>= text (below sh (childrenOf x)) b) u
       ∙ metadata (metadataFromBytes (x .1 .1 .1 .0))
     where
-      rest : ℕ → Bool → Option (List Pair) × Option Extension → Answer Bytes
-      rest j b o =
-          readText (part s (l .name .start) (l .name .end)) >>= λ y. nameText y >>= λ n. given (nodeText f c j bare (part s (l .name .start) (l .name .end)) b (writeList pairText (o .0)) (o .1))
+      text : ℕ → Bool → Option (List Pair) × Option Extension → Answer Bytes
+      text j b o = given (nodeText f c j bare (part s (l .name .start) (l .name .end)) b (writeList pairText (o .0)) (o .1))
 
-      lines : Option (List Pair) × Option Extension → Bytes → List Bytes
-      lines o n = ownLines bare sh (below sh (childrenOf x)) (record { name = n; nullable = nullable (nodeOf x .flags); pairs = o .0 }) (o .1)
+      own : Option (List Pair) × Option Extension → Bytes → Info × Option Extension
+      own o n = (record { name = n; nullable = nullable (nodeOf x .flags); pairs = o .0 }, o .1)
 
       named : (o : Option (List Pair) × Option Extension) (a : Answer Bytes) → nameText (x .1 .0) ≡ a
-          → (a >>= λ n. given (nodeText f c (below sh (childrenOf x)) bare (part s (l .name .start) (l .name .end)) (nullable (nodeOf x .flags)) (writeList pairText (o .0)) (o .1)))
-          ≡ (a >>= λ n. given (ended (lines o n)))
+          → ((a >>= λ n. given o) >>= text (below sh (childrenOf x)) (nullable (nodeOf x .flags)))
+          ≡ (((a >>= λ n. given (own o n)) >>= λ (y : Info × Option Extension). given (ownLines bare sh (below sh (childrenOf x)) (y .0) (y .1))) >>= λ ls. given (ended ls))
       named o (refused r) e = refl
       named o (given n) e =
-          ap given (node-text f sh c t (below sh (childrenOf x)) bare (part s (l .name .start) (l .name .end)) (x .1 .0) (w .name .reads)
-          (record { name = n; nullable = nullable (nodeOf x .flags); pairs = o .0 }) e (o .1))
-
-      joined : (o : Option (List Pair) × Option Extension) (a : Answer Bytes)
-          → (a >>= λ n. given (ended (lines o n)))
-          ≡ (((a >>= λ n. given (record { name = n; nullable = nullable (nodeOf x .flags); pairs = o .0 }, o .1)) >>= λ (y : Info × Option Extension). given (ownLines bare sh (below sh (childrenOf x)) (y .0) (y .1))) >>= λ ls. given (ended ls))
-      joined o (refused r) = refl
-      joined o (given n) = refl
+          ap given (node-text f sh c t (below sh (childrenOf x)) bare (part s (l .name .start) (l .name .end)) (x .1 .0) (w .name .reads) (own o n .0) e (o .1))
 
       metadata : (a : Answer (Option (List Pair) × Option Extension))
-          → (a >>= rest (below sh (childrenOf x)) (nullable (nodeOf x .flags)))
-          ≡ (((a >>= λ o. nameText (x .1 .0) >>= λ n. given (record { name = n; nullable = nullable (nodeOf x .flags); pairs = o .0 }, o .1)) >>= λ (y : Info × Option Extension). given (ownLines bare sh (below sh (childrenOf x)) (y .0) (y .1))) >>= λ ls. given (ended ls))
+          → ((a >>= λ o. nameText (x .1 .0) >>= λ n. given o) >>= text (below sh (childrenOf x)) (nullable (nodeOf x .flags)))
+          ≡ (((a >>= λ o. nameText (x .1 .0) >>= λ n. given (own o n)) >>= λ (y : Info × Option Extension). given (ownLines bare sh (below sh (childrenOf x)) (y .0) (y .1))) >>= λ ls. given (ended ls))
       metadata (refused r) = refl
-      metadata (given o) =
-          ap (λ (a : Answer (Option Bytes)). a >>= λ y. nameText y >>= λ n. given (nodeText f c (below sh (childrenOf x)) bare (part s (l .name .start) (l .name .end)) (nullable (nodeOf x .flags)) (writeList pairText (o .0)) (o .1))) (w .name .reads)
-          ∙ named o (nameText (x .1 .0)) refl
-          ∙ joined o (nameText (x .1 .0))
+      metadata (given o) = named o (nameText (x .1 .0)) refl
 
   -- the node's lines are written, or their refusal is pending
   pub owned : (k : ℕ) (flag : Bool) → k ≡ below sh (childrenOf x) → flag ≡ nullable (nodeOf x .flags) → (o : Own) (v : Visit) (out end : Bytes) → v .len ≡ o .len → v .pending ≡ o .pending
@@ -233,12 +160,6 @@ module _ (s : Bytes) (l : SchemaLine) (x : Line) (w : Shows s l x) (f : Bytes) (
   owned k flag g u o v out end a b h = owns (nodeLines bare x sh) _ o v out end a b (answer k flag g u) h
 
 -- ── `put_node`
-
-visit-own : (b : Below) (c : ℕ) (o : Own) → (visitOf b c o .len ≡ o .len) × (visitOf b c o .pending ≡ o .pending)
-visit-own Nothing c o = (refl, refl)
-visit-own First c o = (refl, refl)
-visit-own All c o = (refl, refl)
-visit-own Values c o = (refl, refl)
 
 part-within : (s : Bytes) (a b : ℕ) → length (part s a b) ≤ length s
 part-within s a b = omega (arith, length-take (b - a) (drop a s), length-drop a s)
@@ -267,20 +188,18 @@ module _ (s : Bytes) (at : ℕ) (l : SchemaLine) (es fs : List ℕ) (p : NodeAt 
         told-text : Told f (told .0) c
         told-text = subst (λ (y : Bytes). Told y (told .0) c) (sym g) (told .2)
 
-        pub columns-ready : HasMetadata f c n m es fs
+        pub columns-ready : HasColumns f c n m es fs
         columns-ready =
+            let within = part-within s (l .metadata .start) (l .metadata .end) in
             record {
-              columns = record {
-                place = told-text .place;
-                format = omega (arith, format-short, part-within s (l .format .start) (l .format .end), p .short);
-                named = omega (arith, ap length u, part-within s (l .name .start) (l .name .end), p .short);
-                isName = (p .line .line .1 .0, ap readText u ∙ p .line .shows .name .reads);
-              };
-              isMetadata = (p .line .line .1 .1 .1 .0, ap readText v ∙ p .line .shows .metadata .reads);
-              short = omega (arith, ap length v, part-within s (l .metadata .start) (l .metadata .end), p .short);
-              room = record {
-                entries = omega (arith, ap length v, part-within s (l .metadata .start) (l .metadata .end), p .room .entries);
-                spare = omega (arith, ap length v, part-within s (l .metadata .start) (l .metadata .end), p .room .spare);
+              place = told-text .place;
+              format = omega (arith, format-short, part-within s (l .format .start) (l .format .end), p .short);
+              named = omega (arith, ap length u, part-within s (l .name .start) (l .name .end), p .short);
+              isName = (p .line .line .1 .0, ap readText u ∙ p .line .shows .name .reads);
+              metadata = record {
+                isText = (p .line .line .1 .1 .1 .0, ap readText v ∙ p .line .shows .metadata .reads);
+                short = omega (arith, ap length v, within, p .short);
+                room = record { entries = omega (arith, ap length v, within, p .room .entries); spare = omega (arith, ap length v, within, p .room .spare) };
               };
             }
 

@@ -1,83 +1,87 @@
+-- `put_text` meets its contract: by cases of the text. Assumes nothing.
+use Rattle.node_lines.proofs.LineLaws.{rest-short, text-none, zone-place, text-zone, ids-place, ids-there, text-ids}
+use Rattle.node_lines.proofs.WriteLaws.{put-same}
+use Rattle.format.specs.Told.{textOf, idsText}
+use Rattle.hex.specs.Hex.{bytesOf}
+use native.Mathlib.Omega.{arith}
+use lib.ListN.{length, take, drop}
+use mathlib.Core.List.{[], _∷_}
+use Prim.Native.Nat.{_-_}
 use borrow.Author.Needs.{needs}
 use Rattle.node_lines.proofs.put_text.Statement.{statement}
 use Rattle.node_lines.proofs.put_text.Tie as tie
-use Rattle.node_lines.proofs.put_text.Reads as reads
-use Rattle.node_lines.proofs.put_text.Lts as lts
-use Rattle.buffer.proofs.put_at.Reads as put-at-reads
-use Rattle.field_line.proofs.put_byte.Reads as put-byte-reads
-use Rattle.format.proofs.put_ids.Reads as put-ids-reads
 
--- src/lib.rt:23:50
 enum-told : tie.Need-enum-told
 enum-told c = search needs
 
--- src/lib.rt:23:29
 put-byte-requires : tie.Need-put-byte-requires
 put-byte-requires c κs = search needs
 
--- src/lib.rt:24:24
 enum-known-text : tie.Need-enum-known-text
 enum-known-text c = search needs
 
--- src/lib.rt:24:54
 sub-put-at : tie.Need-sub-put-at
-sub-put-at c = ?
+sub-put-at c = let st = c .before .before .before .before .before .before in zone-place (st .args .f .now) (st .args .text) _ (c .before .before .text .given .1) (st .pre .place)
 
--- src/lib.rt:24:54
 part-put-at-start : tie.Need-part-put-at-start
-part-put-at-start c = ?
+part-put-at-start c = let st = c .before .before .before .before .before .before in zone-place (st .args .f .now) (st .args .text) _ (c .before .before .text .given .1) (st .pre .place)
 
--- src/lib.rt:24:54
 part-put-at-end : tie.Need-part-put-at-end
 part-put-at-end c = search needs
 
--- src/lib.rt:24:30
 put-at-requires : tie.Need-put-at-requires
 put-at-requires c κs = search needs
 
--- src/lib.rt:25:23
 enum-known-text-2 : tie.Need-enum-known-text-2
 enum-known-text-2 c = search needs
 
--- src/lib.rt:25:54
 sub-put-ids : tie.Need-sub-put-ids
-sub-put-ids c = ?
+sub-put-ids c = let st = c .before .before .before .before .before .before in ids-place (st .args .f .now) (st .args .text) _ (c .before .before .text2 .given .1) (st .pre .place)
 
--- src/lib.rt:25:54
 part-put-ids-start : tie.Need-part-put-ids-start
-part-put-ids-start c = ?
+part-put-ids-start c = let st = c .before .before .before .before .before .before in ids-place (st .args .f .now) (st .args .text) _ (c .before .before .text2 .given .1) (st .pre .place)
 
--- src/lib.rt:25:54
 part-put-ids-end : tie.Need-part-put-ids-end
 part-put-ids-end c = search needs
 
--- src/lib.rt:25:29
 put-ids-requires : tie.Need-put-ids-requires
-put-ids-requires c κs = ?
+put-ids-requires c κs =
+    let st = c .before .before .before .before .before .before .before in
+    let k = c .before .before .before .text2 .given in
+    (ids-there (st .args .f .now) (st .args .text) (k .0 .0) (k .1) (st .pre .place), omega (arith, st .pre .low, st .pre .format, rest-short (k .0 .0) (st .args .f .now)))
 
--- src/lib.rt:18:1
 same-length : tie.Need-same-length
 same-length c = search needs
 
--- src/lib.rt:18:1
 returns : tie.Need-returns
-returns c = ?
+returns c =
+    let a = c .before .before .before .before .before .before .before .before .args in
+    let put = c .before .before .put-byte .ensures in
+    (put-same (a .at) (a .out .now) (126 ∷ []) (textOf (a .f .now) (a .text)) (text-none (a .f .now) (a .text) (c .before .before .before .before .enum-told .given .1)) put, omega (arith, put .0))
 
--- src/lib.rt:18:1
 same-length-2 : tie.Need-same-length-2
 same-length-2 c = search needs
 
--- src/lib.rt:18:1
 returns-2 : tie.Need-returns-2
-returns-2 c = ?
+returns-2 c =
+    let a = c .before .before .before .before .before .before .before .before .before .before .args in
+    let k = c .before .before .before .before .before .before .text .given in
+    let put = c .before .before .put-at .ensures in (
+      put-same (a .at) (a .out .now) (take (length (a .f .now) - k .0 .0) (drop (k .0 .0) (a .f .now))) (textOf (a .f .now) (a .text)) (text-zone (a .f .now) (a .text) (k .0 .0) (k .1)) put,
+      omega (arith, put .0, rest-short (k .0 .0) (a .f .now)),
+    )
 
--- src/lib.rt:18:1
 same-length-3 : tie.Need-same-length-3
 same-length-3 c = search needs
 
--- src/lib.rt:18:1
 returns-3 : tie.Need-returns-3
-returns-3 c = ?
+returns-3 c =
+    let a = c .before .before .before .before .before .before .before .before .before .before .args in
+    let k = c .before .before .before .before .before .before .text2 .given in
+    let put = c .before .before .put-ids .ensures in (
+      put-same (a .at) (a .out .now) (idsText (bytesOf (take (length (a .f .now) - k .0 .0) (drop (k .0 .0) (a .f .now))))) (textOf (a .f .now) (a .text)) (text-ids (a .f .now) (a .text) (k .0 .0) (k .1)) (put .0, put .1),
+      omega (arith, put .2, rest-short (k .0 .0) (a .f .now)),
+    )
 
 pub put-text-spec : {M : Type 1} → statement M
 put-text-spec =

@@ -1,8 +1,8 @@
 -- `visit_of` meets its contract: by cases of what the type visits. Assumes nothing.
 use mathlib.Core.Path.{sym, ap}
-use Rattle.put_node.specs.declared.Below.{Below}
-use Rattle.put_node.specs.NodeTypes.{visitOf}
-use Rattle.put_node.proofs.TypeLaws.{has-first}
+use Rattle.node_type.specs.declared.Below.{Below}
+use Rattle.put_node.specs.Visits.{visitOf}
+use Rattle.put_node.proofs.VisitLaws.{has-first}
 use borrow.Author.Needs.{needs}
 use Rattle.put_node.proofs.visit_of.Statement.{statement}
 use Rattle.put_node.proofs.visit_of.Tie as tie
