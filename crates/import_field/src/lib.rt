@@ -3,7 +3,7 @@ ghost use mathlib.Core.Path.{_≡_};
 ghost use Prim.Native.Nat.{suc, _≤_};
 ghost use lib.ListN.{length, replicate};
 ghost use Rattle.sheets.specs.Outcome.{importOutcome};
-ghost use Rattle.put_node.specs.Pieces.{HasRoom};
+ghost use Rattle.put_node.specs.Own.{HasRoom};
 ghost use Rattle.import_field.specs.Contracts.{HasField, HasFields, HasLeft};
 ghost use Rattle.import_field.specs.Contracts.{FieldBegins, FieldEnds, FieldWrote, FieldsWrote, SheetWrote, outcomeOf};
 use put_node::NodeRead;
