@@ -3,7 +3,7 @@
 use mathlib.Core.Path.{_≡_, refl, sym, ap, ap₂, subst, _∙_}
 use mathlib.Core.Bool.{Bool, true, false, _||_, not, cond}
 use mathlib.Core.List.{[], _∷_, _++_}
-use Prim.Native.Nat.{ℕ, suc, _+_, _-_, _≤_, _<_}
+use Prim.Native.Nat.{ℕ, zero, suc, _+_, _-_, _%_, _≤_, _<_}
 use native.Mathlib.Numerals.{add-one}
 use native.Mathlib.Omega.{arith}
 use lib.Dec.{eqb}
@@ -12,7 +12,11 @@ use lib.Seq.{drop-cons, drop-drop, drop-at, length-take-le, take-append-seam, dr
 use borrow.Author.Tests.{eq-eqb, ne-eqb, not-true}
 use Rattle.sheets.specs.Rule.{Meets}
 use Rattle.sheets.specs.Bytes.{Bytes, lacks}
-use Rattle.schema_sheet.specs.Columns.{part, isStop, columnLength, ColumnAt}
+use Rattle.sheets.proofs.Tests.{and-left, and-right}
+use Rattle.hex.specs.Hex.{isDigit, isHex}
+use Rattle.hex.proofs.DigitLaws.{low}
+use Rattle.hex.proofs.HexLaws.{allDigits, even-digits}
+use Rattle.schema_sheet.specs.Columns.{part, isStop, columnLength, Passes, ColumnAt}
 
 -- ── one byte
 
@@ -71,6 +75,57 @@ cut-at : (c r : Bytes) (stop : ℕ) → isStop stop ≡ true → Meets (lacks 32
 unfolding columnLength
 cut-at [] r stop e h k = rw e
 cut-at (x ∷ c) r stop e h k = rw (not-true (eqb x 32) (h .0), not-true (eqb x 10) (k .0), cut-at c r stop e (h .1) (k .1))
+
+-- in digits no column ends
+pub digits-pass : (c : Bytes) → allDigits c ≡ true → columnLength c ≡ length c
+unfolding columnLength
+digits-pass [] h = refl
+digits-pass (x ∷ c) h =
+    let d = low x (and-left (isDigit x) (allDigits c) h) in
+    let on : isStop x ≡ false = other-goes-on x (λ e. omega arith) (λ e. omega arith) in
+    rw (on, digits-pass c (and-right (isDigit x) (allDigits c) h))
+
+-- a look at the first n bytes finds the end, or passes them
+cut-near : (n : ℕ) (b : Bytes) → columnLength (take n b) < n → n ≤ length b → columnLength b ≡ columnLength (take n b)
+unfolding columnLength
+cut-near zero b h l = absurd (omega arith)
+cut-near (suc n) [] h l = absurd (omega arith)
+cut-near (suc n) (x ∷ b) h l = pick (isStop x) h (λ k. cut-near n b k (omega arith))
+  where
+    pick : (t : Bool) → cond t 0 (suc (columnLength (take n b))) < suc n → (columnLength (take n b) < n → columnLength b ≡ columnLength (take n b))
+        → cond t 0 (suc (columnLength b)) ≡ cond t 0 (suc (columnLength (take n b)))
+    pick true h i = refl
+    pick false h i = ap suc (i (omega arith))
+
+cut-past : (n : ℕ) (b : Bytes) → n ≤ columnLength (take n b) → n ≤ length b → columnLength b ≡ n + columnLength (drop n b)
+unfolding columnLength
+cut-past zero b h l = omega arith
+cut-past (suc n) [] h l = absurd (omega arith)
+cut-past (suc n) (x ∷ b) h l = pick (isStop x) h (λ k. cut-past n b k (omega arith))
+  where
+    pick : (t : Bool) → suc n ≤ cond t 0 (suc (columnLength (take n b))) → (n ≤ columnLength (take n b) → columnLength b ≡ n + columnLength (drop n b))
+        → cond t 0 (suc (columnLength b)) ≡ suc n + columnLength (drop n b)
+    pick true h i = absurd (omega arith)
+    pick false h i = omega (arith, i (omega arith))
+
+module _ (s : Bytes) (a e : ℕ) (below : a ≤ e) (high : e ≤ length s) where
+  near-size : length (part s a e) ≡ e - a
+  near-size = length-take (e - a) (drop a s) ∙ omega (arith, length-drop a s)
+
+  pub near-short : columnLength (part s a e) ≤ e - a
+  near-short = omega (arith, cut-short (part s a e), near-size)
+
+  pub near-end : columnLength (part s a e) < e - a → columnLength (drop a s) ≡ columnLength (part s a e)
+  near-end h = cut-near (e - a) (drop a s) h (omega (arith, length-drop a s))
+
+  pub near-passed : e - a ≤ columnLength (part s a e) → Passes s a e
+  near-passed h =
+      let n : a + (e - a) ≡ e = omega arith in
+      (high, omega (arith, cut-past (e - a) (drop a s) h (omega (arith, length-drop a s)), ap columnLength (drop-drop (e - a) a s ∙ ap (λ (m : ℕ). drop m s) n)))
+
+  pub digits-passed : isHex (part s a e) ≡ true → Passes s a e
+  digits-passed h =
+      near-passed (omega (arith, digits-pass (part s a e) (and-right (eqb (length (part s a e) % 2) 0) (allDigits (part s a e)) (sym (even-digits (part s a e)) ∙ h)), near-size))
 
 -- ── columns
 

@@ -1,9 +1,9 @@
 -- A text's column: one byte, `~` or `-`, or pairs of digits; and byte 00 in it, which is the pair 00. Assumes nothing.
 use mathlib.Core.Path.{_≡_, refl, sym, ap, ap₂, _∙_}
-use mathlib.Core.Bool.{Bool, true, false, _&&_, _||_, cond, true≢false}
+use mathlib.Core.Bool.{Bool, true, false, _&&_, _||_, not, cond, true≢false}
 use mathlib.Core.List.{[], _∷_}
 use mathlib.Core.Option.{Option, none, some}
-use Prim.Native.Nat.{ℕ, _+_, _*_, _/_, _≤_, _<_}
+use Prim.Native.Nat.{ℕ, suc, _+_, _*_, _/_, _≤_, _<_}
 use native.Mathlib.Numerals.{add-one}
 use native.Mathlib.Omega.{arith}
 use lib.Dec.{eqb}
@@ -114,14 +114,17 @@ module _ (s : Bytes) (h : isHex s ≡ true) (k : ℕ) where
   there : 2 * k + 1 < length s → k < length (bytesOf s)
   there l = omega (arith, length-bytes s h)
 
-  pub zero-there : 2 * k + 1 < length s → isZero (getD s (2 * k) 0) (getD s (2 * k + 1) 0) ≡ true → passes (lacks 0 (drop k (bytesOf s))) ≡ false
-  zero-there l z = rw (drop-cons (bytesOf s) k 0 (there l), zero-pair l ∙ z)
+  pub zero-next : (ok : Bool) → 2 * k + 1 < length s
+      → (ok && passes (lacks 0 (drop k (bytesOf s)))) ≡ ((ok && not (isZero (getD s (2 * k) 0) (getD s (2 * k + 1) 0))) && passes (lacks 0 (drop (k + 1) (bytesOf s))))
+  zero-next false l = refl
+  zero-next true l =
+      ap (λ (c : Bytes). passes (lacks 0 c)) (drop-cons (bytesOf s) k 0 (there l))
+      ∙ ap (λ (t : Bool). not t && passes (lacks 0 (drop (suc k) (bytesOf s)))) (zero-pair l)
+      ∙ ap (λ (n : ℕ). not (isZero (getD s (2 * k) 0) (getD s (2 * k + 1) 0)) && passes (lacks 0 (drop n (bytesOf s)))) (sym (add-one k))
 
-  pub zero-not : 2 * k + 1 < length s → isZero (getD s (2 * k) 0) (getD s (2 * k + 1) 0) ≡ false → passes (lacks 0 (drop k (bytesOf s))) ≡ passes (lacks 0 (drop (k + 1) (bytesOf s)))
-  zero-not l z = rw (drop-cons (bytesOf s) k 0 (there l), zero-pair l ∙ z, add-one)
-
-  pub zero-end : length s / 2 ≤ k → passes (lacks 0 (drop k (bytesOf s))) ≡ true
-  zero-end l = rw (drop-of-length-le (bytesOf s) {i = k} (omega (arith, length-bytes s h)))
+  pub zero-end : (ok : Bool) → length s / 2 ≤ k → (ok && passes (lacks 0 (drop k (bytesOf s)))) ≡ ok
+  zero-end false l = refl
+  zero-end true l = rw (drop-of-length-le (bytesOf s) {i = k} (omega (arith, length-bytes s h)))
 
 -- ── C strings
 

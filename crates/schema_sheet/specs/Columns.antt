@@ -35,6 +35,10 @@ unfoldable pub columnLength : Bytes → ℕ
 columnLength [] = 0
 columnLength (b ∷ bs) = cond (isStop b) 0 (suc (columnLength bs))
 
+-- no column ends from a on before e
+abbrev pub Passes : Bytes → ℕ → ℕ → Type 0
+Passes s a e = (e ≤ length s) × (a + columnLength (drop a s) ≡ e + columnLength (drop e s))
+
 -- a column stands from a to e, and the byte stop ends it
 pub record ColumnAt (s : Bytes) (a e stop : ℕ) : Type 0 where
   pub low : a ≤ e

@@ -8,7 +8,7 @@ ghost use Rattle.sheets.specs.Bytes.{lacks};
 ghost use Rattle.sheets.specs.Answer.{given};
 ghost use Rattle.sheets.specs.Number.{readNumber, readSigned};
 ghost use Rattle.hex.specs.Hex.{isHex, bytesOf};
-ghost use Rattle.schema_sheet.specs.Columns.{columnLength, isStop, isMark, isText, isZero, isCString, anyBytes, Finds, FindsNumber, FindsSigned, part, HasNumber, HasSigned};
+ghost use Rattle.schema_sheet.specs.Columns.{columnLength, Passes, isStop, isMark, isText, isZero, isCString, anyBytes, Finds, FindsNumber, FindsSigned, part, HasNumber, HasSigned};
 ghost use Rattle.schema_sheet.specs.Lines.{partOf, LineAt, ReadsLine, Forms};
 ghost use Rattle.schema_sheet.specs.Trees.{HasTree, HasRow, Skips, SkipsRow, ReadsTree, ReadsRow};
 ghost use Rattle.schema_sheet.specs.Sheets.{isHeaded, ReadsSheet};
@@ -56,8 +56,8 @@ pub enum SheetRead {
     Refused(u8),
 }
 
-// The first place from at on whose byte ends a column, or the sheet's end.
-fn column_end(s: &[u8], at: usize) -> usize
+// The first place from at on whose byte ends a column, or the end, one byte after the other.
+fn scan(s: &[u8], at: usize) -> usize
     ensures { λ r. ⌜ r ≡ at + columnLength (drop at (now (s .entry))) ⌝ }
 {
     let mut i = at;
@@ -72,6 +72,37 @@ fn column_end(s: &[u8], at: usize) -> usize
         i += 1;
     }
     i
+}
+
+// A place after blocks of digits, in which no column ends: a block is tested by vector instructions.
+fn pass_digits(s: &[u8], at: usize) -> usize
+    requires { ⌜ at ≤ length (now s) ⌝ }
+    ensures { λ r. ⌜ Passes (now (s .entry)) at r ⌝ }
+{
+    let mut i = at;
+    while 32 <= s.len() - i {
+        let next = i + 32;
+        if !hex::is_hex(&s[i..next]) {
+            return i;
+        }
+        i = next;
+    }
+    i
+}
+
+// The first place from at on whose byte ends a column, or the sheet's end: by single bytes at first, since most columns are short.
+fn column_end(s: &[u8], at: usize) -> usize
+    ensures { λ r. ⌜ r ≡ at + columnLength (drop at (now (s .entry))) ⌝ }
+{
+    if s.len() <= at {
+        return at;
+    }
+    let near = at + buffer::within(16, s.len() - at);
+    let here = at + scan(&s[at..near], 0);
+    if here < near {
+        return here;
+    }
+    scan(s, pass_digits(s, near))
 }
 
 // The end of the column from place at on, if it is the byte stop.
@@ -121,21 +152,16 @@ fn is_zero(a: u8, b: u8) -> bool
     b == b'0'
 }
 
-// Whether no pair of s is 00.
+// Whether no pair of s is 00. Nothing leaves the loop early, so that it compiles to vector instructions.
 fn lacks_zero(s: &[u8]) -> bool
     requires { ⌜ isHex (now s) ≡ true ⌝ }
     ensures { λ r. ⌜ r ≡ passes (lacks 0 (bytesOf (now (s .entry)))) ⌝ }
 {
-    let n = s.len() / 2;
-    let mut k = 0;
-    while k < n {
-        let i = 2 * k;
-        if is_zero(s[i], s[i + 1]) {
-            return false;
-        }
-        k += 1;
+    let mut ok = true;
+    for k in 0..s.len() / 2 {
+        ok = ok & !is_zero(s[2 * k], s[2 * k + 1]);
     }
-    true
+    ok
 }
 
 fn is_c_string(s: &[u8]) -> bool

@@ -1,64 +1,65 @@
--- `schema_sheet::column_end` meets its contract. The loop's invariant: the column from `at` on ends where the one from `i` on does.
--- The measure is what is left of the length. Assumes nothing.
-use mathlib.Core.Path.{_≡_, refl}
-use Prim.Native.Nat.{_+_, _-_}
-use lib.ListN.{length, drop}
+-- `schema_sheet::column_end` meets its contract: the first bytes hold the end or are passed, then digits are passed, then the end is looked for.
+-- Assumes nothing.
 use native.Mathlib.Omega.{arith}
-use Rattle.schema_sheet.specs.Columns.{columnLength}
-use Rattle.schema_sheet.proofs.ColumnLaws.{space-stops, end-stops, other-goes-on, length-none, length-stop, length-more}
+use Prim.Native.Nat.{_+_}
+use Rattle.schema_sheet.proofs.ColumnLaws.{length-none, near-short, near-end, near-passed}
 use borrow.Author.Needs.{needs}
 use Rattle.schema_sheet.proofs.column_end.Statement.{statement}
 use Rattle.schema_sheet.proofs.column_end.Tie as tie
 
-abbrev Inv-loop : tie.InvT-loop
-Inv-loop s at i₀ i = at + columnLength (drop at s) ≡ i + columnLength (drop i s)
+returns : tie.Need-returns
+returns c = omega (arith, length-none (c .before .before .args .s .now) (c .before .before .args .at) (c .if1 .taken))
 
-abbrev μ-loop : tie.MeasureT-loop
-μ-loop s at i₀ i = length s - i
+sub-within : tie.Need-sub-within
+sub-within c = search needs
 
-loop-holds : tie.Need-loop-holds Inv-loop μ-loop
-loop-holds c = refl
+within-requires : tie.Need-within-requires
+within-requires c κs = search needs
 
-shared-slice-read-b : tie.Need-shared-slice-read-b Inv-loop μ-loop
-shared-slice-read-b c = search needs
+add-near : tie.Need-add-near
+add-near c = search needs
 
-returns : tie.Need-returns Inv-loop μ-loop
-returns c =
-    let l = c .before .before .before .loop in
-    omega (arith, l .inv, length-stop (c .before .before .before .before .args .s .now) (l .i) (c .before .before .loop-test .taken) (space-stops _ (c .if1 .taken)))
+sub-scan : tie.Need-sub-scan
+sub-scan c = search needs
 
-returns-2 : tie.Need-returns-2 Inv-loop μ-loop
-returns-2 c =
-    let l = c .before .before .before .before .loop in
-    omega (arith, l .inv, length-stop (c .before .before .before .before .before .args .s .now) (l .i) (c .before .before .before .loop-test .taken) (end-stops _ (c .if2 .taken)))
+part-scan-start : tie.Need-part-scan-start
+part-scan-start c = search needs
 
-add-i : tie.Need-add-i Inv-loop μ-loop
-add-i c = search needs
+part-scan-end : tie.Need-part-scan-end
+part-scan-end c = search needs
 
-loop-less : tie.Need-loop-less Inv-loop μ-loop
-loop-less c = search needs
+scan-requires : tie.Need-scan-requires
+scan-requires c κs = search needs
 
-loop-again : tie.Need-loop-again Inv-loop μ-loop
-loop-again c =
-    let l = c .before .before .before .before .loop in
-    omega (arith, l .inv, length-more (c .before .before .before .before .before .args .s .now) (l .i) (c .before .before .before .loop-test .taken) (other-goes-on _ (c .before .if1 .left) (c .if2 .left)))
+add-here : tie.Need-add-here
+add-here c = omega (arith, c .scan .ensures, near-short (c .before .before .before .before .before .args .s .now) (c .before .before .before .before .before .args .at) (c .before .before .before .before .before .args .at + c .before .before .within .result) (omega arith) (omega (arith, c .before .before .within .ensures)), c .before .before .within .ensures)
 
-returns-3 : tie.Need-returns-3 Inv-loop μ-loop
-returns-3 c =
-    let l = c .before .loop in
-    omega (arith, l .inv, length-none (c .before .before .args .s .now) (l .i) (c .loop-test .left))
+returns-2 : tie.Need-returns-2
+returns-2 c = omega (arith, c .before .scan .ensures, near-end (c .before .before .before .before .before .before .args .s .now) (c .before .before .before .before .before .before .args .at) (c .before .before .before .before .before .before .args .at + c .before .before .before .within .result) (omega arith) (omega (arith, c .before .before .before .within .ensures)) (omega (arith, c .before .scan .ensures)))
+
+pass-digits-requires : tie.Need-pass-digits-requires
+pass-digits-requires c κs = search needs
+
+scan-requires-2 : tie.Need-scan-requires-2
+scan-requires-2 c κs = search needs
+
+returns-3 : tie.Need-returns-3
+returns-3 c = omega (arith, c .scan2 .ensures, c .before .pass-digits .ensures .1, near-passed (c .before .before .before .before .before .before .before .before .args .s .now) (c .before .before .before .before .before .before .before .before .args .at) (c .before .before .before .before .before .before .before .before .args .at + c .before .before .before .before .before .within .result) (omega arith) (omega (arith, c .before .before .before .before .before .within .ensures)) (omega (arith, c .before .before .before .scan .ensures)) .1)
 
 pub column-end-spec : {M : Type 1} → statement M
 column-end-spec =
     tie.close
     (tie.spec
-    Inv-loop
-    μ-loop
-    loop-holds
-    shared-slice-read-b
     returns
+    sub-within
+    within-requires
+    add-near
+    sub-scan
+    part-scan-start
+    part-scan-end
+    scan-requires
+    add-here
     returns-2
-    add-i
-    loop-less
-    loop-again
+    pass-digits-requires
+    scan-requires-2
     returns-3)
