@@ -33,8 +33,8 @@ use Rattle.field_line.specs.Columns.{column, shapePiece, columnsPiece, namePiec
 use Rattle.field_line.proofs.ColumnLaws.{named-line, bare-line}
 use Rattle.field_line.specs.declared.TypeColumns.{TypeColumns}
 use Rattle.schema_line.specs.declared.SchemaLine.{SchemaLine}
-use Rattle.schema_sheet.specs.Columns.{part}
-use Rattle.schema_sheet.specs.Lines.{TextAt, Shows, LineAt}
+use Rattle.columns.specs.Columns.{part}
+use Rattle.read_line.specs.Lines.{TextAt, Shows, LineAt}
 use Rattle.put_node.specs.declared.TypeRead.{TypeRead}
 use Rattle.put_node.specs.declared.TypeRead.the-variants as Read
 use Rattle.put_node.specs.declared.NodeRead.the-variants.{Put, Refused}

@@ -17,7 +17,7 @@ ghost use Rattle.put_node.specs.Visits.{belowAt};
 ghost use Rattle.put_node.specs.Pieces.{IsPlace, CanPutIds, CanPutType, CanPutOwn, CanPutLine, CanPutExtension, typePiece, ownText, typeLine};
 ghost use Rattle.put_node.specs.Pieces.{CanPutLines, HasColumns, HasEntries, HasMetadata, Writes, PutsOwn, namedAnswer, textAnswer, columnAnswer, linesText, longest};
 ghost use Rattle.put_node.specs.Nodes.{NodeAt, PutsNode};
-ghost use Rattle.schema_sheet.specs.Columns.{part};
+ghost use Rattle.columns.specs.Columns.{part};
 ghost use Rattle.sheets.specs.Metadata.{metadataFromBytes};
 ghost use mathlib.Core.Option.{none, some};
 ghost use mathlib.Core.List.{[]};
