@@ -20,15 +20,11 @@ use Rattle.columns.specs.Columns.{part, isStop, columnLength, Passes, Co
 
 -- ── one byte
 
-or-true : (t : Bool) → (t || true) ≡ true
-or-true true = refl
-or-true false = refl
-
 pub space-stops : (b : ℕ) → b ≡ 32 → isStop b ≡ true
 space-stops b e = rw (eq-eqb b 32 e)
 
-pub end-stops : (b : ℕ) → b ≡ 10 → isStop b ≡ true
-end-stops b e = rw (eq-eqb b 10 e) (or-true (eqb b 32))
+pub not-space : (b : ℕ) → (b ≡ 32 → ⊥) → eqb b 10 ≡ isStop b
+not-space b h = rw (ne-eqb b 32 h)
 
 pub other-goes-on : (b : ℕ) → (b ≡ 32 → ⊥) → (b ≡ 10 → ⊥) → isStop b ≡ false
 other-goes-on b h k = rw (ne-eqb b 32 h, ne-eqb b 10 k)

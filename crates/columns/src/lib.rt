@@ -27,17 +27,26 @@ pub enum SignedColumn {
     Bad,
 }
 
-// The first place from at on whose byte ends a column, or the end, one byte after the other.
-fn scan(s: &[u8], at: usize) -> usize
+// Most bytes are past the space, so that one test is enough for them.
+fn is_stop(b: u8) -> bool
+    ensures { λ r. ⌜ r ≡ isStop b ⌝ }
+{
+    if b' ' < b {
+        return false;
+    }
+    if b == b' ' {
+        return true;
+    }
+    b == b'\n'
+}
+
+// The first place from at on whose byte ends a column, or the end, one byte after the other: for numbers, which are short.
+pub fn number_end(s: &[u8], at: usize) -> usize
     ensures { λ r. ⌜ r ≡ at + columnLength (drop at (now (s .entry))) ⌝ }
 {
     let mut i = at;
     while i < s.len() {
-        let b = s[i];
-        if b == b' ' {
-            return i;
-        }
-        if b == b'\n' {
+        if is_stop(s[i]) {
             return i;
         }
         i += 1;
@@ -61,27 +70,26 @@ fn pass_digits(s: &[u8], at: usize) -> usize
     i
 }
 
-// The first place from at on whose byte ends a column, or the sheet's end: by single bytes at first, since most columns are short.
-pub fn column_end(s: &[u8], at: usize) -> usize
+// The same for texts: by single bytes at first, since most are short, then by blocks.
+pub fn text_end(s: &[u8], at: usize) -> usize
     ensures { λ r. ⌜ r ≡ at + columnLength (drop at (now (s .entry))) ⌝ }
 {
     if s.len() <= at {
         return at;
     }
     let near = at + buffer::within(16, s.len() - at);
-    let here = at + scan(&s[at..near], 0);
+    let here = at + number_end(&s[at..near], 0);
     if here < near {
         return here;
     }
-    scan(s, pass_digits(s, near))
+    number_end(s, pass_digits(s, near))
 }
 
-// The end of the column from place at on, if it is the byte stop.
-fn column(s: &[u8], at: usize, stop: u8) -> Place
-    requires { ⌜ isStop stop ≡ true ⌝ }
+// The end e of the column from place at on, if it is the byte stop.
+fn column(s: &[u8], at: usize, e: usize, stop: u8) -> Place
+    requires { ⌜ (e ≡ at + columnLength (drop at (now s))) × (isStop stop ≡ true) ⌝ }
     ensures { λ r. ⌜ Finds anyBytes (now (s .entry)) at stop r ⌝ }
 {
-    let e = column_end(s, at);
     if s.len() <= e {
         return Place::Nowhere;
     }
@@ -151,7 +159,7 @@ fn is_c_string(s: &[u8]) -> bool
 pub fn text_column(s: &[u8], at: usize) -> Place
     ensures { λ r. ⌜ Finds isText (now (s .entry)) at 32 r ⌝ }
 {
-    let Place::At(e) = column(s, at, b' ') else {
+    let Place::At(e) = column(s, at, text_end(s, at), b' ') else {
         return Place::Nowhere;
     };
     if is_text(&s[at..e]) {
@@ -164,7 +172,7 @@ pub fn text_column(s: &[u8], at: usize) -> Place
 pub fn c_string_column(s: &[u8], at: usize) -> Place
     ensures { λ r. ⌜ Finds isCString (now (s .entry)) at 32 r ⌝ }
 {
-    let Place::At(e) = column(s, at, b' ') else {
+    let Place::At(e) = column(s, at, text_end(s, at), b' ') else {
         return Place::Nowhere;
     };
     if is_c_string(&s[at..e]) {
@@ -176,7 +184,7 @@ pub fn c_string_column(s: &[u8], at: usize) -> Place
 pub fn signed_column(s: &[u8], at: usize) -> SignedColumn
     ensures { λ r. ⌜ FindsSigned (now (s .entry)) at 32 r ⌝ }
 {
-    let Place::At(e) = column(s, at, b' ') else {
+    let Place::At(e) = column(s, at, number_end(s, at), b' ') else {
         return SignedColumn::Bad;
     };
     let Signed64::Value(z) = decimal::read_i64(&s[at..e]) else {
@@ -189,7 +197,7 @@ pub fn number_column(s: &[u8], at: usize, stop: u8) -> NumberColumn
     requires { ⌜ isStop stop ≡ true ⌝ }
     ensures { λ r. ⌜ FindsNumber (now (s .entry)) at stop r ⌝ }
 {
-    let Place::At(e) = column(s, at, stop) else {
+    let Place::At(e) = column(s, at, number_end(s, at), stop) else {
         return NumberColumn::Bad;
     };
     let Unsigned64::Value(n) = decimal::read_u64(&s[at..e]) else {

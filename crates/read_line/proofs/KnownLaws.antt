@@ -1,4 +1,4 @@
--- A line that is known to stand, walked from column to column: each end that `column_end` finds is the column's, so that all that the line says
+-- A line that is known to stand, walked from column to column: each end that `text_end` or `number_end` finds is the column's, so that all that the line says
 -- is where it is read.
 -- Assumes nothing.
 use mathlib.Core.Path.{_≡_, refl, sym, ap, subst, _∙_}

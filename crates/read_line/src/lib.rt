@@ -61,12 +61,12 @@ pub fn line_at(s: &[u8], at: usize) -> SchemaLine
     requires { ⌜ HasTree (now s) at ⌝ }
     ensures { λ r. ⌜ LineAt (now (s .entry)) at r ⌝ }
 {
-    let format = columns::column_end(s, at);
-    let name = columns::column_end(s, format + 1);
-    let flags = columns::column_end(s, name + 1);
-    let metadata = columns::column_end(s, flags + 1);
-    let children = columns::column_end(s, metadata + 1);
-    let dictionary = columns::column_end(s, children + 1);
+    let format = columns::text_end(s, at);
+    let name = columns::text_end(s, format + 1);
+    let flags = columns::number_end(s, name + 1);
+    let metadata = columns::text_end(s, flags + 1);
+    let children = columns::number_end(s, metadata + 1);
+    let dictionary = columns::number_end(s, children + 1);
     SchemaLine {
         format: between(at, format),
         name: between(format + 1, name),
