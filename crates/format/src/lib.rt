@@ -442,7 +442,7 @@ pub fn put_ids(out: &mut [u8], at: usize, f: &[u8]) -> usize
     let mut from = first + 1;
     while from <= n {
         let to = part_end(f, from);
-        let next = field_line::put_byte(out, end, b',');
+        let next = buffer::put_byte(out, end, b',');
         end = put_id(out, next, f, from, to);
         from = to + 1;
     }

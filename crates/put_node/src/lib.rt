@@ -243,7 +243,7 @@ fn put_number(out: &mut [u8], at: usize, n: u64) -> usize
     ensures { λ r. ⌜ (r ≡ at + length (column (decimal n))) × (now (out .exit) ≡ overAt at (column (decimal n)) (now (out .entry))) ⌝ }
 {
     let after = decimal::put_u64(out, at, n);
-    field_line::put_byte(out, after, b' ')
+    buffer::put_byte(out, after, b' ')
 }
 
 // The columns `kind p q text more` of a union: its ids from the format.
@@ -290,7 +290,7 @@ fn put_own(
     }
     let a = field_line::put_name(out, at, name, nullable);
     let b = metadata::put_pairs(out, a, m, entries, count);
-    field_line::put_byte(out, b, b' ')
+    buffer::put_byte(out, b, b' ')
 }
 
 // The line of a type.
@@ -322,9 +322,9 @@ fn put_extension(out: &mut [u8], at: usize, m: &[u8], name: u32, more: u32) -> u
 {
     let a = buffer::put_at(out, at, b"37 0 0 ");
     let b = metadata::put_value(out, a, m, name);
-    let c = field_line::put_byte(out, b, b' ');
+    let c = buffer::put_byte(out, b, b' ');
     let d = metadata::put_value(out, c, m, more);
-    field_line::put_byte(out, d, b' ')
+    buffer::put_byte(out, d, b' ')
 }
 
 // The lines of a node: that of its type, under its extension's if there is one.

@@ -1,11 +1,10 @@
 -- `put_byte` meets its contract: a byte stored is a byte written over, and past the end nothing is written. Assumes nothing.
 use mathlib.Core.Path.{refl, sym}
 use mathlib.Core.List.{[], _∷_}
-use Rattle.buffer.proofs.OverLaws.{overAt-past}
-use Rattle.field_line.proofs.ColumnLaws.{stored}
+use Rattle.buffer.proofs.OverLaws.{overAt-past, stored}
 use borrow.Author.Needs.{needs}
-use Rattle.field_line.proofs.put_byte.Statement.{statement}
-use Rattle.field_line.proofs.put_byte.Tie as tie
+use Rattle.buffer.proofs.put_byte.Statement.{statement}
+use Rattle.buffer.proofs.put_byte.Tie as tie
 
 add-end : tie.Need-add-end
 add-end c = search needs
