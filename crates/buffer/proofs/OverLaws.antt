@@ -171,3 +171,10 @@ length-written {at} {s} {out} v = ap length (v .holds) ∙ length-overAt at s ou
 -- a chain from the first byte on
 pub whole : {s out : Bytes} {n : ℕ} {l : Bytes} → Written 0 s out n l → (n ≡ length s) × (l ≡ over s out)
 whole {s} {out} v = (v .place ∙ zero-add (length s), v .holds ∙ overAt-zero s out)
+
+-- one byte stored is one byte written over
+pub stored : (at : ℕ) (b : ℕ) (out : Bytes) → at < length out → set out at b ≡ overAt at (b ∷ []) out
+unfolding over overAt
+stored at b [] h = absurd (not-suc-le-zero h)
+stored zero b (o ∷ out) h = refl
+stored (suc at) b (o ∷ out) h = ap (λ (l : Bytes). o ∷ l) (stored at b out (le-of-suc-le-suc h))

@@ -1,5 +1,6 @@
 // Byte strings written into a lent buffer as far as they fit, compared, and cleared. A writer whose buffer is full goes on counting.
 ghost use mathlib.Core.Path.{_≡_};
+ghost use mathlib.Core.List.{[], _∷_};
 ghost use Prim.Native.Nat.{_+_, min};
 ghost use lib.ListN.{length, replicate};
 ghost use Rattle.sheets.specs.Bytes.{same};
@@ -30,6 +31,18 @@ pub fn put_at(out: &mut [u8], at: usize, s: &[u8]) -> usize
     let end = at + s.len();
     if at < out.len() {
         put(&mut out[at..], s);
+    }
+    end
+}
+
+// Writes one byte at place at, if that is within; the place after it.
+pub fn put_byte(out: &mut [u8], at: usize, b: u8) -> usize
+    requires { ⌜ IsUsize (at + 1) ⌝ }
+    ensures { λ r. ⌜ (r ≡ at + 1) × (now (out .exit) ≡ overAt at (b ∷ []) (now (out .entry))) ⌝ }
+{
+    let end = at + 1;
+    if at < out.len() {
+        out[at] = b;
     }
     end
 }

@@ -154,7 +154,7 @@ fn digits_of(n: u64) -> Digits20
 }
 
 // Writes n from place at on, as much as fits; the place after it. A u64 has at most 20 digits.
-pub fn put_u64(out: &mut [u8], at: usize, n: u64) -> usize
+fn put_digits(out: &mut [u8], at: usize, n: u64) -> usize
     requires { ⌜ IsUsize (at + 20) ⌝ }
     ensures { λ r. ⌜ (r ≡ at + length (decimal n)) × (now (out .exit) ≡ overAt at (decimal n) (now (out .entry))) × (r ≤ at + 20) ⌝ }
 {
@@ -162,6 +162,17 @@ pub fn put_u64(out: &mut [u8], at: usize, n: u64) -> usize
     let bytes = d.bytes;
     let start = d.start;
     buffer::put_at(out, at, &bytes[start..])
+}
+
+// Writes n from place at on, as much as fits; the place after it. Most numbers of a sheet have one digit.
+pub fn put_u64(out: &mut [u8], at: usize, n: u64) -> usize
+    requires { ⌜ IsUsize (at + 20) ⌝ }
+    ensures { λ r. ⌜ (r ≡ at + length (decimal n)) × (now (out .exit) ≡ overAt at (decimal n) (now (out .entry))) × (r ≤ at + 20) ⌝ }
+{
+    if n < 10 {
+        return buffer::put_byte(out, at, b'0' + n as u8);
+    }
+    put_digits(out, at, n)
 }
 
 // Rust's `i64::unsigned_abs`.

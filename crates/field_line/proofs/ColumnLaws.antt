@@ -127,13 +127,6 @@ pair-text key value h k = rw (hex-bytes key h, hex-bytes value k)
 
 -- ── writing
 
--- one byte stored is one byte written over
-pub stored : (at : ℕ) (b : ℕ) (out : Bytes) → at < length out → set out at b ≡ overAt at (b ∷ []) out
-unfolding over overAt
-stored at b [] h = absurd (not-suc-le-zero h)
-stored zero b (o ∷ out) h = refl
-stored (suc at) b (o ∷ out) h = ap (λ (l : Bytes). o ∷ l) (stored at b out (le-of-suc-le-suc h))
-
 pub null-column : (name : Bytes) → same name noText ≡ true → column (nameColumn name) ≡ 45 ∷ 32 ∷ []
 unfolding column
 null-column name e = rw (name-null name e)

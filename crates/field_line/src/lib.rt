@@ -1,7 +1,6 @@
 // Lines of a field sheet, written column by column into a lent buffer, as much as fits. Each writer answers the place after what it wrote, also
 // where that is past the buffer's end.
 ghost use mathlib.Core.Path.{_≡_};
-ghost use mathlib.Core.List.{[], _∷_};
 ghost use Prim.Native.Nat.{_+_};
 ghost use lib.ListN.{length};
 ghost use Rattle.sheets.specs.Number.{decimal};
@@ -24,25 +23,13 @@ pub struct TypeColumns {
     pub text: TypeText,
 }
 
-// One byte.
-pub fn put_byte(out: &mut [u8], at: usize, b: u8) -> usize
-    requires { ⌜ IsUsize (at + 1) ⌝ }
-    ensures { λ r. ⌜ (r ≡ at + 1) × (now (out .exit) ≡ overAt at (b ∷ []) (now (out .entry))) ⌝ }
-{
-    let end = at + 1;
-    if at < out.len() {
-        out[at] = b;
-    }
-    end
-}
-
 // A column as it stands, and a space.
 fn put_column(out: &mut [u8], at: usize, text: &[u8]) -> usize
     requires { ⌜ IsUsize (at + (1 + length (now text))) ⌝ }
     ensures { λ r. ⌜ (r ≡ at + length (column (now (text .entry)))) × (now (out .exit) ≡ overAt at (column (now (text .entry))) (now (out .entry))) ⌝ }
 {
     let end = buffer::put_at(out, at, text);
-    put_byte(out, end, b' ')
+    buffer::put_byte(out, end, b' ')
 }
 
 // A column that is a number, and a space.
@@ -51,7 +38,7 @@ pub fn put_number(out: &mut [u8], at: usize, n: u64) -> usize
     ensures { λ r. ⌜ (r ≡ at + length (column (decimal n))) × (now (out .exit) ≡ overAt at (column (decimal n)) (now (out .entry))) ⌝ }
 {
     let after = decimal::put_u64(out, at, n);
-    put_byte(out, after, b' ')
+    buffer::put_byte(out, after, b' ')
 }
 
 // A field's name from a schema's name column: a null name is written as an empty one.
@@ -99,7 +86,7 @@ pub fn put_end(out: &mut [u8], at: usize, children: u64) -> usize
     ensures { λ r. ⌜ (r ≡ at + length (endPiece children)) × (now (out .exit) ≡ overAt at (endPiece children) (now (out .entry))) ⌝ }
 {
     let end = decimal::put_u64(out, at, children);
-    put_byte(out, end, b'\n')
+    buffer::put_byte(out, end, b'\n')
 }
 
 // A pair of the column `pairs`, both texts as they stand.
@@ -108,6 +95,6 @@ pub fn put_pair(out: &mut [u8], at: usize, key: &[u8], value: &[u8]) -> usize
     ensures { λ r. ⌜ (r ≡ at + length (pairPiece (now (key .entry)) (now (value .entry)))) × (now (out .exit) ≡ overAt at (pairPiece (now (key .entry)) (now (value .entry))) (now (out .entry))) ⌝ }
 {
     let a = buffer::put_at(out, at, key);
-    let b = put_byte(out, a, b'=');
+    let b = buffer::put_byte(out, a, b'=');
     buffer::put_at(out, b, value)
 }

@@ -4,7 +4,7 @@ use mathlib.Core.Path.{_≡_, refl, sym, _∙_, ap, ap₂, subst}
 use mathlib.Core.Bool.{Bool, true, false, not, cond}
 use mathlib.Core.List.{List, [], _∷_}
 use mathlib.Core.Option.{none, some}
-use Prim.Native.Nat.{ℕ, _+_, _*_, _^_, _≤_, _<_}
+use Prim.Native.Nat.{ℕ, zero, suc, _+_, _*_, _^_, _≤_, _<_}
 use native.Mathlib.Omega.{arith}
 use lib.Dec.{eqb, leb, ltb}
 use lib.IntN.{ℤ, pos}
@@ -20,6 +20,7 @@ use Rattle.sheets.specs.Field.{TimeUnit, unitPlace, second, millisecond, micros
 use Rattle.sheets.specs.FieldSheet.{toNat, decimalKind, noText, writeList}
 use Rattle.sheets.specs.Format.{Format, ofScalar, ofNesting, ofGrouping, Row, rows, rowNamed, unsigned, dropPlus, readSize, minus, readId, widthOf, decimalParts, cut, zone, readCut, readOther, readFormat}
 use Rattle.sheets.proofs.Tests.{meets}
+use Rattle.sheets.proofs.BytesLaws.{same-eq}
 use Rattle.hex.specs.Hex.{isHex, bytesOf, gives}
 use Rattle.hex.proofs.HexLaws.{twice-length}
 use Rattle.hex.proofs.PartLaws.{hex-bytes, hex-drop, bytes-drop}
@@ -31,7 +32,7 @@ use Rattle.format.specs.declared.FormatRead.{FormatRead}
 use Rattle.format.specs.declared.FormatRead.the-variants as F
 use Rattle.format.specs.declared.NameRead.{NameRead}
 use Rattle.format.specs.declared.NameRead.the-variants.{Leaf, Other}
-use Rattle.format.specs.Names.{NameTold}
+use Rattle.format.specs.Names.{nameAt, NoneNamed, NameTold, unitNames, modeNames}
 use Rattle.format.specs.Told.{readIds, writtenIds, idsText, isNesting, isGrouping, Tells, Told, part, partsFrom, PartEnds, numbers, sizeRead, decimalRead, DecimalTold}
 use Rattle.format.proofs.PartLaws.{parts-here, split-some}
 
@@ -231,35 +232,38 @@ unsupported f = (unsupportedFormat, refl, refl)
 
 -- ── the ladders
 
-pub cut-0 : (h r : Bytes) → same h (ascii "tss") ≡ true → readCut h r ≡ given (ofScalar (timestamp second (zone r)))
-cut-0 h r e0 = rw (e0)
+-- the head of a timestamp: its name's place is the unit's
+pub unit-named : (h r : Bytes) (i : ℕ) → i * 3 + 3 ≤ 12 → same h (nameAt 3 unitNames i) ≡ true → (u : TimeUnit) × (unitPlace u ≡ i) × (readCut h r ≡ given (ofScalar (timestamp u (zone r))))
+unit-named h r i l e = subst (λ (n : Bytes). (u : TimeUnit) × (unitPlace u ≡ i) × (readCut n r ≡ given (ofScalar (timestamp u (zone r))))) (sym (same-eq h (nameAt 3 unitNames i) e)) (go i l)
+  where
+    go : (i : ℕ) → i * 3 + 3 ≤ 12 → (u : TimeUnit) × (unitPlace u ≡ i) × (readCut (nameAt 3 unitNames i) r ≡ given (ofScalar (timestamp u (zone r))))
+    go zero l = (second, refl, refl)
+    go (suc zero) l = (millisecond, refl, refl)
+    go (suc (suc zero)) l = (microsecond, refl, refl)
+    go (suc (suc (suc zero))) l = (nanosecond, refl, refl)
+    go (suc (suc (suc (suc i)))) l = absurd (omega arith)
 
-pub cut-1 : (h r : Bytes) → same h (ascii "tss") ≡ false → same h (ascii "tsm") ≡ true → readCut h r ≡ given (ofScalar (timestamp millisecond (zone r)))
-cut-1 h r e0 e1 = rw (e0, e1)
+-- the head of a union: its name's place is the mode's
+pub mode-named : (h r : Bytes) (i : ℕ) → i * 3 + 3 ≤ 6 → same h (nameAt 3 modeNames i) ≡ true → (sparse : Bool) × (toNat sparse ≡ i) × (readCut h r ≡ (readIds r >>= λ zs. given (ofGrouping (union sparse (some zs)))))
+mode-named h r i l e = subst (λ (n : Bytes). (sparse : Bool) × (toNat sparse ≡ i) × (readCut n r ≡ (readIds r >>= λ zs. given (ofGrouping (union sparse (some zs)))))) (sym (same-eq h (nameAt 3 modeNames i) e)) (go i l)
+  where
+    go : (i : ℕ) → i * 3 + 3 ≤ 6 → (sparse : Bool) × (toNat sparse ≡ i) × (readCut (nameAt 3 modeNames i) r ≡ (readIds r >>= λ zs. given (ofGrouping (union sparse (some zs)))))
+    go zero l = (false, refl, refl)
+    go (suc zero) l = (true, refl, refl)
+    go (suc (suc i)) l = absurd (omega arith)
 
-pub cut-2 : (h r : Bytes) → same h (ascii "tss") ≡ false → same h (ascii "tsm") ≡ false → same h (ascii "tsu") ≡ true → readCut h r ≡ given (ofScalar (timestamp microsecond (zone r)))
-cut-2 h r e0 e1 e2 = rw (e0, e1, e2)
+-- the other heads
+pub cut-binary : (h r : Bytes) → same h (ascii "w") ≡ true → readCut h r ≡ (readSize r >>= λ n. given (ofScalar (fixedSizeBinary n)))
+cut-binary h r e = ap (λ (n : Bytes). readCut n r) (same-eq h (ascii "w") e)
 
-pub cut-3 : (h r : Bytes) → same h (ascii "tss") ≡ false → same h (ascii "tsm") ≡ false → same h (ascii "tsu") ≡ false → same h (ascii "tsn") ≡ true → readCut h r ≡ given (ofScalar (timestamp nanosecond (zone r)))
-cut-3 h r e0 e1 e2 e3 = rw (e0, e1, e2, e3)
+pub cut-list : (h r : Bytes) → same h (ascii "+w") ≡ true → readCut h r ≡ (readSize r >>= λ n. given (ofNesting (fixedSizeList n)))
+cut-list h r e = ap (λ (n : Bytes). readCut n r) (same-eq h (ascii "+w") e)
 
-pub cut-4 : (h r : Bytes) → same h (ascii "tss") ≡ false → same h (ascii "tsm") ≡ false → same h (ascii "tsu") ≡ false → same h (ascii "tsn") ≡ false → same h (ascii "w") ≡ true → readCut h r ≡ (readSize r >>= λ n. given (ofScalar (fixedSizeBinary n)))
-cut-4 h r e0 e1 e2 e3 e4 = rw (e0, e1, e2, e3, e4)
+pub cut-decimal : (h r : Bytes) → same h (ascii "d") ≡ true → readCut h r ≡ (decimalParts (split comma r) >>= λ s. given (ofScalar s))
+cut-decimal h r e = ap (λ (n : Bytes). readCut n r) (same-eq h (ascii "d") e)
 
-pub cut-5 : (h r : Bytes) → same h (ascii "tss") ≡ false → same h (ascii "tsm") ≡ false → same h (ascii "tsu") ≡ false → same h (ascii "tsn") ≡ false → same h (ascii "w") ≡ false → same h (ascii "+w") ≡ true → readCut h r ≡ (readSize r >>= λ n. given (ofNesting (fixedSizeList n)))
-cut-5 h r e0 e1 e2 e3 e4 e5 = rw (e0, e1, e2, e3, e4, e5)
-
-pub cut-6 : (h r : Bytes) → same h (ascii "tss") ≡ false → same h (ascii "tsm") ≡ false → same h (ascii "tsu") ≡ false → same h (ascii "tsn") ≡ false → same h (ascii "w") ≡ false → same h (ascii "+w") ≡ false → same h (ascii "d") ≡ true → readCut h r ≡ (decimalParts (split comma r) >>= λ s. given (ofScalar s))
-cut-6 h r e0 e1 e2 e3 e4 e5 e6 = rw (e0, e1, e2, e3, e4, e5, e6)
-
-pub cut-7 : (h r : Bytes) → same h (ascii "tss") ≡ false → same h (ascii "tsm") ≡ false → same h (ascii "tsu") ≡ false → same h (ascii "tsn") ≡ false → same h (ascii "w") ≡ false → same h (ascii "+w") ≡ false → same h (ascii "d") ≡ false → same h (ascii "+us") ≡ true → readCut h r ≡ (readIds r >>= λ zs. given (ofGrouping (union true (some zs))))
-cut-7 h r e0 e1 e2 e3 e4 e5 e6 e7 = rw (e0, e1, e2, e3, e4, e5, e6, e7)
-
-pub cut-8 : (h r : Bytes) → same h (ascii "tss") ≡ false → same h (ascii "tsm") ≡ false → same h (ascii "tsu") ≡ false → same h (ascii "tsn") ≡ false → same h (ascii "w") ≡ false → same h (ascii "+w") ≡ false → same h (ascii "d") ≡ false → same h (ascii "+us") ≡ false → same h (ascii "+ud") ≡ true → readCut h r ≡ (readIds r >>= λ zs. given (ofGrouping (union false (some zs))))
-cut-8 h r e0 e1 e2 e3 e4 e5 e6 e7 e8 = rw (e0, e1, e2, e3, e4, e5, e6, e7, e8)
-
-pub cut-other : (h r : Bytes) → same h (ascii "tss") ≡ false → same h (ascii "tsm") ≡ false → same h (ascii "tsu") ≡ false → same h (ascii "tsn") ≡ false → same h (ascii "w") ≡ false → same h (ascii "+w") ≡ false → same h (ascii "d") ≡ false → same h (ascii "+us") ≡ false → same h (ascii "+ud") ≡ false → readCut h r ≡ refused unsupportedFormat
-cut-other h r e0 e1 e2 e3 e4 e5 e6 e7 e8 = rw (e0, e1, e2, e3, e4, e5, e6, e7, e8)
+pub cut-other : (h r : Bytes) → NoneNamed 3 unitNames h 4 → NoneNamed 3 modeNames h 2 → same h (ascii "w") ≡ false → same h (ascii "+w") ≡ false → same h (ascii "d") ≡ false → readCut h r ≡ refused unsupportedFormat
+cut-other h r n m a b c = rw (n 0 (omega arith), n 1 (omega arith), n 2 (omega arith), n 3 (omega arith), m 0 (omega arith), m 1 (omega arith), a, b, c)
 
 pub name-0 : (sorted : Bool) (f : Bytes) → rowNamed f rows ≡ none → same f (ascii "+l") ≡ true → readFormat sorted f ≡ given (ofNesting list)
 name-0 sorted f e e0 = rw (e, e0)

@@ -5,11 +5,11 @@ use mathlib.Core.Option.{none, some}
 use Prim.Native.Nat.{ℕ, _+_, _*_, _≤_, _<_}
 use lib.ListN.{length, take, drop, getD}
 use lib.Dec.{eqb}
-use Rattle.sheets.specs.Bytes.{Bytes, same}
+use Rattle.sheets.specs.Bytes.{Bytes, same, ascii}
 use Rattle.sheets.specs.Refusal.{Refusal, numberOf}
 use Rattle.sheets.specs.Answer.{Answer, refused, given}
 use Rattle.sheets.specs.Format.{Row, rows, rowNamed}
-use Rattle.hex.specs.Hex.{isHex}
+use Rattle.hex.specs.Hex.{isHex, bytesOf}
 use Rattle.format.specs.declared.Place.{Place}
 use Rattle.format.specs.declared.Place.the-variants.{At, Nowhere}
 use Rattle.format.specs.declared.NameRead.{NameRead}
@@ -52,3 +52,17 @@ NameTold b Other = rowNamed b rows ≡ none
 abbrev pub IndexTold : Answer ℕ → IndexRead → Type 0
 IndexTold a (Index n) = a ≡ given n
 IndexTold a (Refused n) = (r : Refusal) × (a ≡ refused r) × (numberOf r ≡ n)
+
+-- the units of a timestamp, in the order of their places
+abbrev pub unitNames : Bytes
+unitNames = ascii "tsstsmtsutsn"
+
+-- the modes of a union: 0 dense, 1 sparse
+abbrev pub modeNames : Bytes
+modeNames = ascii "+ud+us"
+
+-- the head of a format, before its colon, that is neither a timestamp's nor a union's
+pub record IsOtherHead (h : Bytes) : Type 0 where
+  pub isText : isHex h ≡ true
+  pub noUnit : NoneNamed 3 unitNames (bytesOf h) 4
+  pub noMode : NoneNamed 3 modeNames (bytesOf h) 2

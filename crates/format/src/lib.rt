@@ -4,11 +4,10 @@ ghost use mathlib.Core.Bool.{true};
 ghost use mathlib.Core.List.{_∷_};
 ghost use Prim.Native.Nat.{_+_, _*_, _<_, _≤_};
 ghost use lib.ListN.{length, take, drop};
-ghost use Rattle.sheets.specs.Bytes.{same};
 ghost use Rattle.sheets.specs.FieldSheet.{decimalKind, toNat};
 ghost use Rattle.sheets.specs.Format.{toIntegerType, readSize, readId, widthOf, readCut, readOther, readFormat, cut};
 ghost use Rattle.hex.specs.Hex.{isHex, bytesOf};
-ghost use Rattle.format.specs.Names.{NamePlaced, BytePlaced, TextOf, NameTold, IndexTold};
+ghost use Rattle.format.specs.Names.{NamePlaced, BytePlaced, TextOf, NameTold, IndexTold, IsOtherHead};
 ghost use Rattle.parse.specs.Parse.{sizeOf, idOf};
 ghost use Rattle.buffer.specs.Over.{overAt, IsUsize};
 ghost use Rattle.format.specs.Told.{readIds, idsText, idText, RoomForIds, Told, HasBytes, HasRest, HasPart, part, partsFrom, PartEnds, numbers, sizeRead, decimalRead, TimestampTold, UnionTold, DecimalTold};
@@ -182,15 +181,6 @@ fn id_between(f: &[u8], from: usize, to: usize) -> Id
     parse::parse_i32(&f[a..e])
 }
 
-// Whether the first k bytes are those of key.
-fn head_says(f: &[u8], k: usize, key: &[u8]) -> bool
-    requires { ⌜ HasBytes (now f) k ⌝ }
-    ensures { λ r. ⌜ r ≡ same (take k (bytesOf (now (f .entry)))) (now (key .entry)) ⌝ }
-{
-    let e = 2 * k;
-    hex::says(&f[0..e], key)
-}
-
 // A type with one number, that stands from byte `at` on.
 fn sized(f: &[u8], at: usize, kind: u64) -> FormatRead
     requires { ⌜ HasBytes (now f) at ⌝ }
@@ -330,41 +320,38 @@ fn decimal_type(f: &[u8], at: usize) -> FormatRead
     wide_decimal(f, at, i, j)
 }
 
-// A format whose first colon is byte k.
+// A format whose head h, before the colon, is neither a timestamp's nor a union's, and whose numbers stand from byte `at` on.
+fn read_sizes(f: &[u8], at: usize, h: &[u8]) -> FormatRead
+    requires { ⌜ HasBytes (now f) at × IsOtherHead (now h) ⌝ }
+    ensures { λ r. ⌜ Told (now (f .entry)) (readCut (bytesOf (now (h .entry))) (drop at (bytesOf (now (f .entry))))) r ⌝ }
+{
+    if hex::says(h, b"w") {
+        return sized(f, at, 23);
+    }
+    if hex::says(h, b"+w") {
+        return sized(f, at, 28);
+    }
+    if hex::says(h, b"d") {
+        return decimal_type(f, at);
+    }
+    FormatRead::Refused(6)
+}
+
+// A format whose first colon is byte k. The names' places are the units and the modes.
 fn read_cut(f: &[u8], k: usize) -> FormatRead
     requires { ⌜ HasBytes (now f) (k + 1) ⌝ }
     ensures { λ r. ⌜ Told (now (f .entry)) (readCut (take k (bytesOf (now (f .entry)))) (drop (k + 1) (bytesOf (now (f .entry))))) r ⌝ }
 {
+    let e = 2 * k;
     let at = k + 1;
-    let a = 2 * at;
-    if head_says(f, k, b"tss") {
-        return zoned(f, a, 0);
+    let h = &f[0..e];
+    if let Place::At(unit) = name_place(b"tsstsmtsutsn", 3, h) {
+        return zoned(f, 2 * at, unit as u64);
     }
-    if head_says(f, k, b"tsm") {
-        return zoned(f, a, 1);
+    if let Place::At(mode) = name_place(b"+ud+us", 3, h) {
+        return union_of(f, at, mode as u64);
     }
-    if head_says(f, k, b"tsu") {
-        return zoned(f, a, 2);
-    }
-    if head_says(f, k, b"tsn") {
-        return zoned(f, a, 3);
-    }
-    if head_says(f, k, b"w") {
-        return sized(f, at, 23);
-    }
-    if head_says(f, k, b"+w") {
-        return sized(f, at, 28);
-    }
-    if head_says(f, k, b"d") {
-        return decimal_type(f, at);
-    }
-    if head_says(f, k, b"+us") {
-        return union_of(f, at, 1);
-    }
-    if head_says(f, k, b"+ud") {
-        return union_of(f, at, 0);
-    }
-    FormatRead::Refused(6)
+    read_sizes(f, at, h)
 }
 
 fn read_other(f: &[u8]) -> FormatRead
@@ -442,7 +429,7 @@ pub fn put_ids(out: &mut [u8], at: usize, f: &[u8]) -> usize
     let mut from = first + 1;
     while from <= n {
         let to = part_end(f, from);
-        let next = field_line::put_byte(out, end, b',');
+        let next = buffer::put_byte(out, end, b',');
         end = put_id(out, next, f, from, to);
         from = to + 1;
     }

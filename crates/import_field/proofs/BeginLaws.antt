@@ -17,7 +17,7 @@ use Rattle.sheets.proofs.SchemaLaws.{pushChildren}
 use Rattle.sheets.proofs.FormLaws.{Standing, standing-on, Opened}
 use Rattle.sheets.proofs.ImportLaws.{written, rowWritten, nodeShape, below, ownOf, ownLines, visited, isBare, withOwn, node-written}
 use Rattle.schema_line.specs.declared.SchemaLine.{SchemaLine}
-use Rattle.schema_sheet.specs.Lines.{LineAt}
+use Rattle.read_line.specs.Lines.{LineAt}
 use Rattle.schema_sheet.specs.Trees.{HasRow, SkipsRow}
 use Rattle.put_node.specs.Nodes.{lineType, nodeLines, Plan, Puts, PutsNode}
 use Rattle.import_field.specs.Contracts.{FieldAt, Begins}

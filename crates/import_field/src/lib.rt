@@ -42,7 +42,7 @@ fn begin_field(
     requires { ⌜ HasField (now s) at (suc most) × HasRoom (now s) (now entries) (now spare) ⌝ }
     ensures { λ r. ⌜ FieldBegins (now (s .entry)) at most bare (now (out .entry)) (now (out .exit)) r ⌝ }
 {
-    let line = schema_sheet::line_at(s, at);
+    let line = read_line::line_at(s, at);
     match put_node::put_node(s, at, line, bare, out, entries, spare) {
         NodeRead::Refused(n) => FieldBegun::Refused(n),
         NodeRead::Put(visit) => {

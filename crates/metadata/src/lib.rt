@@ -255,12 +255,12 @@ pub fn put_pairs(out: &mut [u8], at: usize, m: &[u8], entries: &[u32], count: us
     ensures { λ r. ⌜ (r ≡ at + length (pairsColumn (bytesOf (now (m .entry))) (now (entries .entry)) count)) × (now (out .exit) ≡ overAt at (pairsColumn (bytesOf (now (m .entry))) (now (entries .entry)) count) (now (out .entry))) ⌝ }
 {
     if count == 0 {
-        return field_line::put_byte(out, at, b'~');
+        return buffer::put_byte(out, at, b'~');
     }
     let mut end = put_entry(out, at, m, entries[0]);
     let mut i = 1;
     while i < count {
-        let start = field_line::put_byte(out, end, b',');
+        let start = buffer::put_byte(out, end, b',');
         end = put_entry(out, start, m, entries[i]);
         i += 1;
     }
@@ -273,11 +273,11 @@ pub fn put_value(out: &mut [u8], at: usize, m: &[u8], e: u32) -> usize
     ensures { λ r. ⌜ (r ≡ at + length (valueColumn (bytesOf (now (m .entry))) e)) × (now (out .exit) ≡ overAt at (valueColumn (bytesOf (now (m .entry))) e) (now (out .entry))) ⌝ }
 {
     if e == 0 {
-        return field_line::put_byte(out, at, b'~');
+        return buffer::put_byte(out, at, b'~');
     }
     let text = value_of(m, e);
     if text.len() == 0 {
-        return field_line::put_byte(out, at, b'-');
+        return buffer::put_byte(out, at, b'-');
     }
     buffer::put_at(out, at, text)
 }

@@ -20,7 +20,7 @@ fn put_text(out: &mut [u8], at: usize, f: &[u8], text: TypeText) -> usize
     ensures { λ r. ⌜ PutAt at (textOf (now (f .entry)) text) r (now (out .entry)) (now (out .exit)) × (r ≤ at + 21 * (length (now (f .entry)) + 1)) ⌝ }
 {
     match text {
-        TypeText::NoText => field_line::put_byte(out, at, b'~'),
+        TypeText::NoText => buffer::put_byte(out, at, b'~'),
         TypeText::Zone(k) => buffer::put_at(out, at, &f[k..]),
         TypeText::Ids(k) => format::put_ids(out, at, &f[k..]),
     }
@@ -58,7 +58,7 @@ fn put_own(
     }
     let a = field_line::put_name(out, at, name, nullable);
     let b = metadata::put_pairs(out, a, m, entries, count);
-    field_line::put_byte(out, b, b' ')
+    buffer::put_byte(out, b, b' ')
 }
 
 // The line of a type.
@@ -90,9 +90,9 @@ fn put_extension(out: &mut [u8], at: usize, m: &[u8], name: u32, more: u32) -> u
 {
     let a = buffer::put_at(out, at, b"37 0 0 ");
     let b = metadata::put_value(out, a, m, name);
-    let c = field_line::put_byte(out, b, b' ');
+    let c = buffer::put_byte(out, b, b' ');
     let d = metadata::put_value(out, c, m, more);
-    field_line::put_byte(out, d, b' ')
+    buffer::put_byte(out, d, b' ')
 }
 
 // The lines of a node: that of its type, under its extension's if there is one.

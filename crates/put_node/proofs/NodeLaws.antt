@@ -30,8 +30,8 @@ use Rattle.field_line.proofs.ColumnLaws.{named-line, bare-line}
 use Rattle.schema_line.specs.declared.SchemaLine.{SchemaLine}
 use Rattle.schema_line.specs.Texts.{textIn}
 use Rattle.schema_line.proofs.TextLaws.{text-shorter}
-use Rattle.schema_sheet.specs.Columns.{part}
-use Rattle.schema_sheet.specs.Lines.{TextAt, Shows, LineAt}
+use Rattle.columns.specs.Columns.{part}
+use Rattle.read_line.specs.Lines.{TextAt, Shows, LineAt}
 use Rattle.node_type.specs.declared.Below.{Below}
 use Rattle.node_type.specs.declared.TypeRead.{TypeRead}
 use Rattle.node_type.specs.declared.TypeRead.the-variants as Read

@@ -15,7 +15,7 @@ use Rattle.sheets.specs.Import.{formatText}
 use Rattle.sheets.proofs.ImportLaws.{nodeShape, below, ownOf, ownLines, isBare}
 use Rattle.buffer.specs.Over.{over}
 use Rattle.schema_line.specs.declared.SchemaLine.{SchemaLine}
-use Rattle.schema_sheet.specs.Lines.{Shows, LineAt}
+use Rattle.read_line.specs.Lines.{Shows, LineAt}
 use Rattle.put_node.specs.declared.Visit.{Visit}
 use Rattle.put_node.specs.declared.NodeRead.{NodeRead}
 use Rattle.put_node.specs.declared.NodeRead.the-variants.{Put, Refused}

@@ -2,7 +2,7 @@
 ghost use mathlib.Core.Path.{_≡_};
 ghost use mathlib.Core.Bool.{false};
 ghost use Rattle.schema_line.specs.Texts.{textIn};
-ghost use Rattle.schema_sheet.specs.Columns.{part};
+ghost use Rattle.columns.specs.Columns.{part};
 ghost use Rattle.node_type.specs.Visits.{lacksChild};
 ghost use Rattle.node_type.specs.NodeTypes.{IsText};
 ghost use Rattle.put_node.specs.Visits.{childrenBelow, visitOf, IsPart};

@@ -1,12 +1,4 @@
-pub mod ColumnLaws
-pub mod TextLaws
-pub mod FindLaws
-pub mod SplitLaws
-pub mod TailLaws
-pub mod LineLaws
 pub mod WalkLaws
-pub mod NumberAtLaws
-pub mod KnownLaws
 pub mod StandingLaws
 pub mod SkipLaws
 pub mod ReadLaws

@@ -10,7 +10,7 @@ use Rattle.sheets.specs.Bytes.{Bytes}
 use Rattle.sheets.specs.Schema.{Schema}
 use Rattle.sheets.proofs.FormLaws.{Row, Standing}
 use Rattle.schema_line.specs.declared.SchemaLine.{SchemaLine}
-use Rattle.schema_sheet.specs.Lines.{LineAt}
+use Rattle.read_line.specs.Lines.{LineAt}
 use Rattle.schema_sheet.specs.Trees.{ReadsTree, ReadsRow}
 use Rattle.schema_sheet.specs.declared.Skipped.the-variants.{To, Deep}
 use Rattle.schema_sheet.specs.declared.TreeRead.{TreeRead}

@@ -15,7 +15,7 @@ use Rattle.sheets.specs.Bytes.{Bytes, same, after}
 use Rattle.sheets.specs.Answer.{given, when}
 use Rattle.sheets.specs.Schema.{Schema, schemaLevels, schemaHeading, schemaRule, readSchemaSheet}
 use Rattle.sheets.proofs.FormLaws.{Row, Standing, sheet-formed, sheet-unformed, treesOf}
-use Rattle.schema_sheet.specs.Lines.{Forms}
+use Rattle.schema_sheet.specs.Trees.{Forms}
 use Rattle.schema_sheet.specs.Trees.{Skips, ReadsTree}
 use Rattle.schema_sheet.specs.Sheets.{isSome, isHeaded, ReadsSheet}
 use Rattle.schema_sheet.specs.declared.Skipped.the-variants.{To}

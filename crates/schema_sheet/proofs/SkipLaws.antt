@@ -9,8 +9,9 @@ use Rattle.sheets.specs.Bytes.{Bytes}
 use Rattle.sheets.specs.Schema.{Schema, schema, schemaLevels}
 use Rattle.sheets.proofs.FormLaws.{Standing, standing-row, row-many}
 use Rattle.schema_line.specs.declared.SchemaLine.{SchemaLine}
-use Rattle.schema_sheet.specs.Lines.{LineAt}
-use Rattle.schema_sheet.specs.Trees.{tallest, HasTree, HasRow, Skips, SkipsRow}
+use Rattle.read_line.specs.Lines.{LineAt}
+use Rattle.schema_sheet.specs.Trees.{tallest, HasRow, Skips, SkipsRow}
+use Rattle.read_line.specs.Lines.{HasTree}
 use Rattle.schema_sheet.specs.declared.Skipped.{Skipped}
 use Rattle.schema_sheet.specs.declared.Skipped.the-variants.{To, Deep}
 use Rattle.schema_sheet.proofs.StandingLaws.{subtrees, sub-append, sub-length, sub-levels, standing-line}

@@ -1,7 +1,6 @@
 -- A tree that stands at a place, for code that has read its first line: the line is the tree's, and its subtrees stand after it.
 --     standing-line   the tree against the line that `read_line` shows
 --     standing-reads  `read_line` finds a line there
---     tree-begins     the tree begins with a line
 --     sub-append, sub-length, sub-levels   its subtrees: where they stand, how many they are, their levels
 -- Assumes nothing.
 use mathlib.Core.Path.{_≡_, refl, ap, subst, _∙_}
@@ -15,11 +14,10 @@ use Rattle.sheets.proofs.SchemaLaws.{pushChildren, pushDictionary}
 use Rattle.sheets.proofs.ForwardCount.{children-length, dictionary-length}
 use Rattle.sheets.proofs.FormLaws.{Standing, standing-row, Opened, standing-on}
 use Rattle.schema_line.specs.declared.SchemaLine.{SchemaLine}
-use Rattle.schema_sheet.specs.Lines.{Stands, LineAt, ReadsLine}
-use Rattle.schema_sheet.specs.Trees.{tallest, HasTree}
-use Rattle.schema_sheet.specs.declared.LineRead.{LineRead}
-use Rattle.schema_sheet.specs.declared.LineRead.the-variants.{Bad}
-use Rattle.schema_sheet.proofs.LineLaws.{Begins, row-begins}
+use Rattle.read_line.specs.Lines.{Stands, LineAt, ReadsLine}
+use Rattle.schema_sheet.specs.Trees.{tallest}
+use Rattle.read_line.specs.declared.LineRead.{LineRead}
+use Rattle.read_line.specs.declared.LineRead.the-variants.{Bad}
 
 -- the subtrees of a node
 abbrev pub subtrees : Schemas → Dictionary → List Schema
@@ -63,7 +61,3 @@ standing-line w k = standing-stands w (k .stands)
 
 pub standing-reads : (s : Bytes) (at : ℕ) {t : Schema} {ts : List Schema} → Standing (drop at s) (t ∷ ts) → (r : LineRead) → r ≡ Bad → ReadsLine s at r → ⊥
 standing-reads s at {t} {ts} w r e f = subst (ReadsLine s at) e f (length ts) (standing-row w)
-
--- the tree begins with a line
-pub tree-begins : (s : Bytes) (at : ℕ) → HasTree s at → Begins (drop at s)
-tree-begins s at h = row-begins (length (h .1)) (drop at s) (standing-row (h .2))

@@ -14,8 +14,9 @@ use Rattle.sheets.specs.Bytes.{Bytes, lacks}
 use Rattle.sheets.specs.Schema.{childrenOf, dictionaryOf}
 use Rattle.sheets.proofs.FormLaws.{Row, row-on, row-many, row-end, row-open, line-left}
 use Rattle.schema_line.specs.declared.SchemaLine.{SchemaLine}
-use Rattle.schema_sheet.specs.Lines.{LineAt, Forms}
-use Rattle.schema_sheet.proofs.SplitLaws.{Cut, first-of}
+use Rattle.read_line.specs.Lines.{LineAt}
+use Rattle.schema_sheet.specs.Trees.{Forms}
+use Rattle.read_line.proofs.SplitLaws.{Cut, first-of}
 
 module _ {s : Bytes} {here : ℕ} {l : SchemaLine} (k : LineAt s here l) (left : ℕ) (some : 0 < left) where
   -- after the line its subtrees are to come, and then those that were to come after it

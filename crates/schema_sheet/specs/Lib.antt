@@ -1,4 +1,2 @@
-pub mod Columns
-pub mod Lines
 pub mod Trees
 pub mod Sheets

@@ -1,5 +1,6 @@
 -- Trees of a schema sheet one after the other: reading them, and skipping those that are known to be there. Assumes nothing.
 use mathlib.Core.Path.{_≡_}
+use mathlib.Core.Bool.{Bool, true, false}
 use mathlib.Core.List.{List, [], _∷_, _++_}
 use mathlib.Core.Logic.{_↔_}
 use Prim.Native.Nat.{ℕ, suc, _+_, _≤_, _<_, max}
@@ -16,10 +17,6 @@ use Rattle.schema_sheet.specs.declared.TreeRead.the-variants as Read
 unfoldable pub tallest : List Schema → ℕ
 tallest [] = 0
 tallest (t ∷ ts) = max (schemaLevels t) (tallest ts)
-
--- a tree stands here, and others after it
-abbrev pub HasTree : Bytes → ℕ → Type 0
-HasTree s at = (t : Schema) × (ts : List Schema) × Standing (drop at s) (t ∷ ts)
 
 -- so many trees stand here, and others after them
 abbrev pub HasRow : Bytes → ℕ → ℕ → Type 0
@@ -40,6 +37,11 @@ SkipsTrees s at most us ts Deep = most < tallest us
 
 abbrev pub SkipsRow : Bytes → ℕ → ℕ → ℕ → Skipped → Type 0
 SkipsRow s at count most r = (us ts : List Schema) → Standing (drop at s) (us ++ ts) → length us ≡ count → SkipsTrees s at most us ts r
+
+-- what `form` tells
+abbrev pub Forms : Bytes → ℕ → Bool → Type 0
+Forms s at true = Row 1 (drop at s)
+Forms s at false = Row 1 (drop at s) → ⊥
 
 -- What `read_tree` tells: a tree stands here exactly if what is left of the row stands at its end, and how many levels it then has; that it
 -- has too many, should it stand here; that none stands here.

@@ -1,50 +1,51 @@
--- `put_u64` meets its contract: what is lent to `put_at` is the number's digits. Assumes nothing.
-use Rattle.sheets.specs.Number.{decimal}
-use Rattle.decimal.proofs.WriteLaws.{decimal-short}
-use lib.Seq.{take-all}
-use lib.ListN.{take, drop, length-drop}
-use native.Mathlib.Omega.{arith}
-use Prim.Native.Nat.{_-_}
+-- `put_u64` meets its contract: a number below 10 is one digit; the others are `put_digits`'. Assumes nothing.
 use mathlib.Core.Path.{_≡_, _∙_}
+use mathlib.Core.List.{[], _∷_}
+use Prim.Native.Nat.{_+_}
+use native.Mathlib.Omega.{arith}
+use Rattle.sheets.specs.Number.{decimal}
+use Rattle.decimal.proofs.WriteLaws.{decimal-start, first-digit}
 use borrow.Author.Needs.{needs}
 use Rattle.decimal.proofs.put_u64.Statement.{statement}
 use Rattle.decimal.proofs.put_u64.Tie as tie
 
-digits-of-requires : tie.Need-digits-of-requires
-digits-of-requires c κs = search needs
+cast-put-byte : tie.Need-cast-put-byte
+cast-put-byte c = search needs
 
-sub-put-at : tie.Need-sub-put-at
-sub-put-at c = search needs
+add-put-byte : tie.Need-add-put-byte
+add-put-byte c = search needs
 
-part-put-at-start : tie.Need-part-put-at-start
-part-put-at-start c = search needs
-
-part-put-at-end : tie.Need-part-put-at-end
-part-put-at-end c = search needs
-
-put-at-requires : tie.Need-put-at-requires
-put-at-requires c κs = search needs
+put-byte-requires : tie.Need-put-byte-requires
+put-byte-requires c κs = search needs
 
 same-length : tie.Need-same-length
 same-length c = search needs
 
 returns : tie.Need-returns
 returns c =
-    let d = c .before .before .before .before .before .before .before .digits-of in
-    let bytes = d .result .bytes in
-    let i = d .result .start in
-    let e : take (20 - i) (drop i bytes) ≡ decimal (c .before .before .before .before .before .before .before .before .before .args .n) = take-all (20 - i) (drop i bytes) (simp length-drop (omega arith)) ∙ d .ensures .2 in
-    let place = rw e at (c .before .before .put-at .ensures .0) in
-    (place, rw e at (c .before .before .put-at .ensures .1), omega (arith, place, decimal-short (c .before .before .before .before .before .before .before .before .before .args .n) (c .before .before .before .before .before .before .before .before .before .fits .n .fits)))
+    let n = c .before .before .before .before .before .before .args .n in
+    let e : decimal n ≡ (48 + n) ∷ [] = decimal-start n ∙ first-digit n [] (c .before .before .before .before .if1 .taken) in
+    let w = c .before .before .put-byte in
+    rw e (w .ensures .0, w .ensures .1, omega (arith, w .ensures .0))
+
+put-digits-requires : tie.Need-put-digits-requires
+put-digits-requires c κs = search needs
+
+same-length-2 : tie.Need-same-length-2
+same-length-2 c = search needs
+
+returns-2 : tie.Need-returns-2
+returns-2 c = search needs
 
 pub put-u64-spec : {M : Type 1} → statement M
 put-u64-spec =
     tie.close
     (tie.spec
-    digits-of-requires
-    sub-put-at
-    part-put-at-start
-    part-put-at-end
-    put-at-requires
+    cast-put-byte
+    add-put-byte
+    put-byte-requires
     same-length
-    returns)
+    returns
+    put-digits-requires
+    same-length-2
+    returns-2)

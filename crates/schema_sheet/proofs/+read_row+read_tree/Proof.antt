@@ -4,7 +4,7 @@ use mathlib.Core.Path.{_≡_, refl, subst}
 use native.Mathlib.Omega.{arith}
 use borrow.Author.Needs.{needs}
 use Prim.Native.Nat.{ℕ, _+_, _<_}
-use Rattle.schema_sheet.specs.Lines.{LineAt, ReadsLine}
+use Rattle.read_line.specs.Lines.{LineAt, ReadsLine}
 use Rattle.schema_sheet.proofs.SkipLaws.{levels-some}
 use Rattle.schema_sheet.proofs.ReadLaws.{tree-many, tree-read, Reading, reading-none, reading-deep, reading-bad, reading-more, reading-all}
 use borrow.Fn.Kinds.{In}
@@ -15,7 +15,7 @@ use Rattle.schema_sheet.proofs.+read_row+read_tree.Lts-read_row as read
 use Rattle.schema_sheet.proofs.read_tree.Reads as read-tree
 use Rattle.schema_sheet.proofs.read_tree.Kinds as read-tree-kinds
 use Rattle.schema_sheet.proofs.+read_row+read_tree.Lts-read_tree as read-tree-lts
-use Rattle.schema_sheet.proofs.read_line.Reads as read-line-reads
+use Rattle.read_line.proofs.read_line.Reads as read-line-reads
 use Rattle.schema_sheet.proofs.+read_row+read_tree.{statement}
 use Rattle.schema_sheet.proofs.+read_row+read_tree.Tie.{close}
 

@@ -17,7 +17,7 @@ use Rattle.schema_sheet.proofs.+skip+skip_row.Lts-skip as skip-lts
 use Rattle.schema_sheet.proofs.skip_row.Reads as skip-row
 use Rattle.schema_sheet.proofs.skip_row.Kinds as skip-row-kinds
 use Rattle.schema_sheet.proofs.+skip+skip_row.Lts-skip_row as skip-row-lts
-use Rattle.schema_sheet.proofs.line_at.Reads as line-at-reads
+use Rattle.read_line.proofs.line_at.Reads as line-at-reads
 use Rattle.schema_sheet.proofs.+skip+skip_row.{statement}
 use Rattle.schema_sheet.proofs.+skip+skip_row.Tie.{close}
 

@@ -6,7 +6,7 @@ use Prim.Native.Nat.{ℕ, suc, _-_, _^_, _<_}
 use native.Mathlib.Omega.{arith}
 use lib.ListN.{length, drop}
 use Rattle.sheets.proofs.FormLaws.{Row}
-use Rattle.schema_sheet.specs.Lines.{LineAt, ReadsLine}
+use Rattle.read_line.specs.Lines.{LineAt, ReadsLine}
 use Rattle.schema_sheet.proofs.WalkLaws.{walk-on, walk-many, walk-end}
 use borrow.Author.Needs.{needs}
 use Rattle.schema_sheet.proofs.form.Statement.{statement}

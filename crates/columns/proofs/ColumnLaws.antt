@@ -1,0 +1,182 @@
+-- A column at a place of a sheet: where it ends, found by looking at one byte after the other, and that there is one such place only. By the bytes
+-- from the place on as a list, cut at the first byte that ends a column. Assumes nothing.
+use mathlib.Core.Path.{_≡_, refl, sym, ap, ap₂, subst, _∙_}
+use mathlib.Core.Bool.{Bool, true, false, _||_, not, cond}
+use mathlib.Core.List.{[], _∷_, _++_}
+use Prim.Native.Nat.{ℕ, zero, suc, _+_, _-_, _%_, _≤_, _<_}
+use native.Mathlib.Numerals.{add-one}
+use native.Mathlib.Omega.{arith}
+use lib.Dec.{eqb}
+use lib.ListN.{length, getD, take, drop, length-append, length-take, length-drop, take-append-drop, drop-of-length-le}
+use lib.Seq.{drop-cons, drop-drop, drop-at, length-take-le, take-append-seam, drop-append-add}
+use borrow.Author.Tests.{eq-eqb, ne-eqb, not-true}
+use Rattle.sheets.specs.Rule.{Meets}
+use Rattle.sheets.specs.Bytes.{Bytes, lacks}
+use Rattle.sheets.proofs.Tests.{and-left, and-right}
+use Rattle.hex.specs.Hex.{isDigit, isHex}
+use Rattle.hex.proofs.DigitLaws.{low}
+use Rattle.hex.proofs.HexLaws.{allDigits, even-digits}
+use Rattle.columns.specs.Columns.{part, isStop, columnLength, Passes, ColumnAt}
+
+-- ── one byte
+
+pub space-stops : (b : ℕ) → b ≡ 32 → isStop b ≡ true
+space-stops b e = rw (eq-eqb b 32 e)
+
+pub not-space : (b : ℕ) → (b ≡ 32 → ⊥) → eqb b 10 ≡ isStop b
+not-space b h = rw (ne-eqb b 32 h)
+
+pub other-goes-on : (b : ℕ) → (b ≡ 32 → ⊥) → (b ≡ 10 → ⊥) → isStop b ≡ false
+other-goes-on b h k = rw (ne-eqb b 32 h, ne-eqb b 10 k)
+
+-- ── at a place
+
+module _ (s : Bytes) (i : ℕ) where
+  pub length-none : length s ≤ i → columnLength (drop i s) ≡ 0
+  unfolding columnLength
+  length-none h = rw (drop-of-length-le s h)
+
+  pub length-stop : i < length s → isStop (getD s i 0) ≡ true → columnLength (drop i s) ≡ 0
+  unfolding columnLength
+  length-stop h e = rw (drop-cons s i 0 h, e)
+
+  pub length-more : i < length s → isStop (getD s i 0) ≡ false → columnLength (drop i s) ≡ suc (columnLength (drop (i + 1) s))
+  unfolding columnLength
+  length-more h e = rw (drop-cons s i 0 h, e, add-one)
+
+-- ── the bytes before the first that ends a column
+
+cut-short : (b : Bytes) → columnLength b ≤ length b
+unfolding columnLength
+cut-short [] = omega arith
+cut-short (x ∷ b) = pick (isStop x) (cut-short b)
+  where
+    pick : (t : Bool) → columnLength b ≤ length b → cond t 0 (suc (columnLength b)) ≤ suc (length b)
+    pick true h = omega arith
+    pick false h = omega arith
+
+cut-free : (b : Bytes) → Meets (lacks 32 (take (columnLength b) b)) × Meets (lacks 10 (take (columnLength b) b))
+unfolding columnLength
+cut-free [] = (refl, refl)
+cut-free (x ∷ b) = pick (eqb x 32) (eqb x 10) refl refl (cut-free b)
+  where
+    pick : (t u : Bool) → eqb x 32 ≡ t → eqb x 10 ≡ u → Meets (lacks 32 (take (columnLength b) b)) × Meets (lacks 10 (take (columnLength b) b))
+        → Meets (lacks 32 (take (cond (t || u) 0 (suc (columnLength b))) (x ∷ b))) × Meets (lacks 10 (take (cond (t || u) 0 (suc (columnLength b))) (x ∷ b)))
+    pick true u e f h = (refl, refl)
+    pick false true e f h = (refl, refl)
+    pick false false e f h = ((ap not e, h .0), (ap not f, h .1))
+
+-- the first byte that ends a column is the one after bytes that do not
+cut-at : (c r : Bytes) (stop : ℕ) → isStop stop ≡ true → Meets (lacks 32 c) → Meets (lacks 10 c) → columnLength (c ++ (stop ∷ r)) ≡ length c
+unfolding columnLength
+cut-at [] r stop e h k = rw e
+cut-at (x ∷ c) r stop e h k = rw (not-true (eqb x 32) (h .0), not-true (eqb x 10) (k .0), cut-at c r stop e (h .1) (k .1))
+
+-- in digits no column ends
+pub digits-pass : (c : Bytes) → allDigits c ≡ true → columnLength c ≡ length c
+unfolding columnLength
+digits-pass [] h = refl
+digits-pass (x ∷ c) h =
+    let d = low x (and-left (isDigit x) (allDigits c) h) in
+    let on : isStop x ≡ false = other-goes-on x (λ e. omega arith) (λ e. omega arith) in
+    rw (on, digits-pass c (and-right (isDigit x) (allDigits c) h))
+
+-- a look at the first n bytes finds the end, or passes them
+cut-near : (n : ℕ) (b : Bytes) → columnLength (take n b) < n → n ≤ length b → columnLength b ≡ columnLength (take n b)
+unfolding columnLength
+cut-near zero b h l = absurd (omega arith)
+cut-near (suc n) [] h l = absurd (omega arith)
+cut-near (suc n) (x ∷ b) h l = pick (isStop x) h (λ k. cut-near n b k (omega arith))
+  where
+    pick : (t : Bool) → cond t 0 (suc (columnLength (take n b))) < suc n → (columnLength (take n b) < n → columnLength b ≡ columnLength (take n b))
+        → cond t 0 (suc (columnLength b)) ≡ cond t 0 (suc (columnLength (take n b)))
+    pick true h i = refl
+    pick false h i = ap suc (i (omega arith))
+
+cut-past : (n : ℕ) (b : Bytes) → n ≤ columnLength (take n b) → n ≤ length b → columnLength b ≡ n + columnLength (drop n b)
+unfolding columnLength
+cut-past zero b h l = omega arith
+cut-past (suc n) [] h l = absurd (omega arith)
+cut-past (suc n) (x ∷ b) h l = pick (isStop x) h (λ k. cut-past n b k (omega arith))
+  where
+    pick : (t : Bool) → suc n ≤ cond t 0 (suc (columnLength (take n b))) → (n ≤ columnLength (take n b) → columnLength b ≡ n + columnLength (drop n b))
+        → cond t 0 (suc (columnLength b)) ≡ suc n + columnLength (drop n b)
+    pick true h i = absurd (omega arith)
+    pick false h i = omega (arith, i (omega arith))
+
+module _ (s : Bytes) (a e : ℕ) (below : a ≤ e) (high : e ≤ length s) where
+  near-size : length (part s a e) ≡ e - a
+  near-size = length-take (e - a) (drop a s) ∙ omega (arith, length-drop a s)
+
+  pub near-short : columnLength (part s a e) ≤ e - a
+  near-short = omega (arith, cut-short (part s a e), near-size)
+
+  pub near-end : columnLength (part s a e) < e - a → columnLength (drop a s) ≡ columnLength (part s a e)
+  near-end h = cut-near (e - a) (drop a s) h (omega (arith, length-drop a s))
+
+  pub near-passed : e - a ≤ columnLength (part s a e) → Passes s a e
+  near-passed h =
+      let n : a + (e - a) ≡ e = omega arith in
+      (high, omega (arith, cut-past (e - a) (drop a s) h (omega (arith, length-drop a s)), ap columnLength (drop-drop (e - a) a s ∙ ap (λ (m : ℕ). drop m s) n)))
+
+  pub digits-passed : isHex (part s a e) ≡ true → Passes s a e
+  digits-passed h =
+      near-passed (omega (arith, digits-pass (part s a e) (and-right (eqb (length (part s a e) % 2) 0) (allDigits (part s a e)) (sym (even-digits (part s a e)) ∙ h)), near-size))
+
+-- ── columns
+
+-- bytes in front of the byte that ends them are a column
+module _ (s : Bytes) (a : ℕ) (c r : Bytes) (stop : ℕ) (is : drop a s ≡ c ++ (stop ∷ r)) where
+  room : a + length c < length s
+  room = omega (arith, length-drop a s, ap length is, length-append c (stop ∷ r))
+
+  pub column-part : part s a (a + length c) ≡ c
+  column-part =
+      let n : a + length c - a ≡ length c = omega arith in
+      rw (n, is) (take-append-seam c (stop ∷ r))
+
+  pub column-rest : drop (a + length c + 1) s ≡ r
+  column-rest =
+      let n : a + length c + 1 ≡ a + (length c + 1) = omega arith in
+      ap (λ (m : ℕ). drop m s) n ∙ sym (drop-drop (length c + 1) a s) ∙ ap (drop (length c + 1)) is ∙ drop-append-add c (stop ∷ r) 1
+
+  pub column-of : Meets (lacks 32 c) → Meets (lacks 10 c) → ColumnAt s a (a + length c) stop
+  column-of h k =
+      record {
+        low = omega arith;
+        high = room;
+        is = is ∙ ap₂ (λ (x y : Bytes). x ++ (stop ∷ y)) (sym column-part) (sym column-rest);
+        spaces = subst (λ (x : Bytes). Meets (lacks 32 x)) (sym column-part) h;
+        ends = subst (λ (x : Bytes). Meets (lacks 10 x)) (sym column-part) k;
+      }
+
+-- the first byte that ends a column ends the column from here on
+pub column-here : (s : Bytes) (a e stop : ℕ) → e ≡ a + columnLength (drop a s) → e < length s → getD s e 0 ≡ stop → ColumnAt s a e stop
+column-here s a e stop at h b =
+    let n = columnLength (drop a s) in
+    let c = take n (drop a s) in
+    let size : length c ≡ n = length-take-le n (drop a s) (cut-short (drop a s)) in
+    let place : a + length c ≡ e = omega arith in
+    let after : drop n (drop a s) ≡ stop ∷ drop (suc e) s =
+    drop-drop n a s ∙ ap (λ (m : ℕ). drop m s) (sym at) ∙ drop-cons s e 0 h ∙ ap (λ (x : ℕ). x ∷ drop (suc e) s) b in
+    let is : drop a s ≡ c ++ (stop ∷ drop (suc e) s) = sym (take-append-drop n (drop a s)) ∙ ap (λ (y : Bytes). c ++ y) after in
+    let f = cut-free (drop a s) in
+    subst (λ (m : ℕ). ColumnAt s a m stop) place (column-of s a c (drop (suc e) s) stop is (f .0) (f .1))
+
+module _ {s : Bytes} {a e stop : ℕ} (c : ColumnAt s a e stop) where
+  pub column-size : length (part s a e) ≡ e - a
+  column-size = length-take (e - a) (drop a s) ∙ omega (arith, length-drop a s, c .low, c .high)
+
+  -- there is no other end
+  pub column-end : isStop stop ≡ true → e ≡ a + columnLength (drop a s)
+  column-end h =
+      let n : columnLength (drop a s) ≡ length (part s a e) = ap columnLength (c .is) ∙ cut-at (part s a e) (drop (e + 1) s) stop h (c .spaces) (c .ends) in
+      omega (arith, n, column-size, c .low)
+
+  pub column-after : drop e s ≡ stop ∷ drop (e + 1) s
+  column-after =
+      let n : e ≡ a + (e - a) = omega (arith, c .low) in
+      ap (λ (m : ℕ). drop m s) n ∙ sym (drop-drop (e - a) a s) ∙ ap (drop (e - a)) (c .is) ∙ drop-at (part s a e) (stop ∷ drop (e + 1) s) (e - a) column-size
+
+  pub column-stop : getD s e 0 ≡ stop
+  column-stop = ap (λ (l : Bytes). getD l 0 0) (sym (drop-cons s e 0 (c .high)) ∙ column-after)

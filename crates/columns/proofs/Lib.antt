@@ -1,0 +1,4 @@
+pub mod ColumnLaws
+pub mod TextLaws
+pub mod FindLaws
+pub mod NumberAtLaws

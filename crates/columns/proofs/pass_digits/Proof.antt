@@ -1,0 +1,72 @@
+-- `columns::pass_digits` meets its contract. The loop's invariant: no column ends before `i`. The measure is what is left of the length.
+-- Assumes nothing.
+use mathlib.Core.Path.{refl, sym, _∙_}
+use Prim.Native.Nat.{_+_, _-_}
+use native.Mathlib.Omega.{arith}
+use lib.ListN.{length}
+use borrow.Author.Tests.{not-false}
+use Rattle.columns.specs.Columns.{Passes}
+use Rattle.columns.proofs.ColumnLaws.{digits-passed}
+use borrow.Author.Needs.{needs}
+use Rattle.columns.proofs.pass_digits.Statement.{statement}
+use Rattle.columns.proofs.pass_digits.Tie as tie
+
+abbrev Inv-loop : tie.InvT-loop
+Inv-loop s at i₀ i = Passes s at i
+
+abbrev μ-loop : tie.MeasureT-loop
+μ-loop s at i₀ i = length s - i
+
+loop-holds : tie.Need-loop-holds Inv-loop μ-loop
+loop-holds c = (c .before .pre, refl)
+
+sub-loop : tie.Need-sub-loop Inv-loop μ-loop
+sub-loop c = c .loop .inv .0
+
+add-next : tie.Need-add-next Inv-loop μ-loop
+add-next c = omega arith
+
+sub-is-hex : tie.Need-sub-is-hex Inv-loop μ-loop
+sub-is-hex c = omega arith
+
+part-is-hex-start : tie.Need-part-is-hex-start Inv-loop μ-loop
+part-is-hex-start c = omega arith
+
+part-is-hex-end : tie.Need-part-is-hex-end Inv-loop μ-loop
+part-is-hex-end c = omega arith
+
+is-hex-requires : tie.Need-is-hex-requires Inv-loop μ-loop
+is-hex-requires c κs = search needs
+
+returns : tie.Need-returns Inv-loop μ-loop
+returns c = c .before .before .before .before .loop .inv
+
+loop-less : tie.Need-loop-less Inv-loop μ-loop
+loop-less c = omega arith
+
+loop-again : tie.Need-loop-again Inv-loop μ-loop
+loop-again c =
+    let l = c .before .before .before .before .loop in
+    let d = digits-passed (c .before .before .before .before .before .before .args .s .now) (l .i) (l .i + 32) (omega arith) (omega arith) (sym (c .before .is-hex .ensures) ∙ not-false _ (c .if1 .left)) in
+    (d .0, l .inv .1 ∙ d .1)
+
+returns-2 : tie.Need-returns-2 Inv-loop μ-loop
+returns-2 c = c .before .loop .inv
+
+pub pass-digits-spec : {M : Type 1} → statement M
+pass-digits-spec =
+    tie.close
+    (tie.spec
+    Inv-loop
+    μ-loop
+    loop-holds
+    sub-loop
+    add-next
+    sub-is-hex
+    part-is-hex-start
+    part-is-hex-end
+    is-hex-requires
+    returns
+    loop-less
+    loop-again
+    returns-2)

@@ -1,0 +1,4 @@
+pub mod SplitLaws
+pub mod TailLaws
+pub mod LineLaws
+pub mod KnownLaws
