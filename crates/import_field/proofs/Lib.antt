@@ -3,4 +3,3 @@ pub mod BeginLaws
 pub mod EndLaws
 pub mod FieldLaws
 pub mod FieldsLaws
-pub mod SheetLaws

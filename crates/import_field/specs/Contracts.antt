@@ -1,4 +1,4 @@
--- What the functions of import ask and tell. The trees that they read are those that stand at a place of the sheet; what they write is what
+-- What the functions of a field's import ask and tell. The trees that they read are those that stand at a place of the sheet; what they write is what
 -- import makes of these trees, laid over the lent buffer. Assumes nothing.
 use mathlib.Core.Path.{_≡_}
 use mathlib.Core.Bool.{Bool}
@@ -10,9 +10,6 @@ use Rattle.sheets.specs.Bytes.{Bytes}
 use Rattle.sheets.specs.Answer.{Answer, refused, given, _>>=_}
 use Rattle.sheets.specs.Sheet.{ended}
 use Rattle.sheets.specs.Schema.{Schema, Schemas, countSchemas, schemaLevels, childrenLevels}
-use Rattle.sheets.specs.FieldSheet.{writeFieldSheet}
-use Rattle.sheets.specs.Import.{toField}
-use Rattle.sheets.specs.Outcome.{Outcome}
 use Rattle.sheets.proofs.SchemaLaws.{pushChildren}
 use Rattle.sheets.proofs.FormLaws.{Standing}
 use Rattle.sheets.proofs.ImportLaws.{written, rowWritten}
@@ -24,7 +21,6 @@ use Rattle.import_field.specs.declared.FieldBegun.{FieldBegun}
 use Rattle.import_field.specs.declared.FieldBegun.the-variants.{Row, Refused as Unbegun}
 use Rattle.import_field.specs.declared.Step.{Step}
 use Rattle.import_field.specs.declared.Step.the-variants.{Done, Refused}
-use Rattle.import_field.specs.declared.Imported.{Imported}
 
 -- ── what stands at a place of a sheet
 
@@ -111,20 +107,3 @@ Ends s at pending len ts (Done next len') = (pending ≡ 0) × (len' ≡ len) ×
 abbrev pub FieldEnds : Bytes → ℕ → ℕ → ℕ → ℕ → ℕ → Step → Type 0
 FieldEnds s at count most pending len r =
     (us ts : List Schema) → LeftAt s at count most us ts → Ends s at pending len ts r
-
--- ── the whole sheet
-
--- the field sheet of a schema
-unfoldable pub sheetOf : Schema → Answer Bytes
-sheetOf t = toField t >>= λ f. given (writeFieldSheet f)
-
-abbrev pub SheetWroteAs : Schema → Bytes → Bytes → Step → Type 0
-SheetWroteAs t out out' (Refused n) = (r : Refusal) × (sheetOf t ≡ refused r) × (numberOf r ≡ n)
-SheetWroteAs t out out' (Done next len) = (x : Bytes) × (sheetOf t ≡ given x) × (len ≡ length x) × (out' ≡ over x out)
-
-abbrev pub SheetWrote : Bytes → ℕ → Bytes → Bytes → Step → Type 0
-SheetWrote s at out out' r = (t : Schema) (ts : List Schema) → FieldAt s at 32 t ts → SheetWroteAs t out out' r
-
--- the answer of import, and the buffer after it, as an outcome
-abbrev pub outcomeOf : Imported → Bytes → Outcome
-outcomeOf a out = record { number = a .number; size = a .length; buffer = out }

@@ -1,24 +1,14 @@
-// Import: a schema sheet's bytes become a field sheet in a lent buffer. A field is read through its type, and a type through its fields.
-ghost use mathlib.Core.Path.{_≡_};
-ghost use Prim.Native.Nat.{suc, _≤_};
-ghost use lib.ListN.{length, replicate};
-ghost use Rattle.sheets.specs.Outcome.{importOutcome};
+// The lines of a field from the lines of its schema, in a lent buffer. A field is read through its type, and a type through its fields.
+ghost use Prim.Native.Nat.{suc};
 ghost use Rattle.put_node.specs.Own.{HasRoom};
 ghost use Rattle.import_field.specs.Contracts.{HasField, HasFields, HasLeft};
-ghost use Rattle.import_field.specs.Contracts.{FieldBegins, FieldEnds, FieldWrote, FieldsWrote, SheetWrote, outcomeOf};
+ghost use Rattle.import_field.specs.Contracts.{FieldBegins, FieldEnds, FieldWrote, FieldsWrote};
 use put_node::NodeRead;
 use put_node::Visit;
-use schema_sheet::SheetRead;
 use schema_sheet::Skipped;
 
-// What `import` answers: 0 and the sheet's length, or a refusal's number and 0.
-pub struct Imported {
-    pub number: u8,
-    pub length: usize,
-}
-
 // Where the reading goes on and how many bytes the lines have, or a refusal's number.
-enum Step {
+pub enum Step {
     Done { next: usize, len: usize },
     Refused(u8),
 }
@@ -69,8 +59,8 @@ fn end_field(s: &[u8], at: usize, count: u64, most: usize, pending: u8, len: usi
     Step::Done { next, len }
 }
 
-// Writes the lines of the field whose schema stands at `at`, as far as they fit.
-fn to_field(
+// Writes the lines of the field whose schema stands at `at`, as far as they fit; the schema has `most` levels at most.
+pub fn to_field(
     s: &[u8],
     at: usize,
     most: usize,
@@ -144,80 +134,5 @@ fn to_dtype(
     Step::Done {
         next: here,
         len: sum,
-    }
-}
-
-// Writes the heading and the field's lines, as far as they fit.
-fn put_sheet(s: &[u8], at: usize, out: &mut [u8], entries: &mut [u32], spare: &mut [u32]) -> Step
-    requires { ⌜ HasField (now s) at 32 × HasRoom (now s) (now entries) (now spare) ⌝ }
-    ensures { λ r. ⌜ SheetWrote (now (s .entry)) at (now (out .entry)) (now (out .exit)) r ⌝ }
-{
-    let head = buffer::put_at(out, 0, b"kind p q text more name nullable pairs children\n");
-    let w = buffer::within(head, out.len());
-    match to_field(s, at, 32, false, &mut out[w..], entries, spare) {
-        Step::Refused(n) => Step::Refused(n),
-        Step::Done { next, len } => Step::Done {
-            next,
-            len: head + len,
-        },
-    }
-}
-
-// A metadata pair takes 16 digits of the sheet. The entries of the pairs are lent down from here, so that they stand on the stack once and not at
-// each of 32 levels; and there are two sizes, so that a short sheet does not pay for clearing 32 KB.
-fn put_short(s: &[u8], at: usize, out: &mut [u8]) -> Step
-    requires { ⌜ HasField (now s) at 32 × (length (now s) ≤ 2048) ⌝ }
-    ensures { λ r. ⌜ SheetWrote (now (s .entry)) at (now (out .entry)) (now (out .exit)) r ⌝ }
-{
-    let mut entries: [u32; 128] = [0; 128];
-    let mut spare: [u32; 128] = [0; 128];
-    put_sheet(s, at, out, &mut entries[..], &mut spare[..])
-}
-
-fn put_long(s: &[u8], at: usize, out: &mut [u8]) -> Step
-    requires { ⌜ HasField (now s) at 32 ⌝ }
-    ensures { λ r. ⌜ SheetWrote (now (s .entry)) at (now (out .entry)) (now (out .exit)) r ⌝ }
-{
-    let mut entries: [u32; 4096] = [0; 4096];
-    let mut spare: [u32; 4096] = [0; 4096];
-    put_sheet(s, at, out, &mut entries[..], &mut spare[..])
-}
-
-fn put_by_length(s: &[u8], at: usize, out: &mut [u8]) -> Step
-    requires { ⌜ HasField (now s) at 32 ⌝ }
-    ensures { λ r. ⌜ SheetWrote (now (s .entry)) at (now (out .entry)) (now (out .exit)) r ⌝ }
-{
-    if s.len() <= 2048 {
-        return put_short(s, at, out);
-    }
-    put_long(s, at, out)
-}
-
-// A refusal: the number, and zeros.
-fn refuse(out: &mut [u8], number: u8) -> Imported
-    ensures { λ r. ⌜ (r .number ≡ number) × (r .length ≡ 0) × (now (out .exit) ≡ replicate (length (now (out .entry))) 0) ⌝ }
-{
-    buffer::clear(out);
-    Imported { number, length: 0 }
-}
-
-// The field sheet of a schema sheet, written over the first bytes of out; or the number of its refusal, and zeros.
-pub fn import(s: &[u8], out: &mut [u8]) -> Imported
-    ensures { λ r. ⌜ outcomeOf r (now (out .exit)) ≡ importOutcome (now (s .entry)) (now (out .entry)) ⌝ }
-{
-    match schema_sheet::read_sheet(s) {
-        SheetRead::Refused(n) => refuse(out, n),
-        SheetRead::Body(at) => match put_by_length(s, at, out) {
-            Step::Refused(n) => refuse(out, n),
-            Step::Done { next: _, len } => {
-                if out.len() < len {
-                    return refuse(out, 16);
-                }
-                Imported {
-                    number: 0,
-                    length: len,
-                }
-            }
-        },
     }
 }

@@ -15,7 +15,7 @@ pub struct Answer {
 pub extern "C" fn juzontefa_import(sheet: &[u8], out: &mut [u8]) -> Answer
     ensures { λ r. ⌜ outcomeOf r (now (out .exit)) ≡ importOutcome (now (sheet .entry)) (now (out .entry)) ⌝ }
 {
-    let r = import_field::import(sheet, out);
+    let r = import_sheet::import(sheet, out);
     Answer {
         number: r.number as u64,
         length: r.length as u64,

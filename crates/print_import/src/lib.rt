@@ -14,7 +14,7 @@ fn print_refusal(number: u8) {
 
 pub fn print_import(sheet: &[u8]) {
     let mut out = io::large_buffer();
-    let answer = import_field::import(sheet, &mut out);
+    let answer = import_sheet::import(sheet, &mut out);
     if answer.number != 0 {
         print_refusal(answer.number);
         return;

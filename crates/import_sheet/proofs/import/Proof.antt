@@ -1,9 +1,9 @@
 -- `import` meets its contract: each way out has its law in `SheetLaws`. Assumes nothing.
 use denote.Ref.{now}
-use Rattle.import_field.proofs.SheetLaws.{import-unread, field-there, import-refused, import-long, import-done}
+use Rattle.import_sheet.proofs.SheetLaws.{import-unread, field-there, import-refused, import-long, import-done}
 use borrow.Author.Needs.{needs}
-use Rattle.import_field.proofs.import.Statement.{statement}
-use Rattle.import_field.proofs.import.Tie as tie
+use Rattle.import_sheet.proofs.import.Statement.{statement}
+use Rattle.import_sheet.proofs.import.Tie as tie
 
 read-sheet-requires : tie.Need-read-sheet-requires
 read-sheet-requires c κs = search needs

@@ -1,11 +1,11 @@
 -- `put_sheet` meets its contract: the laws are in `SheetLaws`. Assumes nothing.
-use Rattle.import_field.proofs.SheetLaws.{sheet-refused, lines-long, sheet-done}
+use Rattle.import_sheet.proofs.SheetLaws.{sheet-refused, lines-long, sheet-done}
 use denote.Ref.{now}
 use native.Mathlib.Omega.{arith}
 use mathlib.Core.Path.{refl}
 use borrow.Author.Needs.{needs}
-use Rattle.import_field.proofs.put_sheet.Statement.{statement}
-use Rattle.import_field.proofs.put_sheet.Tie as tie
+use Rattle.import_sheet.proofs.put_sheet.Statement.{statement}
+use Rattle.import_sheet.proofs.put_sheet.Tie as tie
 
 slice-aggregate-put-at : tie.Need-slice-aggregate-put-at
 slice-aggregate-put-at c = search needs

@@ -20,12 +20,13 @@ use Rattle.sheets.proofs.ImportLaws.{written, shown}
 use Rattle.buffer.specs.Over.{over, overAt}
 use Rattle.buffer.proofs.OverLaws.{over-lent, over-fits, length-over, overAt-zero}
 use Rattle.schema_sheet.specs.Sheets.{Opens, ReadsSheet}
-use Rattle.import_field.specs.Contracts.{FieldAt, HasField, Wrote, FieldWrote, sheetOf, SheetWroteAs, SheetWrote, outcomeOf}
+use Rattle.import_field.specs.Contracts.{FieldAt, HasField, Wrote, FieldWrote}
+use Rattle.import_sheet.specs.Sheets.{sheetOf, SheetWroteAs, SheetWrote, outcomeOf}
 use Rattle.schema_sheet.specs.declared.SheetRead.{SheetRead}
 use Rattle.schema_sheet.specs.declared.SheetRead.the-variants.{Body, Refused as Unread}
 use Rattle.import_field.specs.declared.Step.{Step}
 use Rattle.import_field.specs.declared.Step.the-variants.{Done, Refused}
-use Rattle.import_field.specs.declared.Imported.{Imported}
+use Rattle.import_sheet.specs.declared.Imported.{Imported}
 
 -- ── the heading and the lines
 

@@ -1,0 +1,91 @@
+// Import: a schema sheet's bytes become a field sheet in a lent buffer.
+ghost use mathlib.Core.Path.{_≡_};
+ghost use Prim.Native.Nat.{_≤_};
+ghost use lib.ListN.{length, replicate};
+ghost use Rattle.sheets.specs.Outcome.{importOutcome};
+ghost use Rattle.put_node.specs.Own.{HasRoom};
+ghost use Rattle.import_field.specs.Contracts.{HasField};
+ghost use Rattle.import_sheet.specs.Sheets.{SheetWrote, outcomeOf};
+use import_field::Step;
+use schema_sheet::SheetRead;
+
+// What `import` answers: 0 and the sheet's length, or a refusal's number and 0.
+pub struct Imported {
+    pub number: u8,
+    pub length: usize,
+}
+
+// Writes the heading and the field's lines, as far as they fit.
+fn put_sheet(s: &[u8], at: usize, out: &mut [u8], entries: &mut [u32], spare: &mut [u32]) -> Step
+    requires { ⌜ HasField (now s) at 32 × HasRoom (now s) (now entries) (now spare) ⌝ }
+    ensures { λ r. ⌜ SheetWrote (now (s .entry)) at (now (out .entry)) (now (out .exit)) r ⌝ }
+{
+    let head = buffer::put_at(out, 0, b"kind p q text more name nullable pairs children\n");
+    let w = buffer::within(head, out.len());
+    match import_field::to_field(s, at, 32, false, &mut out[w..], entries, spare) {
+        Step::Refused(n) => Step::Refused(n),
+        Step::Done { next, len } => Step::Done {
+            next,
+            len: head + len,
+        },
+    }
+}
+
+// A metadata pair takes 16 digits of the sheet. The entries of the pairs are lent down from here, so that they stand on the stack once and not at
+// each of 32 levels; and there are two sizes, so that a short sheet does not pay for clearing 32 KB.
+fn put_short(s: &[u8], at: usize, out: &mut [u8]) -> Step
+    requires { ⌜ HasField (now s) at 32 × (length (now s) ≤ 2048) ⌝ }
+    ensures { λ r. ⌜ SheetWrote (now (s .entry)) at (now (out .entry)) (now (out .exit)) r ⌝ }
+{
+    let mut entries: [u32; 128] = [0; 128];
+    let mut spare: [u32; 128] = [0; 128];
+    put_sheet(s, at, out, &mut entries[..], &mut spare[..])
+}
+
+fn put_long(s: &[u8], at: usize, out: &mut [u8]) -> Step
+    requires { ⌜ HasField (now s) at 32 ⌝ }
+    ensures { λ r. ⌜ SheetWrote (now (s .entry)) at (now (out .entry)) (now (out .exit)) r ⌝ }
+{
+    let mut entries: [u32; 4096] = [0; 4096];
+    let mut spare: [u32; 4096] = [0; 4096];
+    put_sheet(s, at, out, &mut entries[..], &mut spare[..])
+}
+
+fn put_by_length(s: &[u8], at: usize, out: &mut [u8]) -> Step
+    requires { ⌜ HasField (now s) at 32 ⌝ }
+    ensures { λ r. ⌜ SheetWrote (now (s .entry)) at (now (out .entry)) (now (out .exit)) r ⌝ }
+{
+    if s.len() <= 2048 {
+        return put_short(s, at, out);
+    }
+    put_long(s, at, out)
+}
+
+// A refusal: the number, and zeros.
+fn refuse(out: &mut [u8], number: u8) -> Imported
+    ensures { λ r. ⌜ (r .number ≡ number) × (r .length ≡ 0) × (now (out .exit) ≡ replicate (length (now (out .entry))) 0) ⌝ }
+{
+    buffer::clear(out);
+    Imported { number, length: 0 }
+}
+
+// The field sheet of a schema sheet, written over the first bytes of out; or the number of its refusal, and zeros.
+pub fn import(s: &[u8], out: &mut [u8]) -> Imported
+    ensures { λ r. ⌜ outcomeOf r (now (out .exit)) ≡ importOutcome (now (s .entry)) (now (out .entry)) ⌝ }
+{
+    match schema_sheet::read_sheet(s) {
+        SheetRead::Refused(n) => refuse(out, n),
+        SheetRead::Body(at) => match put_by_length(s, at, out) {
+            Step::Refused(n) => refuse(out, n),
+            Step::Done { next: _, len } => {
+                if out.len() < len {
+                    return refuse(out, 16);
+                }
+                Imported {
+                    number: 0,
+                    length: len,
+                }
+            }
+        },
+    }
+}
