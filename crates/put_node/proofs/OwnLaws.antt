@@ -30,7 +30,8 @@ use Rattle.metadata.specs.declared.Metadata.{Metadata}
 use Rattle.metadata.specs.declared.MetadataRead.{MetadataRead}
 use Rattle.metadata.specs.declared.MetadataRead.the-variants as Read
 use Rattle.put_node.specs.declared.Own.{Own}
-use Rattle.format.specs.Told.{textOf, idsText, TextAt}
+use Rattle.format.specs.Told.{textOf, TextAt}
+use Rattle.format_parts.specs.Parts.{idsText}
 use Rattle.metadata.specs.Entry.{pairsAt, valueAt}
 use Rattle.metadata.specs.Pairs.{pairsColumn}
 use Rattle.metadata.specs.Reading.{Means, Reads}

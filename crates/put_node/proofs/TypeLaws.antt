@@ -27,13 +27,13 @@ use Rattle.field_line.specs.declared.TypeColumns.{TypeColumns}
 use Rattle.schema_line.specs.declared.SchemaLine.{SchemaLine}
 use Rattle.format.specs.declared.FormatRead.{FormatRead}
 use Rattle.format.specs.declared.FormatRead.the-variants as Format
-use Rattle.format.specs.declared.IndexRead.{IndexRead}
-use Rattle.format.specs.declared.IndexRead.the-variants as Index
+use Rattle.format_names.specs.declared.IndexRead.{IndexRead}
+use Rattle.format_names.specs.declared.IndexRead.the-variants as Index
 use Rattle.put_node.specs.declared.Below.{Below}
 use Rattle.put_node.specs.declared.Below.the-variants.{Nothing, First, All, Values}
 use Rattle.put_node.specs.declared.TypeRead.{TypeRead}
 use Rattle.put_node.specs.declared.TypeRead.the-variants as Read
-use Rattle.format.specs.Names.{IndexTold}
+use Rattle.format_names.specs.Names.{IndexTold}
 use Rattle.format.specs.Told.{shapeOf, nests, groups, isNesting, isGrouping, Tells}
 use Rattle.format.specs.Told.{Told as FormatTold}
 use Rattle.put_node.specs.Types.{Told}

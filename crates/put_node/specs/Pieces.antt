@@ -19,7 +19,8 @@ use Rattle.field_line.specs.Columns.{column, shapePiece, namePiece, ownPiece, e
 use Rattle.field_line.specs.declared.TypeColumns.{TypeColumns}
 use Rattle.put_node.specs.declared.Own.{Own}
 use Rattle.metadata.specs.declared.Metadata.{Metadata}
-use Rattle.format.specs.Told.{textOf, HasIds, TextAt}
+use Rattle.format.specs.Told.{textOf, TextAt}
+use Rattle.format_parts.specs.Parts.{HasIds}
 use Rattle.metadata.specs.Entry.{valueAt, Entries, OrNone}
 use Rattle.metadata.specs.Pairs.{pairsColumn}
 use Rattle.metadata.specs.Reading.{Room}

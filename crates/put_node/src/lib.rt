@@ -10,7 +10,7 @@ ghost use Rattle.sheets.specs.FieldSheet.{toNat, noText};
 ghost use Rattle.sheets.proofs.ImportLaws.{nodeShape};
 ghost use Rattle.buffer.specs.Over.{overAt};
 ghost use Rattle.field_line.specs.Columns.{column, shapePiece};
-ghost use Rattle.format.specs.Told.{idsText};
+ghost use Rattle.format_parts.specs.Parts.{idsText};
 ghost use Rattle.metadata.specs.Entry.{valueAt};
 ghost use Rattle.metadata.specs.Pairs.{pairsColumn};
 ghost use Rattle.put_node.specs.Visits.{belowAt};

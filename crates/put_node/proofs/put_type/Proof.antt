@@ -1,6 +1,6 @@
 -- `put_type` meets its contract: by cases of the text. Assumes nothing.
 use Rattle.put_node.specs.Pieces.{typePiece}
-use Rattle.format.specs.Told.{idsText}
+use Rattle.format_parts.specs.Parts.{idsText}
 use Prim.Native.Nat.{_-_}
 use lib.ListN.{length, take, drop, length-take, length-drop}
 use Rattle.sheets.specs.FieldSheet.{noText}

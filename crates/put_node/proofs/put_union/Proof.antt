@@ -1,6 +1,6 @@
 -- `put_union` meets its contract: a chain of five writes. Assumes nothing.
 use Rattle.sheets.specs.FieldSheet.{noText}
-use Rattle.format.specs.Told.{idsText}
+use Rattle.format_parts.specs.Parts.{idsText}
 use Rattle.put_node.proofs.WriteLaws.{put-same, union-shape}
 use Rattle.hex.specs.Hex.{bytesOf}
 use Rattle.field_line.proofs.LengthLaws.{number-short}
