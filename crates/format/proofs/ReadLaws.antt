@@ -30,11 +30,12 @@ use Rattle.parse.specs.declared.Id.the-variants as I
 use Rattle.field_line.specs.declared.TypeText.the-variants.{NoText, Zone, Ids}
 use Rattle.format.specs.declared.FormatRead.{FormatRead}
 use Rattle.format.specs.declared.FormatRead.the-variants as F
-use Rattle.format.specs.declared.NameRead.{NameRead}
-use Rattle.format.specs.declared.NameRead.the-variants.{Leaf, Other}
-use Rattle.format.specs.Names.{nameAt, NoneNamed, NameTold, unitNames, modeNames}
-use Rattle.format.specs.Told.{readIds, writtenIds, idsText, isNesting, isGrouping, Tells, Told, part, partsFrom, PartEnds, numbers, sizeRead, decimalRead, DecimalTold}
-use Rattle.format.proofs.PartLaws.{parts-here, split-some}
+use Rattle.format_names.specs.declared.NameRead.{NameRead}
+use Rattle.format_names.specs.declared.NameRead.the-variants.{Leaf, Other}
+use Rattle.format_names.specs.Names.{nameAt, NoneNamed, NameTold, unitNames, modeNames}
+use Rattle.format.specs.Told.{isNesting, isGrouping, Tells, Told, numbers, sizeRead, decimalRead, DecimalTold}
+use Rattle.format_parts.specs.Parts.{readIds, writtenIds, idsText, part, partsFrom, PartEnds}
+use Rattle.format_parts.proofs.PartLaws.{parts-here, split-some}
 
 -- ── numbers that do not read
 
@@ -88,18 +89,6 @@ size-refused b h = pick (readSize b) (bad-size b) h
 pub size-given : (a : Answer ℕ) {n : ℕ} → sizeOf a ≡ S.Value n → a ≡ given n
 size-given (refused r) e = absurd (let z : _≡_ {A = ℕ} 0 1 = cc in omega arith)
 size-given (given m) e = cc
-
-pub id-refused : (a : Answer ℤ) (ps : List Bytes) → idOf a ≡ I.Bad → gives (a >>= λ z. readEach readId ps >>= λ zs. given (z ∷ zs)) ≡ false
-id-refused (refused r) ps e = refl
-id-refused (given z) ps e = absurd (let z : _≡_ {A = ℕ} 0 1 = cc in omega arith)
-
-pub more-ids : (z : ℤ) (a : Answer (List ℤ)) → gives (a >>= λ zs. given (z ∷ zs)) ≡ gives a
-more-ids z (refused r) = refl
-more-ids z (given zs) = refl
-
-pub id-given : (a : Answer ℤ) (ps : List Bytes) {z : ℤ} → idOf a ≡ I.Value z → gives (a >>= λ z. readEach readId ps >>= λ zs. given (z ∷ zs)) ≡ gives (readEach readId ps)
-id-given (refused r) ps e = absurd (let z : _≡_ {A = ℕ} 0 1 = cc in omega arith)
-id-given (given z) ps e = more-ids z (readEach readId ps)
 
 -- ── columns
 

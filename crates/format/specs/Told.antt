@@ -18,6 +18,7 @@ use Rattle.sheets.specs.FieldSheet.{ofScalar as scalarShape, ofNesting as nesti
 use Rattle.sheets.specs.Format.{Format, ofScalar, ofNesting, ofGrouping, readId, decimalParts, zone}
 use Rattle.hex.specs.Hex.{isHex, bytesOf, gives}
 use Rattle.buffer.specs.Over.{IsUsize}
+use Rattle.format_parts.specs.Parts.{readIds, idsText, HasIds}
 use Rattle.field_line.specs.declared.TypeColumns.{TypeColumns}
 use Rattle.field_line.specs.declared.TypeText.{TypeText}
 use Rattle.field_line.specs.declared.TypeText.the-variants.{NoText, Zone, Ids}
@@ -28,36 +29,6 @@ abbrev pub shapeOf : Format → Shape
 shapeOf (ofScalar s) = scalarShape s
 shapeOf (ofNesting n) = nestingShape n
 shapeOf (ofGrouping g) = groupingShape g
-
--- ── a union's ids
-
--- the ids between the commas
-abbrev pub readIds : Bytes → Answer (List ℤ)
-readIds b = readEach readId (split comma b)
-
-abbrev pub writtenIds : Answer (List ℤ) → Bytes
-writtenIds (refused r) = []
-writtenIds (given zs) = writeList writeSigned (some zs)
-
--- the column of the ids that a union's format lists after its colon
-unfoldable pub idsText : Bytes → Bytes
-idsText b = writtenIds (readIds b)
-
-abbrev pub writtenId : Answer ℤ → Bytes
-writtenId (refused r) = []
-writtenId (given z) = writeSigned z
-
--- an id, as it is written
-unfoldable pub idText : Bytes → Bytes
-idText p = writtenId (readId p)
-
--- each id of the text f reads
-abbrev pub HasIds : Bytes → Type 0
-HasIds f = (isHex f ≡ true) × (gives (readIds (bytesOf f)) ≡ true)
-
--- ids that read, and places for them
-abbrev pub RoomForIds : Bytes → ℕ → Type 0
-RoomForIds f at = HasIds f × IsUsize (at + 21 * (length f + 1))
 
 -- ── the text of a type
 
@@ -104,27 +75,6 @@ pub record Tells (f : Bytes) (g : Format) (c : TypeColumns) : Type 0 where
 abbrev pub Told : Bytes → Answer Format → FormatRead → Type 0
 Told f a (F.Type c) = (g : Format) × (a ≡ given g) × Tells f g c
 Told f a (F.Refused n) = (r : Refusal) × (a ≡ refused r) × (numberOf r ≡ n)
-
--- ── parts of a format
-
--- pairs of digits that say k bytes or more
-abbrev pub HasBytes : Bytes → ℕ → Type 0
-HasBytes f k = (isHex f ≡ true) × (k ≤ length (bytesOf f))
-
-abbrev pub HasPart : Bytes → ℕ → ℕ → Type 0
-HasPart f from to = (isHex f ≡ true) × (from ≤ to) × (to ≤ length (bytesOf f))
-
--- the bytes from `from` on and before `to`
-abbrev pub part : ℕ → ℕ → Bytes → Bytes
-part from to b = take (to - from) (drop from b)
-
--- the parts between commas from `from` on; none past the end
-abbrev pub partsFrom : Bytes → ℕ → List Bytes
-partsFrom b from = cond (leb from (length b)) (split comma (drop from b)) []
-
--- a part ends at a comma or at the end
-abbrev pub PartEnds : Bytes → ℕ → ℕ → Type 0
-PartEnds b from to = (from ≤ to) × (to ≤ length b) × (partsFrom b from ≡ part from to b ∷ partsFrom b (to + 1))
 
 -- the columns of a type of numbers alone
 abbrev pub numbers : ℕ → ℕ → ℕ → FormatRead

@@ -19,7 +19,8 @@ use Rattle.field_line.specs.declared.TypeText.{TypeText}
 use Rattle.field_line.specs.declared.TypeText.the-variants.{NoText, Zone, Ids}
 use Rattle.field_line.specs.declared.TypeColumns.{TypeColumns}
 use Rattle.field_line.proofs.LengthLaws.{column-length, name-piece-length, bare-length, shape-short}
-use Rattle.format.specs.Told.{textOf, idsText, TextAt, HasIds}
+use Rattle.format.specs.Told.{textOf, TextAt}
+use Rattle.format_parts.specs.Parts.{idsText, HasIds}
 use Rattle.metadata.specs.declared.Metadata.{Metadata}
 use Rattle.metadata.specs.Entry.{valueAt}
 use Rattle.metadata.specs.Pairs.{pairsColumn}

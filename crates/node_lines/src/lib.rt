@@ -22,7 +22,7 @@ fn put_text(out: &mut [u8], at: usize, f: &[u8], text: TypeText) -> usize
     match text {
         TypeText::NoText => buffer::put_byte(out, at, b'~'),
         TypeText::Zone(k) => buffer::put_at(out, at, &f[k..]),
-        TypeText::Ids(k) => format::put_ids(out, at, &f[k..]),
+        TypeText::Ids(k) => format_parts::put_ids(out, at, &f[k..]),
     }
 }
 

@@ -26,13 +26,13 @@ use Rattle.schema_line.specs.declared.SchemaLine.{SchemaLine}
 use Rattle.schema_line.specs.Texts.{textIn}
 use Rattle.format.specs.declared.FormatRead.{FormatRead}
 use Rattle.format.specs.declared.FormatRead.the-variants as Format
-use Rattle.format.specs.declared.IndexRead.{IndexRead}
-use Rattle.format.specs.declared.IndexRead.the-variants as Index
+use Rattle.format_names.specs.declared.IndexRead.{IndexRead}
+use Rattle.format_names.specs.declared.IndexRead.the-variants as Index
 use Rattle.node_type.specs.declared.Below.{Below}
 use Rattle.node_type.specs.declared.Below.the-variants.{Nothing, First, All, Values}
 use Rattle.node_type.specs.declared.TypeRead.{TypeRead}
 use Rattle.node_type.specs.declared.TypeRead.the-variants as Read
-use Rattle.format.specs.Names.{IndexTold}
+use Rattle.format_names.specs.Names.{IndexTold}
 use Rattle.format.specs.Told.{shapeOf, nests, groups, isNesting, isGrouping, Tells}
 use Rattle.format.specs.Told.{Told as FormatTold}
 use Rattle.node_type.specs.Types.{Told}

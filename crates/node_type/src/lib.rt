@@ -10,7 +10,7 @@ ghost use Rattle.node_type.specs.NodeTypes.{IsText, columnType, indexSha
 use field_line::TypeColumns;
 use field_line::TypeText;
 use format::FormatRead;
-use format::IndexRead;
+use format_names::IndexRead;
 use schema_line::SchemaLine;
 
 // Which subtrees a type visits: none, the first child, all children, the dictionary's values.
@@ -64,7 +64,7 @@ fn index_type(f: &[u8], ordered: bool) -> TypeRead
     requires { ⌜ isHex (now f) ≡ true ⌝ }
     ensures { λ r. ⌜ ShapeTold (now (f .entry)) (indexShape (bytesOf (now (f .entry))) ordered) r ⌝ }
 {
-    match format::to_integer_type(f) {
+    match format_names::to_integer_type(f) {
         IndexRead::Refused(n) => TypeRead::Refused(n),
         IndexRead::Index(ix) => TypeRead::Type(
             TypeColumns {

@@ -3,7 +3,8 @@ use mathlib.Core.Path.{sym, _∙_, ap, ap₂}
 use Prim.Native.Nat.{_+_}
 use Rattle.sheets.specs.Format.{readSize}
 use Rattle.hex.specs.Hex.{bytesOf}
-use Rattle.format.specs.Told.{part, decimalRead}
+use Rattle.format.specs.Told.{decimalRead}
+use Rattle.format_parts.specs.Parts.{part}
 use Rattle.format.proofs.ReadLaws as reading
 use borrow.Author.Needs.{needs}
 use Rattle.format.proofs.decimal_of.Statement.{statement}

@@ -11,9 +11,9 @@ use Rattle.sheets.specs.Format.{ofScalar, zone, readCut}
 use Rattle.hex.specs.Hex.{bytesOf}
 use Rattle.hex.proofs.HexLaws.{length-bytes, twice-length}
 use Rattle.hex.proofs.PartLaws.{hex-drop, bytes-drop}
-use Rattle.format.specs.Names.{NamePlaced, NoneNamed, unitNames, modeNames}
-use Rattle.format.proofs.PlaceLaws.{placed}
-use Rattle.format.proofs.PartLaws as parts
+use Rattle.format_names.specs.Names.{NamePlaced, NoneNamed, unitNames, modeNames}
+use Rattle.format_names.proofs.PlaceLaws.{placed}
+use Rattle.format_parts.proofs.PartLaws as parts
 use Rattle.format.proofs.ReadLaws as reading
 use borrow.Author.Needs.{needs}
 use Rattle.format.proofs.read_cut.Statement.{statement}

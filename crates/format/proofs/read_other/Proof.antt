@@ -5,8 +5,8 @@ use Rattle.sheets.specs.Refusal.{unsupportedFormat}
 use Rattle.sheets.specs.Answer.{given}
 use Rattle.sheets.specs.Format.{readOther}
 use Rattle.hex.specs.Hex.{bytesOf}
-use Rattle.format.proofs.PlaceLaws.{byte-placed}
-use Rattle.format.proofs.PartLaws as parts
+use Rattle.format_names.proofs.PlaceLaws.{byte-placed}
+use Rattle.format_parts.proofs.PartLaws as parts
 use Rattle.format.proofs.ReadLaws as reading
 use borrow.Author.Needs.{needs}
 use Rattle.format.proofs.read_other.Statement.{statement}

@@ -8,7 +8,7 @@ use Rattle.sheets.specs.Format.{ofScalar, readSize, decimalParts}
 use Rattle.hex.specs.Hex.{bytesOf}
 use Rattle.format.specs.declared.FormatRead.the-variants as F
 use Rattle.format.specs.Told.{sizeRead}
-use Rattle.format.proofs.PartLaws as parts
+use Rattle.format_parts.proofs.PartLaws as parts
 use Rattle.format.proofs.ReadLaws as reading
 use borrow.Author.Needs.{needs}
 use Rattle.format.proofs.read_sizes.Statement.{statement}
