@@ -22,7 +22,7 @@ enum Place {
     Nowhere,
 }
 
-enum NumberColumn {
+pub enum NumberColumn {
     At(u64, usize),
     Bad,
 }
@@ -188,7 +188,7 @@ fn signed_column(s: &[u8], at: usize) -> SignedColumn
     SignedColumn::At(z, e)
 }
 
-fn number_column(s: &[u8], at: usize, stop: u8) -> NumberColumn
+pub fn number_column(s: &[u8], at: usize, stop: u8) -> NumberColumn
     requires { ⌜ isStop stop ≡ true ⌝ }
     ensures { λ r. ⌜ FindsNumber (now (s .entry)) at stop r ⌝ }
 {
