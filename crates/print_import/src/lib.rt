@@ -1,4 +1,6 @@
 // What the programs print of a schema sheet: its field sheet, or `refused N`. The output buffer has 65,536 bytes.
+ghost use mathlib.Core.Path.{_≡_};
+ghost use Rattle.print_import.specs.Printed.{printedNumber};
 use libc::STDOUT_FILENO;
 
 fn print_sheet(out: &[u8], length: usize) {
@@ -12,12 +14,17 @@ fn print_refusal(number: u8) {
     io::write_all(STDOUT_FILENO, b"\n");
 }
 
-pub fn print_import(sheet: &[u8]) {
+// Prints what import answers; the number of the answer.
+pub fn print_import(sheet: &[u8]) -> u8
+    ensures { λ r. ⌜ r ≡ printedNumber (now (sheet .entry)) ⌝ }
+{
     let mut out = io::large_buffer();
     let answer = import_sheet::import(sheet, &mut out);
-    if answer.number != 0 {
-        print_refusal(answer.number);
-        return;
+    let number = answer.number;
+    if number != 0 {
+        print_refusal(number);
+        return number;
     }
     print_sheet(&out, answer.length);
+    number
 }

@@ -5,27 +5,19 @@ use lib.ListN.{length-take}
 use borrow.Author.Needs.{needs}
 use Rattle.print_import.proofs.print_sheet.Statement.{statement}
 use Rattle.print_import.proofs.print_sheet.Tie as tie
-use Rattle.print_import.proofs.print_sheet.Reads as reads
-use Rattle.print_import.proofs.print_sheet.Lts as lts
-use Rattle.buffer.proofs.within.Reads as within-reads
-use Rattle.io.proofs.write_all.Reads as write-all-reads
 
--- src/main.rt:12:9
 within-requires : tie.Need-within-requires
 within-requires c κs = search needs
 
--- src/main.rt:13:34
 slice-aggregate-write-all : tie.Need-slice-aggregate-write-all
 slice-aggregate-write-all c =
     let n = c .before .within .result in
     let l = c .before .before .before .args .out .now in
     sym (length-take n l ∙ omega (arith, c .before .within .ensures))
 
--- src/main.rt:13:5
 write-all-requires : tie.Need-write-all-requires
 write-all-requires c κs = search needs
 
--- src/main.rt:11:1
 returns : tie.Need-returns
 returns c = search needs
 

@@ -1,0 +1,29 @@
+-- An outcome's number goes by the length of the lent buffer alone. Assumes nothing.
+use mathlib.Core.Path.{_≡_, refl, sym, ap, _∙_}
+use mathlib.Core.Bool.{Bool, true, false, cond}
+use Prim.Native.Nat.{ℕ}
+use lib.Dec.{leb}
+use lib.ListN.{length, replicate, length-replicate}
+use Rattle.sheets.specs.Refusal.{noRoom}
+use Rattle.sheets.specs.Bytes.{Bytes}
+use Rattle.sheets.specs.Answer.{Answer, refused, given}
+use Rattle.sheets.specs.Outcome.{Outcome, outcome, success, refusal, importOutcome}
+use Rattle.import_sheet.specs.Contracts.{outcomeOf}
+use Rattle.import_sheet.specs.declared.Imported.{Imported}
+use Rattle.print_import.specs.Printed.{printedNumber}
+
+by-size : (a : Answer Bytes) (out lent : Bytes) → length out ≡ length lent → outcome a out .number ≡ outcome a lent .number
+unfolding outcome
+by-size (refused r) out lent e = refl
+by-size (given x) out lent e = pick (leb (length x) (length out)) ∙ ap (λ (n : ℕ). cond (leb (length x) n) (success x lent) (refusal noRoom lent) .number) e
+  where
+    pick : (t : Bool) → cond t (success x out) (refusal noRoom out) .number ≡ cond t (success x lent) (refusal noRoom lent) .number
+    pick true = refl
+    pick false = refl
+
+zeros : (s out : Bytes) (n : ℕ) → n ≡ length out → importOutcome s out .number ≡ importOutcome s (replicate n 0) .number
+zeros s out n e = by-size _ out (replicate n 0) (sym e ∙ sym (length-replicate {A = ℕ} n 0))
+
+pub printed : (s out after : Bytes) (r : Imported) → 65536 ≡ length out → outcomeOf r after ≡ importOutcome s out → r .number ≡ printedNumber s
+unfolding printedNumber
+printed s out after r e h = ap (λ (o : Outcome). o .number) h ∙ zeros s out 65536 e

@@ -1,0 +1,5 @@
+pub mod TextLaws
+pub mod ByteLaws
+pub mod PartLaws
+pub mod NumbersLaws
+pub mod RecordLaws
