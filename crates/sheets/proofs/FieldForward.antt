@@ -16,7 +16,7 @@ use Rattle.sheets.specs.Bytes.{Bytes}
 use Rattle.sheets.specs.Answer.{Answer, refused, given, _>>=_, when}
 use Rattle.sheets.specs.Field.{Info, Scalar, Nesting, Grouping, ArrowDataType, scalar, nested, grouped, dictionary, extension, Fields, nil, add, Field}
 use Rattle.sheets.specs.FieldSheet.{Shape, ofScalar, ofNesting, ofGrouping, ofDictionary, ofExtension, Line, fieldLine, columnsOf, ownOf, childrenOf, readShape, readInfo, Entry, takeFields, takeField, takeBare, placeType, placeLine, entries}
-use Rattle.sheets.proofs.Tests.{first-gave, met-when}
+use Rattle.sheets.proofs.Tests.{first-gave, met-when, never, not-given}
 
 -- a bare line says nothing of its field
 abbrev pub isBare : Option Info → Bool
@@ -93,20 +93,20 @@ record Placed (s : Shape) (n : ℕ) (us : List Entry) (p : ℕ) : Type 0 where
 fields-taken : (n p : ℕ) (us : List Entry) → length us ≡ n + p → Meets (named us) → (x : Fields × List Entry) × (takeFields n us ≡ given x) × (length (x .1) ≡ p) × Meets (named (x .1))
 fields-taken zero p us h k = ((nil, us), refl, omega arith, k)
 fields-taken (suc n) p [] h k = absurd (omega arith)
-fields-taken (suc n) p ((none, t) ∷ us) h k = absurd (let z : _≡_ {A = Bool} false true = k .0 in let y : _≡_ {A = ℕ} 0 1 = cc in omega arith)
+fields-taken (suc n) p ((none, t) ∷ us) h k = never (k .0)
 fields-taken (suc n) p ((some i, t) ∷ us) h k =
     let r = fields-taken n p us (omega arith) (k .1) in
     ((add i t (r .0 .0), r .0 .1), rw (r .1), r .2, r .3)
 
 one-named : (g : Nesting) (n p : ℕ) (us : List Entry) → eqb n 1 ≡ true → length us ≡ 1 + p → Meets (expected false us) → Placed (ofNesting g) n us p
 one-named g n p [] e h k = absurd (omega arith)
-one-named g n p ((none, t) ∷ us) e h k = absurd (let z : _≡_ {A = Bool} false true = k .0 in let y : _≡_ {A = ℕ} 0 1 = cc in omega arith)
+one-named g n p ((none, t) ∷ us) e h k = never (k .0)
 one-named g n p ((some i, t) ∷ us) e h k = record { type = nested g i t; rest = us; gives = rw e; count = omega arith; rules = k .1 }
 
 one-bare : (n p : ℕ) (us : List Entry) → eqb n 1 ≡ true → length us ≡ 1 + p → Meets (expected true us) → (x : ArrowDataType × List Entry) × (takeBare n us ≡ given x) × (length (x .1) ≡ p) × Meets (named (x .1))
 one-bare n p [] e h k = absurd (omega arith)
 one-bare n p ((none, t) ∷ us) e h k = ((t, us), rw e, omega arith, k .1)
-one-bare n p ((some i, t) ∷ us) e h k = absurd (let z : _≡_ {A = Bool} false true = k .0 in let y : _≡_ {A = ℕ} 0 1 = cc in omega arith)
+one-bare n p ((some i, t) ∷ us) e h k = never (k .0)
 
 placed : (s : Shape) (n k p : ℕ) (us : List Entry) → belowLine s n ≡ given k → length us ≡ k + p → Meets (expected (bareBelow s) us) → Placed s n us p
 placed (ofScalar s) n k p us e h r =
@@ -135,8 +135,8 @@ grown b bs bare p k l s i el es ei fits ek w = go (w .types) (w .isRead) (placed
 
 pub counted-types : (ls : List Bytes) (p : ℕ) (bare : Bool) → forward ls p bare ≡ given true → Row ls p bare
 counted-types [] zero bare e = record { types = []; isRead = refl; count = refl; rules = refl }
-counted-types [] (suc p) bare e = absurd (let y : _≡_ {A = ℕ} 0 1 = cc in omega arith)
-counted-types (b ∷ bs) zero bare e = absurd (let y : _≡_ {A = ℕ} 0 1 = cc in omega arith)
+counted-types [] (suc p) bare e = not-given e
+counted-types (b ∷ bs) zero bare e = not-given e
 counted-types (b ∷ bs) (suc p) bare e = line (fieldLine .read b) refl e (λ k s. counted-types bs (k + p) (bareBelow s))
   where
     Next : Type 0
@@ -144,24 +144,24 @@ counted-types (b ∷ bs) (suc p) bare e = line (fieldLine .read b) refl e (λ k 
 
     count : (l : Line) (s : Shape) (i : Option Info) → fieldLine .read b ≡ given l → readShape (columnsOf l) ≡ given s → readInfo (ownOf l) ≡ given i → Bool·beq (isBare i) bare ≡ true
         → (a : Answer ℕ) → belowLine s (childrenOf l) ≡ a → (a >>= λ k. forward bs (k + p) (bareBelow s)) ≡ given true → Next → Row (b ∷ bs) (suc p) bare
-    count l s i el es ei fits (refused r) ek g next = absurd (let y : _≡_ {A = ℕ} 0 1 = cc in omega arith)
+    count l s i el es ei fits (refused r) ek g next = not-given g
     count l s i el es ei fits (given k) ek g next = grown b bs bare p k l s i el es ei fits ek (next k s g)
 
     own : (l : Line) (s : Shape) → fieldLine .read b ≡ given l → readShape (columnsOf l) ≡ given s → (a : Answer (Option Info)) → readInfo (ownOf l) ≡ a
         → (a >>= λ i. when badLines (is (Bool·beq (isBare i) bare)) i >>= λ j. belowLine s (childrenOf l) >>= λ k. forward bs (k + p) (bareBelow s)) ≡ given true → Next → Row (b ∷ bs) (suc p) bare
-    own l s el es (refused r) ei g next = absurd (let y : _≡_ {A = ℕ} 0 1 = cc in omega arith)
+    own l s el es (refused r) ei g next = not-given g
     own l s el es (given i) ei g next =
         let q = first-gave (when badLines (is (Bool·beq (isBare i) bare)) i) (λ j. belowLine s (childrenOf l) >>= λ k. forward bs (k + p) (bareBelow s)) true g in
         count l s i el es ei (met-when badLines (is (Bool·beq (isBare i) bare)) i (q .0) (q .1) .0) (belowLine s (childrenOf l)) refl (q .2) next
 
     shape : (l : Line) → fieldLine .read b ≡ given l → (a : Answer Shape) → readShape (columnsOf l) ≡ a
         → (a >>= λ s. readInfo (ownOf l) >>= λ i. when badLines (is (Bool·beq (isBare i) bare)) i >>= λ j. belowLine s (childrenOf l) >>= λ k. forward bs (k + p) (bareBelow s)) ≡ given true → Next → Row (b ∷ bs) (suc p) bare
-    shape l el (refused r) es g next = absurd (let y : _≡_ {A = ℕ} 0 1 = cc in omega arith)
+    shape l el (refused r) es g next = not-given g
     shape l el (given s) es g next = own l s el es (readInfo (ownOf l)) refl g next
 
     line : (a : Answer Line) → fieldLine .read b ≡ a
         → (a >>= λ l. readShape (columnsOf l) >>= λ s. readInfo (ownOf l) >>= λ i. when badLines (is (Bool·beq (isBare i) bare)) i >>= λ j. belowLine s (childrenOf l) >>= λ k. forward bs (k + p) (bareBelow s)) ≡ given true → Next → Row (b ∷ bs) (suc p) bare
-    line (refused r) el g next = absurd (let y : _≡_ {A = ℕ} 0 1 = cc in omega arith)
+    line (refused r) el g next = not-given g
     line (given l) el g next = shape l el (readShape (columnsOf l)) refl g next
 
 -- ── types are counted
@@ -174,27 +174,27 @@ record Taken (s : Shape) (n : ℕ) (us ts : List Entry) : Type 0 where
   rules : Meets (expected (bareBelow s) us)
 
 field-off : (n : ℕ) (us : List Entry) (x : Field × List Entry) → takeField n us ≡ given x → (eqb n 1 ≡ true) × (length us ≡ 1 + length (x .1)) × (Meets (named (x .1)) → Meets (expected false us))
-field-off n [] x e = absurd (let y : _≡_ {A = ℕ} 0 1 = cc in omega arith)
-field-off n ((none, t) ∷ us) x e = absurd (let y : _≡_ {A = ℕ} 0 1 = cc in omega arith)
+field-off n [] x e = not-given e
+field-off n ((none, t) ∷ us) x e = not-given e
 field-off n ((some i, t) ∷ us) x e =
     let m = met-when badLines (is (eqb n 1)) (record { info = i; type = t }, us) x e in
     let same : us ≡ x .1 = ap (λ (y : Field × List Entry). y .1) (m .1) in
     (m .0, omega (arith, ap length same), λ k. (refl, subst (λ y. Meets (named y)) (sym same) k))
 
 bare-off : (n : ℕ) (us : List Entry) (x : ArrowDataType × List Entry) → takeBare n us ≡ given x → (eqb n 1 ≡ true) × (length us ≡ 1 + length (x .1)) × (Meets (named (x .1)) → Meets (expected true us))
-bare-off n [] x e = absurd (let y : _≡_ {A = ℕ} 0 1 = cc in omega arith)
+bare-off n [] x e = not-given e
 bare-off n ((none, t) ∷ us) x e =
     let m = met-when badLines (is (eqb n 1)) (t, us) x e in
     let same : us ≡ x .1 = ap (λ (y : ArrowDataType × List Entry). y .1) (m .1) in
     (m .0, omega (arith, ap length same), λ k. (refl, subst (λ y. Meets (named y)) (sym same) k))
-bare-off n ((some i, t) ∷ us) x e = absurd (let y : _≡_ {A = ℕ} 0 1 = cc in omega arith)
+bare-off n ((some i, t) ∷ us) x e = not-given e
 
 fields-off : (n : ℕ) (us : List Entry) (x : Fields × List Entry) → takeFields n us ≡ given x → (length us ≡ n + length (x .1)) × (Meets (named (x .1)) → Meets (named us))
 fields-off zero us x e =
     let same : us ≡ x .1 = ap (λ (y : Fields × List Entry). y .1) (let z : _≡_ {A = Fields × List Entry} (nil, us) x = cc in z) in
     (omega (arith, ap length same), λ k. subst (λ y. Meets (named y)) (sym same) k)
-fields-off (suc n) [] x e = absurd (let y : _≡_ {A = ℕ} 0 1 = cc in omega arith)
-fields-off (suc n) ((none, t) ∷ us) x e = absurd (let y : _≡_ {A = ℕ} 0 1 = cc in omega arith)
+fields-off (suc n) [] x e = not-given e
+fields-off (suc n) ((none, t) ∷ us) x e = not-given e
 fields-off (suc n) ((some i, t) ∷ us) x e =
     let q = first-gave (takeFields n us) (λ y. given (add i t (y .0), y .1)) x e in
     let z : _≡_ {A = Fields × List Entry} (add i t (q .0 .0), q .0 .1) x = cc in

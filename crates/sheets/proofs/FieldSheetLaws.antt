@@ -21,7 +21,7 @@ use Rattle.sheets.proofs.InverseLaws.{sheet-read, sheet-length}
 use Rattle.sheets.proofs.SchemaLaws.{single-read}
 use Rattle.sheets.specs.Field.{Pair, Info, TimeUnit, unitPlace, second, millisecond, microsecond, nanosecond, Width, bits128, bits32, bits64, bits256, Scalar, leaf, timestamp, fixedSizeBinary, decimalType, Nesting, list, largeList, fixedSizeList, map, Grouping, struct, union, ArrowDataType, scalar, nested, grouped, dictionary, extension, Fields, nil, add, Field, countFields, scalarRule, nestingRule, groupingRule, textRule, pairsRule, metadataRule, infoRule, typeRule, fieldsRule, fieldRule, idRule, fieldLevels}
 use Rattle.sheets.specs.FieldSheet.{Columns, Shape, ofScalar, ofNesting, ofGrouping, ofDictionary, ofExtension, noText, unitAt, toNat, boolAt, columns, pairText, pairOf, readPair, readList, writeList, Own, infoColumns, readInfo, infoNamed, sameOwn, fieldLine, lineOf, columnsOf, ownOf, childrenOf, typeLines, fieldsLines, shapeAt, sameColumns, readShape, Line, Entry, placeLine, takeFields, takeField, takeBare, placeType, entries, fieldOf, fieldHeading, writeFieldSheet, readFieldSheet}
-use Rattle.sheets.proofs.Tests.{when-met, passing, first-gave, met-when, same-number, and-left, and-right}
+use Rattle.sheets.proofs.Tests.{when-met, passing, first-gave, met-when, same-number, and-left, and-right, not-given}
 use Rattle.sheets.proofs.BytesLaws.{same-refl, same-eq, split-next, split-last, eachLacks, each-append, all-append}
 use Rattle.sheets.proofs.NumberLaws.{read-decimal, read-signed, decimal-lacks, signed-lacks, isNumeral}
 use Rattle.sheets.proofs.TextLaws.{isHex, bytesRule, isByte, read-text, text-lacks, noTextByte, unhex-hex, hex-lacks}
@@ -325,7 +325,7 @@ fields-taken : (n : ℕ) (ts : List Entry) (x : Fields × List Entry) → takeFi
 fields-taken zero ts x e =
     let equal : (nil, ts) ≡ x = cc in
     subst (λ y. (ts ≡ pushFields (y .0) (y .1)) × (countFields (y .0) ≡ 0)) equal (refl, refl)
-fields-taken (suc n) [] x e = absurd (let y : _≡_ {A = ℕ} 0 1 = cc in omega arith)
+fields-taken (suc n) [] x e = not-given e
 fields-taken (suc n) (t ∷ ts) x e = pick (t .0) refl (fields-taken n ts) e
   where
     Goal : Type 0
@@ -337,33 +337,33 @@ fields-taken (suc n) (t ∷ ts) x e = pick (t .0) refl (fields-taken n ts) e
 
     pick : (o : Option Info) → t .0 ≡ o → ((y : Fields × List Entry) → takeFields n ts ≡ given y → (ts ≡ pushFields (y .0) (y .1)) × (countFields (y .0) ≡ n))
         → elim o as (λ z. Answer (Fields × List Entry)) [ none ↦ refused badLines | some i ↦ (takeFields n ts >>= λ y. given (add i (t .1) (y .0), y .1)) ] ≡ given x → Goal
-    pick none ti next g = absurd (let y : _≡_ {A = ℕ} 0 1 = cc in omega arith)
+    pick none ti next g = not-given g
     pick (some i) ti next g =
         let q = first-gave (takeFields n ts) (λ y. given (add i (t .1) (y .0), y .1)) x g in
         step i ti (q .0) (next (q .0) (q .1)) (cc)
 
 field-taken : (n : ℕ) (ts : List Entry) (x : Field × List Entry) → takeField n ts ≡ given x → (ts ≡ (some (x .0 .info), x .0 .type) ∷ x .1) × (n ≡ 1)
-field-taken n [] x e = absurd (let y : _≡_ {A = ℕ} 0 1 = cc in omega arith)
+field-taken n [] x e = not-given e
 field-taken n (t ∷ ts) x e = pick (t .0) refl e
   where
     Goal : Type 0
     Goal = (t ∷ ts ≡ (some (x .0 .info), x .0 .type) ∷ x .1) × (n ≡ 1)
 
     pick : (o : Option Info) → t .0 ≡ o → elim o as (λ z. Answer (Field × List Entry)) [ none ↦ refused badLines | some i ↦ when badLines (is (eqb n 1)) (record { info = i; type = t .1 }, ts) ] ≡ given x → Goal
-    pick none ti g = absurd (let y : _≡_ {A = ℕ} 0 1 = cc in omega arith)
+    pick none ti g = not-given g
     pick (some i) ti g =
         let m = met-when badLines (is (eqb n 1)) (record { info = i; type = t .1 }, ts) x g in
         subst (λ z. (t ∷ ts ≡ (some (z .0 .info), z .0 .type) ∷ z .1) × (n ≡ 1)) (m .1) ((λ k. (ti k, t .1) ∷ ts), eqb-true n 1 (m .0))
 
 bare-taken : (n : ℕ) (ts : List Entry) (x : ArrowDataType × List Entry) → takeBare n ts ≡ given x → (ts ≡ (none, x .0) ∷ x .1) × (n ≡ 1)
-bare-taken n [] x e = absurd (let y : _≡_ {A = ℕ} 0 1 = cc in omega arith)
+bare-taken n [] x e = not-given e
 bare-taken n (t ∷ ts) x e = pick (t .0) refl e
   where
     Goal : Type 0
     Goal = (t ∷ ts ≡ (none, x .0) ∷ x .1) × (n ≡ 1)
 
     pick : (o : Option Info) → t .0 ≡ o → elim o as (λ z. Answer (ArrowDataType × List Entry)) [ none ↦ when badLines (is (eqb n 1)) (t .1, ts) | some i ↦ refused badLines ] ≡ given x → Goal
-    pick (some i) ti g = absurd (let y : _≡_ {A = ℕ} 0 1 = cc in omega arith)
+    pick (some i) ti g = not-given g
     pick none ti g =
         let m = met-when badLines (is (eqb n 1)) (t .1, ts) x g in
         subst (λ z. (t ∷ ts ≡ (none, z .0) ∷ z .1) × (n ≡ 1)) (m .1) ((λ k. (ti k, t .1) ∷ ts), eqb-true n 1 (m .0))
@@ -435,7 +435,7 @@ field-of : (x : Entry) (f : Field) → fieldOf x ≡ given f → x ≡ (some (f 
 field-of x f e = pick (x .0) refl e
   where
     pick : (o : Option Info) → x .0 ≡ o → elim o as (λ z. Answer Field) [ none ↦ refused badLines | some i ↦ given (record { info = i; type = x .1 }) ] ≡ given f → x ≡ (some (f .info), f .type)
-    pick none xi g = absurd (let y : _≡_ {A = ℕ} 0 1 = cc in omega arith)
+    pick none xi g = not-given g
     pick (some i) xi g =
         let equal : record { info = i; type = x .1 } ≡ f = cc in
         subst (λ h. x ≡ (some (h .info), h .type)) equal (λ k. (xi k, x .1))

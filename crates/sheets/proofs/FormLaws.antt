@@ -16,7 +16,7 @@ use Rattle.sheets.specs.Bytes.{Bytes, lacks, split, after}
 use Rattle.sheets.specs.Answer.{Answer, refused, given, _>>=_, when, decide, found}
 use Rattle.sheets.specs.Sheet.{ended, endedLines, readSheet, single}
 use Rattle.sheets.specs.Schema.{Schema, schema, Schemas, end, _&_, Dictionary, absent, present, Line, nodeOf, childrenOf, dictionaryOf, countSchemas, countDictionary, schemaLine, schemaLines, takeChildren, takeDictionary, placeSchema, schemaTrees, nodeRule, schemaRule, childrenRule, dictionaryRule, schemaLevels, schemaHeading, readSchemaSheet}
-use Rattle.sheets.proofs.Tests.{first-gave, meets, passing}
+use Rattle.sheets.proofs.Tests.{first-gave, meets, passing, not-given}
 use Rattle.sheets.proofs.BytesLaws.{split-next, split-last}
 use Rattle.sheets.proofs.InverseLaws.{split-some, ended-join, join-split}
 use Rattle.sheets.proofs.SchemaLaws.{pushChildren, pushDictionary, children-taken, dictionary-taken, allLines, trees-read}
@@ -281,7 +281,7 @@ module _ (b body : Bytes) (short : leb (length b) 65535 ≡ true) (headed : afte
         where
           go : (m : Answer (List Bytes)) → (m >>= λ ls. schemaTrees ls) ≡ given (t ∷ [])
               → (m >>= λ ls. schemaTrees ls >>= λ ts. single ts >>= λ u. when badLines (schemaRule u) u >>= λ u. when tooDeep (is (leb (schemaLevels u) 32)) u) ≡ when tooDeep (is (leb (schemaLevels t) 32)) t
-          go (refused r) g = absurd (let y : _≡_ {A = ℕ} 0 1 = cc in omega arith)
+          go (refused r) g = not-given g
           go (given ls) g = rw (g, passing (schemaRule t) (h .0))
       pick (t ∷ u ∷ us) n h e = absurd (omega arith)
 

@@ -21,7 +21,7 @@ use Rattle.sheets.specs.Field.{TimeUnit, second, millisecond, microsecon
 use Rattle.sheets.specs.Demand3.{narrow}
 use Rattle.sheets.specs.Plain.{plainZone, plainScalar, plainGrouping}
 use Rattle.sheets.specs.Format.{Row, rows, rowNamed, rowOf, unitLetter, orEmpty, widthText, scalarFormat, nestingFormat, unionName, writeIds, groupingFormat, Format, ofScalar, ofNesting, ofGrouping, unsigned, dropPlus, readSize, minus, readId, widthOf, decimalParts, cut, zone, readCut, readOther, readNamed, readFormat, toIntegerType, indexFormat}
-use Rattle.sheets.proofs.Tests.{when-met, passing, meets, first-gave, every, at-each, and-left, and-right}
+use Rattle.sheets.proofs.Tests.{when-met, passing, meets, first-gave, every, at-each, and-left, and-right, never, not-some, not-given}
 use Rattle.sheets.proofs.BytesLaws.{split-join, eachLacks, all-append, all-weaken}
 use Rattle.sheets.proofs.NumberLaws.{decimal-digits, decimal-lean, value-decimal, decimal-lacks, signed-lacks}
 use Rattle.sheets.proofs.Utf8Laws.{utf8-append, isAscii, ascii-utf8}
@@ -30,7 +30,7 @@ use Rattle.sheets.proofs.ListLaws.{read-each, each-free}
 -- ── numbers of a format
 
 read-unsigned : (b : Bytes) → lean b ≡ true → Meets (all isDigit b) → unsigned (dropPlus b) ≡ given (valueFrom 0 b)
-read-unsigned [] l h = absurd (let z : _≡_ {A = ℕ} 0 1 = cc in omega arith)
+read-unsigned [] l h = never l
 read-unsigned (c ∷ cs) l h =
     rw (ne-eqb c 43 (omega (arith, leb-true 48 c (and-left (leb 48 c) (leb c 57) (h .0)))), passing (all isDigit (c ∷ cs)) h)
 
@@ -38,13 +38,13 @@ pub read-size : (n : ℕ) → Meets (sizeRule n) → readSize (decimal n) ≡ gi
 read-size n h = rw (read-unsigned (decimal n) (decimal-lean n) (decimal-digits n), value-decimal n, h)
 
 read-positive : (b : Bytes) → lean b ≡ true → Meets (all isDigit b) → ltb (valueFrom 0 b) (2 ^ 31) ≡ true → readId b ≡ given (pos (valueFrom 0 b))
-read-positive [] l h k = absurd (let z : _≡_ {A = ℕ} 0 1 = cc in omega arith)
+read-positive [] l h k = never l
 read-positive (c ∷ cs) l h k =
     let d : 48 ≤ c = leb-true 48 c (and-left (leb 48 c) (leb c 57) (h .0)) in
     rw (ne-eqb c 45 (omega arith), read-unsigned (c ∷ cs) l h, k)
 
 unsigned-digits : (b : Bytes) → lean b ≡ true → Meets (all isDigit b) → unsigned b ≡ given (valueFrom 0 b)
-unsigned-digits [] l h = absurd (let z : _≡_ {A = ℕ} 0 1 = cc in omega arith)
+unsigned-digits [] l h = never l
 unsigned-digits (c ∷ cs) l h = rw (passing (all isDigit (c ∷ cs)) h)
 
 read-negative : (b : Bytes) (n : ℕ) → lean b ≡ true → Meets (all isDigit b) → valueFrom 0 b ≡ suc n → n < 2 ^ 31 → readId (45 ∷ b) ≡ given (negsuc n)
@@ -71,7 +71,7 @@ unfolding rows
 table = meets (each rowRule rows) refl
 
 row-of : (l : List Row) → Meets (each rowRule l) → (k u : ℕ) (r : Row) → rowOf k u l ≡ some r → Meets (rowRule r) × (k ≡ r .kind) × (u ≡ r .unit)
-row-of [] h k u r e = absurd (let z : _≡_ {A = ℕ} 0 1 = cc in omega arith)
+row-of [] h k u r e = not-some e
 row-of (x ∷ l) h k u r e = pick (eqb k (x .kind) && eqb u (x .unit)) refl (row-of l (h .1) k u r) e
   where
     pick : (t : Bool) → (eqb k (x .kind) && eqb u (x .unit)) ≡ t → (rowOf k u l ≡ some r → Meets (rowRule r) × (k ≡ r .kind) × (u ≡ r .unit)) → cond t (some x) (rowOf k u l) ≡ some r → Meets (rowRule r) × (k ≡ r .kind) × (u ≡ r .unit)
@@ -81,12 +81,12 @@ row-of (x ∷ l) h k u r e = pick (eqb k (x .kind) && eqb u (x .unit)) refl (row
     pick false t next g = next g
 
 named : (o : Option Row) (r : Row) (other : Answer Format) → isRow o r ≡ true → readNamed o other ≡ given (ofScalar (leaf (r .kind) (r .unit)))
-named none r other h = absurd (let z : _≡_ {A = ℕ} 0 1 = cc in omega arith)
+named none r other h = never h
 named (some x) r other h =
     rw (eqb-true (x .kind) (r .kind) (and-left (eqb (x .kind) (r .kind)) (eqb (x .unit) (r .unit)) h), eqb-true (x .unit) (r .unit) (and-right (eqb (x .kind) (r .kind)) (eqb (x .unit) (r .unit)) h))
 
 pub found-some : {A : Type 0} (n : Refusal) (o : Option A) (a : A) → found n o ≡ given a → o ≡ some a
-found-some n none a h = absurd (let z : _≡_ {A = ℕ} 0 1 = cc in omega arith)
+found-some n none a h = not-given h
 found-some n (some x) a h = cc
 
 -- ── ASCII is UTF-8
@@ -222,13 +222,13 @@ read-union sorted false z zs h =
     rw (split-join 44 (writeSigned z) (mapList writeSigned zs) (each-free idRule writeSigned 44 (λ y k. signed-lacks 44 refl y) (z ∷ zs) h), read-each idRule writeSigned readId read-id (z ∷ zs) h)
 
 read-ids : (sorted sparse : Bool) (zs : List ℤ) (f : Bytes) → Meets (each idRule zs) → writeIds (unionName sparse) zs ≡ given f → readFormat sorted f ≡ given (ofGrouping (union sparse (some zs)))
-read-ids sorted sparse [] f h e = absurd (let z : _≡_ {A = ℕ} 0 1 = cc in omega arith)
+read-ids sorted sparse [] f h e = not-given e
 read-ids sorted sparse (z ∷ zs) f h e =
     let text : unionName sparse ++ join 44 (writeSigned z ∷ mapList writeSigned zs) ≡ f = cc in
     rw (← text) (read-union sorted sparse z zs h)
 
 utf8-ids : (sparse : Bool) (zs : List ℤ) (f : Bytes) → writeIds (unionName sparse) zs ≡ given f → isUtf8 f ≡ true
-utf8-ids sparse [] f e = absurd (let z : _≡_ {A = ℕ} 0 1 = cc in omega arith)
+utf8-ids sparse [] f e = not-given e
 utf8-ids sparse (z ∷ zs) f e =
     let text : unionName sparse ++ join 44 (writeSigned z ∷ mapList writeSigned zs) ≡ f = cc in
     rw (← text) (utf8-append (unionName sparse) (join 44 (writeSigned z ∷ mapList writeSigned zs)) (names sparse) (ascii-utf8 (join 44 (writeSigned z ∷ mapList writeSigned zs)) (join-ascii (writeSigned z ∷ mapList writeSigned zs) (texts (z ∷ zs)))))

@@ -13,7 +13,7 @@ use Rattle.sheets.specs.Rule.{is, Meets}
 use Rattle.sheets.specs.Bytes.{Bytes}
 use Rattle.sheets.specs.Answer.{Answer, refused, given, _>>=_, when}
 use Rattle.sheets.specs.Schema.{Schema, schema, Schemas, end, _&_, Dictionary, absent, present, Line, nodeOf, childrenOf, dictionaryOf, countSchemas, countDictionary, schemaLine, takeChildren, takeDictionary, placeSchema, schemaTrees}
-use Rattle.sheets.proofs.Tests.{first-gave, met-when}
+use Rattle.sheets.proofs.Tests.{first-gave, met-when, not-given}
 use Rattle.sheets.proofs.SchemaLaws.{pushChildren, pushDictionary, children-taken, dictionary-taken}
 
 -- the subtrees still to come, before a line; none may be left and no line may be left over
@@ -87,8 +87,8 @@ step b bs l p r s u =
 
 pub counted-trees : (ls : List Bytes) (p : ℕ) → forward ls p ≡ given true → Trees ls p
 counted-trees [] zero e = ([], refl, refl)
-counted-trees [] (suc p) e = absurd (let y : _≡_ {A = ℕ} 0 1 = cc in omega arith)
-counted-trees (b ∷ bs) zero e = absurd (let y : _≡_ {A = ℕ} 0 1 = cc in omega arith)
+counted-trees [] (suc p) e = not-given e
+counted-trees (b ∷ bs) zero e = not-given e
 counted-trees (b ∷ bs) (suc p) e =
     let l = first-gave (schemaLine .read b) (λ l. when badLines (is (ltb (dictionaryOf l) 2)) l >>= λ l. forward bs (childrenOf l + (dictionaryOf l + p))) true e in
     let m = first-gave (when badLines (is (ltb (dictionaryOf (l .0)) 2)) (l .0)) (λ l. forward bs (childrenOf l + (dictionaryOf l + p))) true (l .2) in

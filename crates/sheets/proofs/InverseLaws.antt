@@ -17,7 +17,7 @@ use Rattle.sheets.specs.Answer.{Answer, refused, given, _>>=_, when, fou
 use Rattle.sheets.specs.Number.{isDigit, digits, decimal, valueFrom, lean, readNumber, writeSigned, negative, readSigned}
 use Rattle.sheets.specs.Text.{hexDigit, hex, digitValue, unhex, writeText, readText}
 use Rattle.sheets.specs.Sheet.{ended, endedLines, writeSheet, readSheet}
-use Rattle.sheets.proofs.Tests.{and-left, and-right, first-gave, met-when}
+use Rattle.sheets.proofs.Tests.{and-left, and-right, first-gave, met-when, never, not-some, not-given, same-given}
 use Rattle.sheets.proofs.BytesLaws.{same-eq}
 use Rattle.sheets.proofs.FormatLaws.{found-some}
 
@@ -50,7 +50,7 @@ decimal-value (c ∷ b) v h d = decimal-value b (v * 10 + (c - 48)) (omega arith
 
 pub lean-decimal : (b : Bytes) → lean b ≡ true → Meets (all isDigit b) → decimal (valueFrom 0 b) ≡ b
 unfolding decimal
-lean-decimal [] l d = absurd (let z : _≡_ {A = ℕ} 0 1 = cc in omega arith)
+lean-decimal [] l d = never l
 lean-decimal (c ∷ []) l d =
     let low : 48 ≤ c = leb-true 48 c (and-left (leb 48 c) (leb c 57) (d .0)) in
     let high : c ≤ 57 = leb-true c 57 (and-right (leb 48 c) (leb c 57) (d .0)) in
@@ -72,13 +72,13 @@ number-read t n e =
     ap decimal (sym (r .1)) ∙ lean-decimal t (r .0 .0) (r .0 .1)
 
 negative-gave : (n : ℕ) (z : ℤ) → negative n ≡ given z → writeSigned z ≡ 45 ∷ decimal n
-negative-gave zero z e = absurd (let y : _≡_ {A = ℕ} 0 1 = cc in omega arith)
+negative-gave zero z e = not-given e
 negative-gave (suc n) z e =
     let same : negsuc n ≡ z = cc in
     ap writeSigned (sym same)
 
 pub signed-read : (t : Bytes) (z : ℤ) → readSigned t ≡ given z → writeSigned z ≡ t
-signed-read [] z e = absurd (let y : _≡_ {A = ℕ} 0 1 = cc in omega arith)
+signed-read [] z e = not-given e
 signed-read (b ∷ bs) z e = pick (eqb b 45) refl e
   where
     pick : (s : Bool) → eqb b 45 ≡ s → cond s (readNumber bs >>= negative) (readNumber (b ∷ bs) >>= λ n. given (pos n)) ≡ given z → writeSigned z ≡ b ∷ bs
@@ -104,7 +104,7 @@ digit-read x a e = pick (leb 48 x && leb x 57) refl e
         let high : x ≤ 102 = leb-true x 102 (and-right (leb 97 x) (leb x 102) t) in
         let v : x - 87 ≡ a = cc in
         (rw (le-ltb a 10 (omega arith)) (omega arith), omega arith)
-    letter false t g = absurd (let y : _≡_ {A = ℕ} 0 1 = cc in omega arith)
+    letter false t g = not-given g
 
     pick : (t : Bool) → (leb 48 x && leb x 57) ≡ t → cond t (given (x - 48)) (cond (leb 97 x && leb x 102) (given (x - 87)) (refused badLines)) ≡ given a → Goal
     pick true t g =
@@ -120,19 +120,21 @@ hex-pair a b r h k =
     let m : (16 * a + b) % 16 ≡ b = omega arith in
     rw (q, m)
 
+-- two digits and what follows them
+pair-read : (x y : ℕ) (r : Bytes) (a c : ℕ) (l b : Bytes) → (hexDigit a ≡ x) × (a < 16) → (hexDigit c ≡ y) × (c < 16) → given ((16 * a + c) ∷ l) ≡ given b → hex l ≡ r → hex b ≡ x ∷ y ∷ r
+pair-read x y r a c l b dx dy same next =
+    ap hex (sym (same-given same)) ∙ hex-pair a c l (dx .1) (dy .1) ∙ rw (dx .0, dy .0, next)
+
 pub unhex-read : (t b : Bytes) → unhex t ≡ given b → hex b ≡ t
 unhex-read [] b e =
     let same : [] ≡ b = cc in
     ap hex (sym same)
-unhex-read (x ∷ []) b e = absurd (let y : _≡_ {A = ℕ} 0 1 = cc in omega arith)
+unhex-read (x ∷ []) b e = not-given e
 unhex-read (x ∷ y ∷ r) b e =
     let p = first-gave (digitValue x) (λ a. digitValue y >>= λ c. unhex r >>= λ bs. given ((16 * a + c) ∷ bs)) b e in
     let q = first-gave (digitValue y) (λ c. unhex r >>= λ bs. given ((16 * p .0 + c) ∷ bs)) b (p .2) in
     let s = first-gave (unhex r) (λ bs. given ((16 * p .0 + q .0) ∷ bs)) b (q .2) in
-    let same : (16 * p .0 + q .0) ∷ s .0 ≡ b = cc in
-    let dx = digit-read x (p .0) (p .1) in
-    let dy = digit-read y (q .0) (q .1) in
-    ap hex (sym same) ∙ hex-pair (p .0) (q .0) (s .0) (dx .1) (dy .1) ∙ ap (λ l. hexDigit (p .0) ∷ hexDigit (q .0) ∷ l) (unhex-read r (s .0) (s .1)) ∙ rw (dx .0, dy .0)
+    pair-read x y r (p .0) (q .0) (s .0) b (digit-read x (p .0) (p .1)) (digit-read y (q .0) (q .1)) (s .2) (unhex-read r (s .0) (s .1))
 
 text-hex : (c : ℕ) (cs b : Bytes) → unhex (c ∷ cs) ≡ given b → writeText (some b) ≡ c ∷ cs
 text-hex c cs [] e =
@@ -141,7 +143,7 @@ text-hex c cs [] e =
 text-hex c cs (x ∷ b) e = unhex-read (c ∷ cs) (x ∷ b) e
 
 pub text-read : (t : Bytes) (x : Option Bytes) → readText t ≡ given x → writeText x ≡ t
-text-read [] x e = absurd (let y : _≡_ {A = ℕ} 0 1 = cc in omega arith)
+text-read [] x e = not-given e
 text-read (c ∷ cs) x e = pick (same (c ∷ cs) (ascii "~")) refl (same (c ∷ cs) (ascii "-")) refl e
   where
     pick : (s : Bool) → same (c ∷ cs) (ascii "~") ≡ s → (d : Bool) → same (c ∷ cs) (ascii "-") ≡ d
@@ -181,11 +183,11 @@ join-split s (c ∷ b) = pick (eqb c s) refl (split-some s b) (join-split s b)
     pick false t (p, ps, e) next = rw e (join-prepend s c p ps ∙ ap (λ l. c ∷ l) (ap (join s) (sym e) ∙ next))
 
 pub ended-join : (ps ls : List Bytes) → endedLines ps ≡ given ls → ended ls ≡ join 10 ps
-ended-join [] ls e = absurd (let y : _≡_ {A = ℕ} 0 1 = cc in omega arith)
+ended-join [] ls e = not-given e
 ended-join ([] ∷ []) ls e =
     let same : [] ≡ ls = cc in
     ap ended (sym same)
-ended-join ((b ∷ p) ∷ []) ls e = absurd (let y : _≡_ {A = ℕ} 0 1 = cc in omega arith)
+ended-join ((b ∷ p) ∷ []) ls e = not-given e
 ended-join (p ∷ q ∷ ps) ls e =
     let r = first-gave (endedLines (q ∷ ps)) (λ l. given (p ∷ l)) ls e in
     let same : p ∷ r .0 ≡ ls = cc in
@@ -193,12 +195,12 @@ ended-join (p ∷ q ∷ ps) ls e =
 
 after-read : (p b r : Bytes) → after p b ≡ some r → b ≡ p ++ r
 after-read [] b r e = cc
-after-read (x ∷ p) [] r e = absurd (let y : _≡_ {A = ℕ} 0 1 = cc in omega arith)
+after-read (x ∷ p) [] r e = not-some e
 after-read (x ∷ p) (c ∷ b) r e = pick (eqb x c) refl (after-read p b r) e
   where
     pick : (t : Bool) → eqb x c ≡ t → (after p b ≡ some r → b ≡ p ++ r) → cond t (after p b) none ≡ some r → c ∷ b ≡ (x ∷ p) ++ r
     pick true t next g = ap (λ y. y ∷ b) (sym (eqb-true x c t)) ∙ ap (λ l. x ∷ l) (next g)
-    pick false t next g = absurd (let y : _≡_ {A = ℕ} 0 1 = cc in omega arith)
+    pick false t next g = not-some g
 
 pub sheet-read : (heading b : Bytes) (ls : List Bytes) → readSheet heading b ≡ given ls → b ≡ writeSheet heading ls
 sheet-read heading b ls e =

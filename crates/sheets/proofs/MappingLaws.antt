@@ -9,7 +9,7 @@ use Rattle.sheets.specs.Answer.{Answer, refused, given, _>>=_}
 use Rattle.sheets.specs.Field.{Info, Nesting, Grouping, ArrowDataType, scalar, nested, grouped, dictionary, extension, Fields, nil, add}
 use Rattle.sheets.specs.Rule.{Rule, is, _and_, each, passes, Meets}
 use Rattle.sheets.specs.Mappings.{Row, leafRows, rowAt, leafUnder, scalarUnder, underlyingPhysicalType, fieldsUnderlying, toPhysicalType, toStorage, toStorageRecursive, fieldsStorage, unless, isMap, isUnion}
-use Rattle.sheets.proofs.Tests.{first-gave}
+use Rattle.sheets.proofs.Tests.{first-gave, not-given}
 
 pub storage-twice : (t : ArrowDataType) → toStorage (toStorage t) ≡ toStorage t
 storage-twice (scalar s) = refl
@@ -26,7 +26,7 @@ physical-storage (dictionary ix ordered t) = refl
 physical-storage (extension n m t) = physical-storage t
 
 unless-gave : {A : Type 0} (b : Bool) (m : Answer A) (a : A) → unless b m ≡ given a → (b ≡ false) × (m ≡ given a)
-unless-gave true m a e = absurd (let y : _≡_ {A = ℕ} 0 1 = cc in omega arith)
+unless-gave true m a e = not-given e
 unless-gave false m a e = (refl, e)
 
 -- a step over values that are no `let`s: `rw` sees through a `let`

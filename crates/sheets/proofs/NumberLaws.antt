@@ -14,7 +14,7 @@ use Rattle.sheets.specs.Rule.{Rule, is, _and_, passes, Meets}
 use Rattle.sheets.specs.Bytes.{Bytes, all, lacks}
 use Rattle.sheets.specs.Answer.{Answer, refused, given, _>>=_, when}
 use Rattle.sheets.specs.Number.{isDigit, digits, decimal, valueFrom, lean, readNumber, writeSigned, readSigned}
-use Rattle.sheets.proofs.Tests.{when-met, and-left, and-right}
+use Rattle.sheets.proofs.Tests.{when-met, and-left, and-right, not-given}
 use Rattle.sheets.proofs.BytesLaws.{all-weaken, all-lacks}
 
 pub digit-is : (d : ℕ) → d < 10 → isDigit (48 + d) ≡ true
@@ -93,7 +93,7 @@ signed-lacks s k z = all-lacks isNumeral s k (writeSigned z) (signed-numeral z)
 
 -- digits do not begin with a sign
 read-unsigned : (b : Bytes) (n : ℕ) → Meets (all isDigit b) → readNumber b ≡ given n → readSigned b ≡ given (pos n)
-read-unsigned [] n h e = absurd (let z : _≡_ {A = ℕ} 0 1 = cc in omega arith)
+read-unsigned [] n h e = not-given e
 read-unsigned (c ∷ cs) n h e = rw (ne-eqb c 45 (omega (arith, leb-true 48 c (and-left (leb 48 c) (leb c 57) (h .0)))), e)
 
 pub read-signed : (z : ℤ) → readSigned (writeSigned z) ≡ given z

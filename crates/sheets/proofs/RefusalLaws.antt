@@ -16,13 +16,14 @@ use Rattle.sheets.specs.Text.{digitValue, unhex, readText}
 use Rattle.sheets.specs.Codec.{Codec, Row, number, signed, text, noColumns, readColumn, done, _▸_}
 use Rattle.sheets.specs.Sheet.{endedLines}
 use Rattle.sheets.specs.Schema.{Schema, Schemas, Dictionary, Line, schema, nodeOf, childrenOf, dictionaryOf, schemaLine, takeChildren, takeDictionary, placeSchema, schemaTrees}
+use Rattle.sheets.proofs.Tests.{not-given}
 
 -- an answer that is refused with 2 if it is refused
 abbrev pub OnlyLines : {A : Type 0} → Answer A → Type 0
 OnlyLines a = (r : Refusal) → a ≡ refused r → r ≡ badLines
 
 pub given-only : {A : Type 0} (a : A) → OnlyLines (given a)
-given-only a r e = absurd (let y : _≡_ {A = ℕ} 0 1 = cc in omega arith)
+given-only a r e = not-given (sym e)
 
 pub refused-only : {A : Type 0} → OnlyLines {A = A} (refused badLines)
 refused-only r e = cc

@@ -12,7 +12,7 @@ use Rattle.sheets.specs.Rule.{Rule, is, _and_, passes, Meets}
 use Rattle.sheets.specs.Bytes.{Bytes, all, lacks, split, join}
 use Rattle.sheets.specs.Answer.{Answer, refused, given, _>>=_, when, found}
 use Rattle.sheets.specs.Schema.{Node, Schema, schema, Schemas, end, _&_, Dictionary, absent, present, Line, lineOf, nodeOf, childrenOf, dictionaryOf, countSchemas, countDictionary, schemaLine, schemaLines, childrenLines, dictionaryLines, takeChildren, takeDictionary, placeSchema, schemaTrees, schemaRule, childrenRule, dictionaryRule, schemaLevels, schemaHeading, writeSchemaSheet, readSchemaSheet}
-use Rattle.sheets.proofs.Tests.{when-met, passing, first-gave, met-when}
+use Rattle.sheets.proofs.Tests.{when-met, passing, first-gave, met-when, not-given}
 use Rattle.sheets.proofs.BytesLaws.{eachLacks, each-append}
 use Rattle.sheets.specs.Codec.{Codec, Row, number, signed, text, done, _▸_, line}
 use Rattle.sheets.proofs.TextLaws.{bytesRule}
@@ -141,7 +141,7 @@ pub children-taken : (n : ℕ) (ts : List Schema) (x : Schemas × List Schema) �
 children-taken zero ts x e =
     let same : (end, ts) ≡ x = cc in
     subst (λ y. (ts ≡ pushChildren (y .0) (y .1)) × (countSchemas (y .0) ≡ 0)) same (refl, refl)
-children-taken (suc n) [] x e = absurd (let y : _≡_ {A = ℕ} 0 1 = cc in omega arith)
+children-taken (suc n) [] x e = not-given e
 children-taken (suc n) (t ∷ ts) x e =
     let q = first-gave (takeChildren n ts) (λ y. given (t & y .0, y .1)) x e in
     let r = children-taken n ts (q .0) (q .1) in
@@ -152,11 +152,11 @@ pub dictionary-taken : (n : ℕ) (ts : List Schema) (x : Dictionary × List Sche
 dictionary-taken zero ts x e =
     let same : (absent, ts) ≡ x = cc in
     subst (λ y. (ts ≡ pushDictionary (y .0) (y .1)) × (countDictionary (y .0) ≡ 0)) same (refl, refl)
-dictionary-taken (suc zero) [] x e = absurd (let y : _≡_ {A = ℕ} 0 1 = cc in omega arith)
+dictionary-taken (suc zero) [] x e = not-given e
 dictionary-taken (suc zero) (t ∷ ts) x e =
     let same : (present t, ts) ≡ x = cc in
     subst (λ y. (t ∷ ts ≡ pushDictionary (y .0) (y .1)) × (countDictionary (y .0) ≡ 1)) same (refl, refl)
-dictionary-taken (suc (suc n)) ts x e = absurd (let y : _≡_ {A = ℕ} 0 1 = cc in omega arith)
+dictionary-taken (suc (suc n)) ts x e = not-given e
 
 placed : (l : Line) (ts us vs ws : List Schema) (cs : Schemas) (d : Dictionary)
     → (ts ≡ pushChildren cs us) × (countSchemas cs ≡ childrenOf l) → (us ≡ pushDictionary d vs) × (countDictionary d ≡ dictionaryOf l) → schema (nodeOf l) cs d ∷ vs ≡ ws
@@ -183,9 +183,9 @@ trees-read (b ∷ bs) ts e =
     joined us l u r p = place-read l us ts p ∙ rw (u, schema-line-read b l r)
 
 pub single-read : {A : Type 0} (ts : List A) (t : A) → single ts ≡ given t → ts ≡ t ∷ []
-single-read [] t e = absurd (let y : _≡_ {A = ℕ} 0 1 = cc in omega arith)
+single-read [] t e = not-given e
 single-read (u ∷ []) t e = cc
-single-read (u ∷ v ∷ us) t e = absurd (let y : _≡_ {A = ℕ} 0 1 = cc in omega arith)
+single-read (u ∷ v ∷ us) t e = not-given e
 
 pub schema-sheet-read : (b : Bytes) (s : Schema) → readSchemaSheet b ≡ given s → b ≡ writeSchemaSheet s
 schema-sheet-read b s e =

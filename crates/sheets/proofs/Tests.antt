@@ -1,7 +1,8 @@
--- Rules that are met, and a test computed at every number below a bound. Assumes nothing.
+-- What cannot be; rules that are met; and a test computed at every number below a bound. Assumes nothing.
 use mathlib.Core.Path.{_≡_, refl, sym, _∙_, ap, subst}
 use mathlib.Core.Logic.{_≢_}
 use mathlib.Core.Bool.{Bool, true, false, _&&_, _||_, not, cond}
+use mathlib.Core.Option.{none, some}
 use Prim.Native.Nat.{ℕ, zero, suc, _+_, _≤_, _<_}
 use native.Mathlib.Nat.{le-of-suc-le-suc, not-suc-le-zero}
 use native.Mathlib.Omega.{arith}
@@ -10,6 +11,20 @@ use borrow.Author.Tests.{eq-eqb, eqb-true, eqb-false}
 use Rattle.sheets.specs.Refusal.{Refusal}
 use Rattle.sheets.specs.Rule.{Rule, is, _and_, passes, Meets}
 use Rattle.sheets.specs.Answer.{Answer, refused, given, _>>=_, when, decide}
+
+-- what cannot be: said once, since a search for it in a large context is dear
+pub never : {A : Type 0} → _≡_ {A = Bool} false true → A
+never h = absurd (let z : _≡_ {A = ℕ} 0 1 = cc in omega arith)
+
+pub not-some : {A B : Type 0} {b : B} → none ≡ some b → A
+not-some h = absurd (let z : _≡_ {A = ℕ} 0 1 = cc in omega arith)
+
+pub not-given : {A B : Type 0} {n : Refusal} {b : B} → refused n ≡ given b → A
+not-given h = absurd (let z : _≡_ {A = ℕ} 0 1 = cc in omega arith)
+
+-- an answer's value
+pub same-given : {A : Type 0} {a b : A} → given a ≡ given b → a ≡ b
+same-given h = cc
 
 pub and-left : (a b : Bool) → (a && b) ≡ true → a ≡ true
 and-left true b h = refl
@@ -40,7 +55,7 @@ met-when {A} n r a b h = pick (passes r) refl h
 
 -- a chain that gave a value: its first step did
 pub first-gave : {A B : Type 0} (m : Answer A) (f : A → Answer B) (b : B) → (m >>= f) ≡ given b → (a : A) × (m ≡ given a) × (f a ≡ given b)
-first-gave (refused n) f b h = let z : _≡_ {A = ℕ} 0 1 = cc in absurd (omega arith)
+first-gave (refused n) f b h = not-given h
 first-gave (given a) f b h = (a, refl, h)
 
 -- chains whose steps agree

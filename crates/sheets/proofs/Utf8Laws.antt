@@ -10,12 +10,12 @@ use Prim.Native.Nat.{ℕ, zero, suc, _+_, _*_, _/_, _%_, _<_, _≤_}
 use native.Mathlib.Omega.{arith}
 use lib.Dec.{eqb, ltb, leb}
 use borrow.Author.Tests.{lt-ltb, ltb-true, le-leb, lt-leb, leb-true, eqb-true}
-use Rattle.sheets.specs.Rule.{Rule, is, _and_, each, Meets}
+use Rattle.sheets.specs.Rule.{Rule, is, _and_, each, passes, Meets}
 use Rattle.sheets.specs.Bytes.{Bytes, all}
 use Rattle.sheets.specs.Utf8.{Range, _to_, inRange, table, fits, isSequence, concat, WellFormed, following, sequences, isUtf8}
 use Rattle.sheets.specs.Utf8Classes.{classOf, follows, startOf, nextOf, stateAfter}
 use Rattle.sheets.specs.Field.{textRule}
-use Rattle.sheets.proofs.Tests.{and-left, and-right, every, at-each, meets}
+use Rattle.sheets.proofs.Tests.{and-left, and-right, every, at-each, meets, never, not-some}
 use Rattle.sheets.proofs.TextLaws.{isByte, bytesRule}
 
 -- what follows a first byte: nothing fits where it begins no row
@@ -43,7 +43,7 @@ in-byte r b h k =
 
 -- a byte that begins a row, and the ranges of the bytes after it
 follow-bytes : (rows : List (List Range)) → Meets (each byteRanges rows) → (b : ℕ) (rs : List Range) → following b rows ≡ some rs → (isByte b ≡ true) × Meets (byteRanges rs)
-follow-bytes [] h b rs e = absurd (let z : _≡_ {A = ℕ} 0 1 = cc in omega arith)
+follow-bytes [] h b rs e = not-some e
 follow-bytes ([] ∷ rows) h b rs e = follow-bytes rows (h .1) b rs e
 follow-bytes ((r ∷ row) ∷ rows) h b rs e = pick (inRange r b) refl (follow-bytes rows (h .1) b rs) e
   where
@@ -56,13 +56,16 @@ follow-bytes ((r ∷ row) ∷ rows) h b rs e = pick (inRange r b) refl (follow-b
 table-bytes : Meets (each byteRanges table)
 table-bytes = meets (each byteRanges table) refl
 
+-- the first byte of a sequence, and the ranges of those after it
+first-byte : (b : ℕ) (s : Bytes) (o : Option (List Range)) → following b table ≡ o → goOn o s ≡ true → (isByte b ≡ true) × (rs : List Range) × Meets (byteRanges rs) × (sequences rs s ≡ true)
+first-byte b s none e k = never k
+first-byte b s (some rs) e k = let f = follow-bytes table table-bytes b rs e in (f .0, rs, f .1, k)
+
 run-bytes : (rs : List Range) (s : Bytes) → Meets (byteRanges rs) → sequences rs s ≡ true → Meets (all isByte s)
 run-bytes [] [] h e = refl
-run-bytes [] (b ∷ s) h e = pick (following b table) refl (sym (go-on (following b table) s) ∙ e) (λ rs k. run-bytes rs s k)
-  where
-    pick : (o : Option (List Range)) → following b table ≡ o → goOn o s ≡ true → ((rs : List Range) → Meets (byteRanges rs) → sequences rs s ≡ true → Meets (all isByte s)) → Meets (all isByte (b ∷ s))
-    pick none e k next = absurd (let z : _≡_ {A = ℕ} 0 1 = cc in omega arith)
-    pick (some rs) e k next = let f = follow-bytes table table-bytes b rs e in (f .0, next rs (f .1) k)
+run-bytes [] (b ∷ s) h e =
+    let f = first-byte b s (following b table) refl (sym (begin b s) ∙ e) in
+    (f .0, run-bytes (f .1) s (f .2) (f .3))
 run-bytes (r ∷ rs) [] h e = refl
 run-bytes (r ∷ rs) (b ∷ s) h e =
     (in-byte r b (h .0) (and-left (inRange r b) (sequences rs s) e), run-bytes rs s (h .1) (and-right (inRange r b) (sequences rs s) e))
@@ -83,7 +86,7 @@ run-append [] (x ∷ a) b h k = begin x (a ++ b) ∙ pick (following x table) (s
     pick : (o : Option (List Range)) → goOn o a ≡ true → ((rs : List Range) → sequences rs a ≡ true → isUtf8 b ≡ true → sequences rs (a ++ b) ≡ true) → goOn o (a ++ b) ≡ true
     pick none e next = e
     pick (some rs) e next = next rs e k
-run-append (r ∷ rs) [] b h k = absurd (let z : _≡_ {A = ℕ} 0 1 = cc in omega arith)
+run-append (r ∷ rs) [] b h k = never h
 run-append (r ∷ rs) (x ∷ a) b h k =
     rw (and-left (inRange r x) (sequences rs a) h, run-append rs a b (and-right (inRange r x) (sequences rs a) h) k)
 
@@ -165,22 +168,20 @@ awaited-eq (some x) none h = cc
 awaited-eq (some x) (some y) h = ap some (ranges-eq x y h)
 
 -- one test at every state and every byte: the class leads where the table does, and to a state again
-abbrev moves : ℕ → Bool
-unfolding classOf nextOf
-moves j = sameAwaited (advance (awaited (j / 256)) (j % 256)) (awaited (nextOf (j / 256) (classOf (j % 256)))) && ltb (nextOf (j / 256) (classOf (j % 256))) 9
+abbrev leads : Option (List Range) → ℕ → Bool
+leads o n = sameAwaited o (awaited n) && ltb n 9
 
-moves-all : (j : ℕ) → j < 2304 → moves j ≡ true
+abbrev moves : ℕ → ℕ → ℕ → Bool
+unfolding nextOf
+moves b k q = leads (advance (awaited q) b) (nextOf q k)
+
+moves-all : (b : ℕ) → b < 256 → passes (every 9 (moves b (classOf b))) ≡ true
 unfolding classOf nextOf
-moves-all = at-each 2304 moves (meets (every 2304 moves) refl)
+moves-all = at-each 256 (λ b. passes (every 9 (moves b (classOf b)))) (meets (every 256 (λ b. passes (every 9 (moves b (classOf b))))) refl)
 
 moves-at : (q b : ℕ) → q < 9 → b < 256 → (sameAwaited (advance (awaited q) b) (awaited (nextOf q (classOf b))) && ltb (nextOf q (classOf b)) 9) ≡ true
-unfolding classOf nextOf
-moves-at q b h k =
-    let d : (256 * q + b) / 256 ≡ q = omega arith in
-    let m : (256 * q + b) % 256 ≡ b = omega arith in
-    subst (λ x. (sameAwaited (advance (awaited x) b) (awaited (nextOf x (classOf b))) && ltb (nextOf x (classOf b)) 9) ≡ true) d
-    (subst (λ y. (sameAwaited (advance (awaited ((256 * q + b) / 256)) y) (awaited (nextOf ((256 * q + b) / 256) (classOf y))) && ltb (nextOf ((256 * q + b) / 256) (classOf y)) 9) ≡ true) m
-    (moves-all (256 * q + b) (omega arith)))
+unfolding nextOf
+moves-at q b h k = at-each 9 (moves b (classOf b)) (meets (every 9 (moves b (classOf b))) (moves-all b k)) q h
 
 -- one byte more: what is left to decide, in the state that its class leads to
 pub move : (q b : ℕ) → q < 9 → b < 256 → (s : Bytes) → fromState q (b ∷ s) ≡ fromState (nextOf q (classOf b)) s
@@ -227,7 +228,7 @@ or-right false b h = h
 
 -- a first byte and bytes in the ranges that follow it are a sequence
 follow-fits : (rows : List (List Range)) (b : ℕ) (rs : List Range) (s : Bytes) → following b rows ≡ some rs → fits rs s ≡ true → isSequence rows (b ∷ s) ≡ true
-follow-fits [] b rs s e h = absurd (let z : _≡_ {A = ℕ} 0 1 = cc in omega arith)
+follow-fits [] b rs s e h = not-some e
 follow-fits ([] ∷ rows) b rs s e h = follow-fits rows b rs s e h
 follow-fits ((r ∷ row) ∷ rows) b rs s e h = pick (inRange r b) refl e (λ k. follow-fits rows b rs s k h)
   where
@@ -243,21 +244,23 @@ allSequences ss = each (λ s. is (isSequence table s)) ss
 abbrev Parts : List Range → Bytes → Type 0
 Parts rs b = (s : Bytes) × (ss : List Bytes) × (fits rs s ≡ true) × Meets (allSequences ss) × (s ++ concat ss ≡ b)
 
+-- a first byte before the parts of what follows it
+begun : (x : ℕ) (b : Bytes) (o : Option (List Range)) → following x table ≡ o → goOn o b ≡ true → ((rs : List Range) → sequences rs b ≡ true → Parts rs b) → Parts [] (x ∷ b)
+begun x b none e k next = never k
+begun x b (some rs) e k next =
+    let p = next rs k in
+    ([], (x ∷ p .0) ∷ p .1, refl, (follow-fits table x rs (p .0) e (p .2), p .3), ap (λ y. x ∷ y) (p .4))
+
+-- one byte more
+longer : (r : Range) (rs : List Range) (x : ℕ) (b : Bytes) → inRange r x ≡ true → Parts rs b → Parts (r ∷ rs) (x ∷ b)
+longer r rs x b t p = (x ∷ p .0, p .1, rw (t, p .2), p .3, ap (λ y. x ∷ y) (p .4))
+
 parts : (b : Bytes) (rs : List Range) → sequences rs b ≡ true → Parts rs b
 parts [] [] h = ([], [], refl, refl, refl)
-parts (x ∷ b) [] h = pick (following x table) refl (sym (begin x b) ∙ h) (λ rs. parts b rs)
-  where
-    pick : (o : Option (List Range)) → following x table ≡ o → goOn o b ≡ true → ((rs : List Range) → sequences rs b ≡ true → Parts rs b) → Parts [] (x ∷ b)
-    pick none e k next = absurd (let z : _≡_ {A = ℕ} 0 1 = cc in omega arith)
-    pick (some rs) e k next =
-        let p = next rs k in
-        ([], (x ∷ p .0) ∷ p .1, refl, (follow-fits table x rs (p .0) e (p .2), p .3), ap (λ y. x ∷ y) (p .4))
-parts [] (r ∷ rs) h = absurd (let z : _≡_ {A = ℕ} 0 1 = cc in omega arith)
+parts (x ∷ b) [] h = begun x b (following x table) refl (sym (begin x b) ∙ h) (λ rs. parts b rs)
+parts [] (r ∷ rs) h = never h
 parts (x ∷ b) (r ∷ rs) h =
-    more (and-left (inRange r x) (sequences rs b) h) (parts b rs (and-right (inRange r x) (sequences rs b) h))
-  where
-    more : inRange r x ≡ true → Parts rs b → Parts (r ∷ rs) (x ∷ b)
-    more t p = (x ∷ p .0, p .1, rw (t, p .2), p .3, ap (λ y. x ∷ y) (p .4))
+    longer r rs x b (and-left (inRange r x) (sequences rs b) h) (parts b rs (and-right (inRange r x) (sequences rs b) h))
 
 -- each row begins above n
 abbrev above : ℕ → List (List Range) → Rule
@@ -282,7 +285,7 @@ Follows rows x s = (rs : List Range) × (following x rows ≡ some rs) × (fits 
 
 -- what follows a sequence's first byte fits the row that the byte begins
 sequence-follows : (rows : List (List Range)) → Meets (ascending rows) → (x : ℕ) (s : Bytes) → isSequence rows (x ∷ s) ≡ true → Follows rows x s
-sequence-follows [] a x s h = absurd (let z : _≡_ {A = ℕ} 0 1 = cc in omega arith)
+sequence-follows [] a x s h = never h
 sequence-follows ([] ∷ rows) a x s h = sequence-follows rows a x s h
 sequence-follows ((r ∷ row) ∷ rows) a x s h = pick (inRange r x) (fits row s) refl refl h (sequence-follows rows (a .1) x s)
   where
@@ -291,18 +294,18 @@ sequence-follows ((r ∷ row) ∷ rows) a x s h = pick (inRange r x) (fits row s
     pick true false t f k next =
         let below : x ≤ r .last = leb-true x (r .last) (and-right (leb (r .first) x) (leb x (r .last)) t) in
         let z : true ≡ false = sym k ∙ not-later rows (r .last) x s (a .0) below in
-        absurd (let y : _≡_ {A = ℕ} 0 1 = cc in omega arith)
+        never (sym z)
     pick false f t e k next = let p = next k in (p .0, rw (t, following) (p .1), p .2)
 
 fits-then : (rs : List Range) (s k : Bytes) → fits rs s ≡ true → isUtf8 k ≡ true → sequences rs (s ++ k) ≡ true
 fits-then [] [] k h u = u
-fits-then [] (b ∷ s) k h u = absurd (let z : _≡_ {A = ℕ} 0 1 = cc in omega arith)
-fits-then (r ∷ rs) [] k h u = absurd (let z : _≡_ {A = ℕ} 0 1 = cc in omega arith)
+fits-then [] (b ∷ s) k h u = never h
+fits-then (r ∷ rs) [] k h u = never h
 fits-then (r ∷ rs) (b ∷ s) k h u = rw (and-left (inRange r b) (fits rs s) h, fits-then rs s k (and-right (inRange r b) (fits rs s) h) u)
 
 joined : (ss : List Bytes) → Meets (allSequences ss) → isUtf8 (concat ss) ≡ true
 joined [] h = refl
-joined ([] ∷ ss) h = absurd (let y : _≡_ {A = Bool} false true = h .0 in let z : _≡_ {A = ℕ} 0 1 = cc in omega arith)
+joined ([] ∷ ss) h = never (h .0)
 joined ((x ∷ s) ∷ ss) h =
     let p = sequence-follows table (meets (ascending table) refl) x s (h .0) in
     begin x (s ++ concat ss) ∙ ap (λ o. goOn o (s ++ concat ss)) (p .1) ∙ fits-then (p .0) s (concat ss) (p .2) (joined ss (h .1))
@@ -313,7 +316,7 @@ utf8-well-formed b = (there, back)
   where
     none-first : (s c : Bytes) → fits [] s ≡ true → s ++ c ≡ b → c ≡ b
     none-first [] c h e = e
-    none-first (x ∷ s) c h e = absurd (let z : _≡_ {A = ℕ} 0 1 = cc in omega arith)
+    none-first (x ∷ s) c h e = never h
 
     there : isUtf8 b ≡ true → WellFormed b
     there h = let p = parts b [] h in (p .1, p .3, none-first (p .0) (concat (p .1)) (p .2) (p .4))
