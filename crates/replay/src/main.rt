@@ -17,6 +17,7 @@ use records::Header;
 use records::RecordRead;
 use window::Window;
 
+// What is still to be read after a record, its call, and what is told of it.
 enum Turn {
     Done(Window, u64, Replayed),
     Bad,
@@ -69,11 +70,12 @@ fn replay_next(
     let RecordRead::Read(h, next) = records::read_record(&text[..end], w.at, input, output) else {
         return Turn::Bad;
     };
-    let room = h.room as usize;
-    if lent.len() < room {
+    // The calls have the codes 0 to 12.
+    if 12 < h.call {
         return Turn::Bad;
     }
-    if 12 < h.call {
+    let room = h.room as usize;
+    if lent.len() < room {
         return Turn::Bad;
     }
     let i = h.input as usize;
@@ -87,6 +89,7 @@ fn replay_next(
     Turn::Done(rest, h.call, r)
 }
 
+// No count comes near 2^64.
 fn count(counts: &mut [u64; 13], call: u64) {
     if call < 13 {
         let c = call as usize;
@@ -119,6 +122,7 @@ fn tally(
     }
 }
 
+// Replays so many records, after which nothing may follow, and prints what is told of them.
 fn replay_records(
     records: u64,
     from: Window,
@@ -169,6 +173,7 @@ fn fits(line: FirstLine, input: usize, output: usize) -> bool
     line.output as usize <= output
 }
 
+// Reads the first line, which says how many records there are, and replays them.
 fn replay_list(text: &mut [u8], input: &mut [u8], output: &mut [u8], lent: &mut [u8]) {
     let w = window::refill(
         text,
@@ -205,6 +210,7 @@ fn replay_list(text: &mut [u8], input: &mut [u8], output: &mut [u8], lent: &mut 
 }
 
 fn main() {
+    // A window longer than any record, its parts, and the longest buffer that a record lends.
     let mut text = [0u8; 1048576];
     let mut input = [0u8; 131072];
     let mut output = [0u8; 131072];

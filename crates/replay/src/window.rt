@@ -26,6 +26,7 @@ fn move_down(text: &mut [u8], at: usize, n: usize)
     }
 }
 
+// Reads on if less than the longest record is left.
 pub fn refill(text: &mut [u8], w: Window) -> Window
     requires { ⌜ Within w (length (now text)) ⌝ }
     ensures { λ r. ⌜ Refilled (now (text .entry)) w (now (text .exit)) r ⌝ }

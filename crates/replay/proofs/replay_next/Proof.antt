@@ -88,7 +88,7 @@ slice-relend-prefix-replay-record c = search needs
 
 slice-aggregate-replay-record-3 : tie.Need-slice-aggregate-replay-record-3
 slice-aggregate-replay-record-3 c =
-    sym (length-take-le (c .before .before .before .before .before .before .before .h .given .0 .0 .room) (c .before .before .before .before .before .before .before .before .before .before .before .before .before .before .before .before .before .before .before .before .before .before .before .before .before .args .lent .now) (c .before .before .before .before .before .if1 .left))
+    sym (length-take-le (c .before .before .before .before .before .before .before .h .given .0 .0 .room) (c .before .before .before .before .before .before .before .before .before .before .before .before .before .before .before .before .before .before .before .before .before .before .before .before .before .args .lent .now) (c .before .before .before .if2 .left))
 
 replay-record-requires : tie.Need-replay-record-requires
 replay-record-requires c κs = search needs
