@@ -8,7 +8,7 @@ use Rattle.sheets.specs.Refusal.{noRoom}
 use Rattle.sheets.specs.Bytes.{Bytes}
 use Rattle.sheets.specs.Answer.{Answer, refused, given}
 use Rattle.sheets.specs.Outcome.{Outcome, outcome, success, refusal, importOutcome}
-use Rattle.import_sheet.specs.Contracts.{outcomeOf}
+use Rattle.import_sheet.specs.Sheets.{outcomeOf}
 use Rattle.import_sheet.specs.declared.Imported.{Imported}
 use Rattle.print_import.specs.Printed.{printedNumber}
 
