@@ -1,5 +1,5 @@
 -- What an answer tells of the text that was read, and back: over the limit and the half, so once for all widths. Assumes nothing.
-use mathlib.Core.Path.{_≡_, refl, ap, subst, _∙_}
+use mathlib.Core.Path.{_≡_, refl, sym, ap, subst, _∙_}
 use mathlib.Core.Bool.{Bool, true, false, _&&_, cond}
 use mathlib.Core.List.{[], _∷_}
 use mathlib.Core.Logic.{_⊎_, inl, inr}
@@ -17,7 +17,9 @@ use Rattle.sheets.specs.Bytes.{Bytes, all}
 use Rattle.sheets.specs.Answer.{Answer, refused, given, _>>=_, when, decide}
 use Rattle.sheets.specs.Number.{isDigit, valueFrom, lean, decimal, readNumber, negative, writeSigned, readSigned}
 use Rattle.sheets.proofs.NumberLaws.{read-decimal, read-signed}
-use Rattle.decimal.specs.Column.{columnBelow, signedColumn, digitsBelow}
+use Rattle.sheets.proofs.Tests.{not-given, same-given}
+use Rattle.digit.specs.Digits.{digitsBelow}
+use Rattle.decimal.specs.Column.{columnBelow, signedColumn}
 
 -- ---- a bounded answer, of any type of values and by any size of them
 
@@ -36,7 +38,7 @@ only-chained (given a) f h k = k a
 
 bad-refused : {A : Type 0} (m : Answer A) (r : Refusal) → OnlyBad m → m ≡ refused r → m ≡ refused badLines
 bad-refused (refused q) r h e = ap refused h
-bad-refused (given a) r h e = let z : _≡_ {A = ℕ} 0 1 = cc in absurd (omega arith)
+bad-refused (given a) r h e = not-given (sym e)
 
 module _ {A : Type 0} (size : A → ℕ) (limit : ℕ) where
   abbrev bounded : Answer A → Answer A
@@ -52,21 +54,21 @@ module _ {A : Type 0} (size : A → ℕ) (limit : ℕ) where
   bounded-refused m r e = rw e
 
   bounded-given : (m : Answer A) (a : A) → bounded m ≡ given a → (m ≡ given a) × (size a < limit)
-  bounded-given (refused r) a e = let z : _≡_ {A = ℕ} 0 1 = cc in absurd (omega arith)
+  bounded-given (refused r) a e = not-given e
   bounded-given (given b) a e = pick (ltb (size b) limit) refl e
     where
       pick : (t : Bool) → ltb (size b) limit ≡ t → decide {A = A} badLines t b ≡ given a → (_≡_ {A = Answer A} (given b) (given a)) × (size a < limit)
       pick true l k =
-          let q : b ≡ a = cc in
+          let q : b ≡ a = same-given k in
           (ap given q, subst (λ (x : A). size x < limit) q (ltb-true (size b) limit l))
-      pick false l k = let z : _≡_ {A = ℕ} 0 1 = cc in absurd (omega arith)
+      pick false l k = not-given k
 
   bounded-bad : (m : Answer A) → OnlyBad m → bounded m ≡ refused badLines → (m ≡ refused badLines) ⊎ ((a : A) × (m ≡ given a) × (limit ≤ size a))
   bounded-bad (refused r) o e = inl e
   bounded-bad (given b) o e = pick (ltb (size b) limit) refl e
     where
       pick : (t : Bool) → ltb (size b) limit ≡ t → decide {A = A} badLines t b ≡ refused badLines → (_≡_ {A = Answer A} (given b) (refused badLines)) ⊎ ((a : A) × (_≡_ {A = Answer A} (given b) (given a)) × (limit ≤ size a))
-      pick true l k = let z : _≡_ {A = ℕ} 0 1 = cc in absurd (omega arith)
+      pick true l k = not-given (sym k)
       pick false l k = inr (b, refl, ltb-false (size b) limit l)
 
 -- ---- columns
@@ -139,7 +141,7 @@ module _ (half : ℕ) (t : Bytes) where
 -- ---- the number's digits, once they are known to have no spare zero
 
 module _ (limit : ℕ) (t : Bytes) where
-  pub column-lean : lean t ≡ true → columnBelow limit t ≡ digitsBelow limit 0 t
+  pub column-lean : lean t ≡ true → columnBelow limit t ≡ digitsBelow badLines limit 0 t
   unfolding columnBelow digitsBelow
   column-lean e = rw e (pick (passes (all isDigit t)))
     where

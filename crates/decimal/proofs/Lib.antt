@@ -1,6 +1,5 @@
-pub mod DigitLaws
+pub mod LeanLaws
 pub mod ColumnLaws
 pub mod AnswerLaws
 pub mod SignLaws
-pub mod WriteLaws
 pub mod Examples

@@ -5,10 +5,10 @@ use lib.Dec.{ltb}
 use lib.IntN.{ℤ}
 use lib.Signed.{mag}
 use Rattle.sheets.specs.Refusal.{badLines}
-use Rattle.sheets.specs.Rule.{is, _and_}
-use Rattle.sheets.specs.Bytes.{Bytes, all}
+use Rattle.sheets.specs.Rule.{is}
+use Rattle.sheets.specs.Bytes.{Bytes}
 use Rattle.sheets.specs.Answer.{Answer, _>>=_, when}
-use Rattle.sheets.specs.Number.{isDigit, valueFrom, readNumber, readSigned}
+use Rattle.sheets.specs.Number.{readNumber, readSigned}
 
 -- a number below the limit
 unfoldable pub columnBelow : ℕ → Bytes → Answer ℕ
@@ -17,10 +17,6 @@ columnBelow limit t = readNumber t >>= λ n. when badLines (is (ltb n limit)) n
 -- a signed number from -half to half - 1
 unfoldable pub signedColumn : ℕ → Bytes → Answer ℤ
 signedColumn half t = readSigned t >>= λ z. when badLines (is (ltb (mag z) half)) z
-
--- digits after others whose value is v, all together below the limit
-unfoldable pub digitsBelow : ℕ → ℕ → Bytes → Answer ℕ
-digitsBelow limit v t = when badLines (all isDigit t and is (ltb (valueFrom v t) limit)) (valueFrom v t)
 
 -- the greatest number of a signed width of at most 64 bits
 abbrev pub IsGreatest : ℕ → Type 0

@@ -1,11 +1,13 @@
-// Numbers in decimal digits: a sheet's columns, read without plus, spare zeros or `-0`, and numbers written.
+// A sheet's numbers: a column read without plus, spare zeros or `-0`, at each width.
+use digit::Number;
 ghost use mathlib.Core.Path.{_≡_};
-ghost use Prim.Native.Nat.{_+_, _^_, _≤_, _<_};
-ghost use lib.IntN.{pos, negℤ, natAbs};
-ghost use lib.ListN.{drop, length};
-ghost use Rattle.sheets.specs.Number.{lean, decimal, writeSigned};
-ghost use Rattle.buffer.specs.Over.{overAt, IsUsize};
-ghost use Rattle.decimal.specs.Column.{columnBelow, signedColumn, digitsBelow, IsGreatest, IsMagnitude};
+ghost use Prim.Native.Nat.{_+_, _^_};
+ghost use lib.IntN.{pos, negℤ};
+ghost use lib.ListN.{drop};
+ghost use Rattle.sheets.specs.Refusal.{badLines};
+ghost use Rattle.sheets.specs.Number.{lean};
+ghost use Rattle.digit.specs.Digits.{digitsBelow};
+ghost use Rattle.decimal.specs.Column.{columnBelow, signedColumn, IsGreatest, IsMagnitude};
 ghost use Rattle.decimal.specs.Answers.{toUnsigned64, toSigned64, toSigned32};
 
 pub enum Unsigned64 {
@@ -23,34 +25,17 @@ pub enum Signed32 {
     Bad,
 }
 
-fn wide(b: u8) -> u64
-    ensures { λ r. ⌜ r ≡ b ⌝ }
-{
-    b as u64
-}
-
 // The bytes from place at on, all of them digits, as a number of at most max.
 fn digits(s: &[u8], at: usize, max: u64) -> Unsigned64
-    ensures { λ r. ⌜ r ≡ toUnsigned64 (digitsBelow (max + 1) 0 (drop at (now (s .entry)))) ⌝ }
+    ensures { λ r. ⌜ r ≡ toUnsigned64 (digitsBelow badLines (max + 1) 0 (drop at (now (s .entry)))) ⌝ }
 {
     let mut v: u64 = 0;
     let mut i = at;
     while i < s.len() {
-        let b = s[i];
-        if b < b'0' {
+        let Number::Value(n) = digit::after(v, s[i], max) else {
             return Unsigned64::Bad;
-        }
-        if b'9' < b {
-            return Unsigned64::Bad;
-        }
-        let d = wide(b - b'0');
-        if max / 10 < v {
-            return Unsigned64::Bad;
-        }
-        if max - v * 10 < d {
-            return Unsigned64::Bad;
-        }
-        v = v * 10 + d;
+        };
+        v = n;
         i += 1;
     }
     Unsigned64::Value(v)
@@ -129,77 +114,4 @@ pub fn read_i32(s: &[u8]) -> Signed32
         return Signed32::Bad;
     };
     Signed32::Value(z as i32)
-}
-
-// The digits of a number, at the end of an array.
-struct Digits20 {
-    bytes: [u8; 20],
-    start: usize,
-}
-
-fn digits_of(n: u64) -> Digits20
-    ensures { λ r. ⌜ (r .start ≤ 20) × (length (r .bytes) ≡ 20) × (drop (r .start) (r .bytes) ≡ decimal n) ⌝ }
-{
-    let mut bytes = [0u8; 20];
-    let mut i: usize = 20;
-    let mut m = n;
-    while 10 <= m {
-        i -= 1;
-        bytes[i] = b'0' + (m % 10) as u8;
-        m = m / 10;
-    }
-    i -= 1;
-    bytes[i] = b'0' + m as u8;
-    Digits20 { bytes, start: i }
-}
-
-// Writes n from place at on, as much as fits; the place after it. A u64 has at most 20 digits.
-fn put_digits(out: &mut [u8], at: usize, n: u64) -> usize
-    requires { ⌜ IsUsize (at + 20) ⌝ }
-    ensures { λ r. ⌜ (r ≡ at + length (decimal n)) × (now (out .exit) ≡ overAt at (decimal n) (now (out .entry))) × (r ≤ at + 20) ⌝ }
-{
-    let d = digits_of(n);
-    let bytes = d.bytes;
-    let start = d.start;
-    buffer::put_at(out, at, &bytes[start..])
-}
-
-// Writes n from place at on, as much as fits; the place after it. Most numbers of a sheet have one digit.
-pub fn put_u64(out: &mut [u8], at: usize, n: u64) -> usize
-    requires { ⌜ IsUsize (at + 20) ⌝ }
-    ensures { λ r. ⌜ (r ≡ at + length (decimal n)) × (now (out .exit) ≡ overAt at (decimal n) (now (out .entry))) × (r ≤ at + 20) ⌝ }
-{
-    if n < 10 {
-        return buffer::put_byte(out, at, b'0' + n as u8);
-    }
-    put_digits(out, at, n)
-}
-
-// Rust's `i64::unsigned_abs`.
-fn unsigned_abs(z: i64) -> u64
-    ensures { λ r. ⌜ r ≡ natAbs z ⌝ }
-{
-    if z < 0 {
-        return ((-1 - z) as u64) + 1;
-    }
-    z as u64
-}
-
-// Writes z from place at on, as much as fits; the place after it.
-pub fn put_i64(out: &mut [u8], at: usize, z: i64) -> usize
-    requires { ⌜ IsUsize (at + 21) ⌝ }
-    ensures { λ r. ⌜ (r ≡ at + length (writeSigned z)) × (now (out .exit) ≡ overAt at (writeSigned z) (now (out .entry))) × (r ≤ at + 20) ⌝ }
-{
-    if z < 0 {
-        let a = buffer::put_at(out, at, b"-");
-        return put_u64(out, a, unsigned_abs(z));
-    }
-    put_u64(out, at, unsigned_abs(z))
-}
-
-pub fn put_i32(out: &mut [u8], at: usize, z: i32) -> usize
-    requires { ⌜ IsUsize (at + 21) ⌝ }
-    ensures { λ r. ⌜ (r ≡ at + length (writeSigned z)) × (now (out .exit) ≡ overAt at (writeSigned z) (now (out .entry))) × (r ≤ at + 20) ⌝ }
-{
-    put_i64(out, at, z as i64)
 }

@@ -9,7 +9,7 @@ use Rattle.sheets.specs.Bytes.{Bytes, lineEnd, space, equals, same}
 use Rattle.sheets.specs.Number.{decimal}
 use Rattle.sheets.specs.FieldSheet.{noText, toNat}
 use Rattle.sheets.proofs.BytesLaws.{same-eq}
-use Rattle.decimal.proofs.WriteLaws.{decimal-short}
+use Rattle.put_decimal.proofs.WriteLaws.{decimal-short}
 use Rattle.field_line.specs.Columns.{column, shapePiece, nameColumn, namePiece, ownPiece, endPiece, pairPiece}
 
 pub column-length : (c : Bytes) → length (column c) ≡ 1 + length c

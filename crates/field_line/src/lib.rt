@@ -37,7 +37,7 @@ pub fn put_number(out: &mut [u8], at: usize, n: u64) -> usize
     requires { ⌜ IsUsize (at + 21) ⌝ }
     ensures { λ r. ⌜ (r ≡ at + length (column (decimal n))) × (now (out .exit) ≡ overAt at (column (decimal n)) (now (out .entry))) ⌝ }
 {
-    let after = decimal::put_u64(out, at, n);
+    let after = put_decimal::put_u64(out, at, n);
     buffer::put_byte(out, after, b' ')
 }
 
@@ -85,7 +85,7 @@ pub fn put_end(out: &mut [u8], at: usize, children: u64) -> usize
     requires { ⌜ IsUsize (at + 21) ⌝ }
     ensures { λ r. ⌜ (r ≡ at + length (endPiece children)) × (now (out .exit) ≡ overAt at (endPiece children) (now (out .entry))) ⌝ }
 {
-    let end = decimal::put_u64(out, at, children);
+    let end = put_decimal::put_u64(out, at, children);
     buffer::put_byte(out, end, b'\n')
 }
 

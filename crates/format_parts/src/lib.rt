@@ -83,7 +83,7 @@ fn put_id(out: &mut [u8], at: usize, f: &[u8], from: usize, to: usize) -> usize
     let Id::Value(z) = id_between(f, from, to) else {
         return at;
     };
-    decimal::put_i32(out, at, z)
+    put_decimal::put_i32(out, at, z)
 }
 
 // Writes a union's ids, from the text after its format's colon, as much as fits; the place after them.

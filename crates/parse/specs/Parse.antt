@@ -1,7 +1,7 @@
--- What the answers of the code say, and digits as a number of at most a limit: the part that `readSize` and `readId` of document 01's definitions
+-- What the answers of the code say, and digits as a number below a limit: the part that `readSize` and `readId` of document 01's definitions
 -- have in common. Assumes nothing.
 use Prim.Native.Nat.{ℕ}
-use lib.Dec.{leb}
+use lib.Dec.{ltb}
 use lib.IntN.{ℤ}
 use Rattle.sheets.specs.Refusal.{badNumber}
 use Rattle.sheets.specs.Rule.{is}
@@ -21,6 +21,6 @@ abbrev pub idOf : Answer ℤ → Id
 idOf (refused n) = I.Bad
 idOf (given z) = I.Value z
 
--- digits, at least one, as a number of at most max
-unfoldable pub atMost : ℕ → Bytes → Answer ℕ
-atMost max bs = unsigned bs >>= λ n. when badNumber (is (leb n max)) n
+-- digits, at least one, as a number below the limit
+unfoldable pub numberBelow : ℕ → Bytes → Answer ℕ
+numberBelow limit bs = unsigned bs >>= λ n. when badNumber (is (ltb n limit)) n

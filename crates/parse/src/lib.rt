@@ -1,11 +1,12 @@
 // The Rust's `parse::<usize>`, at 64 bits, and `parse::<i32>`, of hexadecimal text.
+use digit::Number;
 ghost use mathlib.Core.Path.{_≡_};
 ghost use mathlib.Core.Bool.{true};
-ghost use Prim.Native.Nat.{_^_, _≤_};
+ghost use Prim.Native.Nat.{_+_, _^_, _≤_};
 ghost use lib.ListN.{drop};
 ghost use Rattle.sheets.specs.Format.{dropPlus, minus, readSize, readId};
 ghost use Rattle.hex.specs.Hex.{isHex, bytesOf};
-ghost use Rattle.parse.specs.Parse.{sizeOf, idOf, atMost};
+ghost use Rattle.parse.specs.Parse.{sizeOf, idOf, numberBelow};
 
 pub enum Size {
     Value(u64),
@@ -17,16 +18,10 @@ pub enum Id {
     Bad,
 }
 
-fn wide(b: u8) -> u64
-    ensures { λ r. ⌜ r ≡ b ⌝ }
-{
-    b as u64
-}
-
 // The digits from byte at on, as a number of at most max.
 fn digits(s: &[u8], at: usize, max: u64) -> Size
     requires { ⌜ isHex (now s) ≡ true ⌝ }
-    ensures { λ r. ⌜ r ≡ sizeOf (atMost max (drop at (bytesOf (now (s .entry))))) ⌝ }
+    ensures { λ r. ⌜ r ≡ sizeOf (numberBelow (max + 1) (drop at (bytesOf (now (s .entry))))) ⌝ }
 {
     let n = s.len() / 2;
     if n <= at {
@@ -35,21 +30,10 @@ fn digits(s: &[u8], at: usize, max: u64) -> Size
     let mut v: u64 = 0;
     let mut i = at;
     while i < n {
-        let b = hex::byte_at(s, i);
-        if b < 48 {
+        let Number::Value(m) = digit::after(v, hex::byte_at(s, i), max) else {
             return Size::Bad;
-        }
-        if 57 < b {
-            return Size::Bad;
-        }
-        let d = wide(b - 48);
-        if max / 10 < v {
-            return Size::Bad;
-        }
-        if max - v * 10 < d {
-            return Size::Bad;
-        }
-        v = v * 10 + d;
+        };
+        v = m;
         i += 1;
     }
     Size::Value(v)

@@ -1,5 +1,5 @@
 -- `lean` meets its contract: a law for each return. Assumes nothing.
-use Rattle.decimal.proofs.DigitLaws.{lean-none, lean-one, lean-more}
+use Rattle.decimal.proofs.LeanLaws.{lean-none, lean-one, lean-more}
 use mathlib.Core.Path.{sym}
 use borrow.Author.Needs.{needs}
 use Rattle.decimal.proofs.lean.Statement.{statement}

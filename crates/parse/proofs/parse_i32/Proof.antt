@@ -1,6 +1,6 @@
 -- `parse::parse_i32` meets its contract: by the laws on what `readId` is where the digits gave a number, and where they did not. Assumes nothing.
 use mathlib.Core.Path.{_≡_, sym, ap, _∙_}
-use Prim.Native.Nat.{_<_, _≤_, _^_, _-_}
+use Prim.Native.Nat.{_+_, _<_, _≤_, _^_}
 use native.Mathlib.Omega.{arith}
 use lib.ListN.{length, getD, drop}
 use mir.Syntax.{w32}
@@ -43,7 +43,7 @@ returns-2 c =
 negated-requires : tie.Need-negated-requires
 negated-requires c κs =
     let st = c .before .before .before .before .before .before .before .before in
-    value-within (2 ^ 31) (c .before .m .given .0 .0) (drop 1 (bytesOf (st .args .s .now))) (sym (c .before .before .before .digits .ensures) ∙ c .before .m .given .1)
+    omega (arith, value-within (2 ^ 31 + 1) (c .before .m .given .0 .0) (drop 1 (bytesOf (st .args .s .now))) (sym (c .before .before .before .digits .ensures) ∙ c .before .m .given .1))
 
 returns-3 : tie.Need-returns-3
 returns-3 c =
@@ -53,7 +53,7 @@ returns-3 c =
     let any : 0 < length (bytesOf s) = omega (arith, length-bytes s (st .pre)) in
     let sign = sym (c .before .before .before .before .before .before .byte-at .ensures) ∙ c .before .before .before .before .before .if2 .taken in
     let d = sym (c .before .before .before .before .digits .ensures) ∙ c .before .before .m .given .1 in
-    let l : m ≤ 2 ^ 31 = value-within (2 ^ 31) m (drop 1 (bytesOf s)) d in
+    let l : m ≤ 2 ^ 31 = omega (arith, value-within (2 ^ 31 + 1) m (drop 1 (bytesOf s)) d) in
     rw (c .negated .ensures, toZ-ofZ (minus-fits w32 m l)) (sym (minus-given (bytesOf s) any m sign d))
 
 after-plus-requires : tie.Need-after-plus-requires
@@ -82,7 +82,7 @@ cast-t10 c =
     let st = c .before .before .before .before .before .before .before .before .before in
     let p = c .before .before .before .before .after-plus in
     let n = c .before .n .given .0 .0 in
-    let l : n ≤ 2 ^ 31 - 1 = value-within (2 ^ 31 - 1) n (drop (p .result) (bytesOf (st .args .s .now))) (sym (c .before .before .before .digits2 .ensures) ∙ c .before .n .given .1) in
+    let l : n < 2 ^ 31 = value-within (2 ^ 31) n (drop (p .result) (bytesOf (st .args .s .now))) (sym (c .before .before .before .digits2 .ensures) ∙ c .before .n .given .1) in
     record { sfits = omega arith }
 
 returns-5 : tie.Need-returns-5
@@ -94,7 +94,7 @@ returns-5 c =
     let n = c .before .n .given .0 .0 in
     let no-minus : getD (bytesOf s) 0 0 ≡ 45 → ⊥ = λ e. c .before .before .before .before .before .if2 .left (c .before .before .before .before .before .before .byte-at .ensures ∙ e) in
     let d = sym (c .before .before .before .digits2 .ensures) ∙ c .before .n .given .1 in
-    let l : n ≤ 2 ^ 31 - 1 = value-within (2 ^ 31 - 1) n (drop (p .result) (bytesOf s)) d in
+    let l : n < 2 ^ 31 = value-within (2 ^ 31) n (drop (p .result) (bytesOf s)) d in
     ap Value (toZ-pos w32 {n = n} (omega arith)) ∙ sym (plain-given (bytesOf s) any (drop (p .result) (bytesOf s)) n (p .ensures) no-minus d)
 
 pub parse-i32-spec : {M : Type 1} → statement M

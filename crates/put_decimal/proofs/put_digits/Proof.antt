@@ -1,14 +1,14 @@
 -- `put_digits` meets its contract: what is lent to `put_at` is the number's digits. Assumes nothing.
 use Rattle.sheets.specs.Number.{decimal}
-use Rattle.decimal.proofs.WriteLaws.{decimal-short}
+use Rattle.put_decimal.proofs.WriteLaws.{decimal-short}
 use lib.Seq.{take-all}
 use lib.ListN.{take, drop, length-drop}
 use native.Mathlib.Omega.{arith}
 use Prim.Native.Nat.{_-_}
 use mathlib.Core.Path.{_≡_, _∙_}
 use borrow.Author.Needs.{needs}
-use Rattle.decimal.proofs.put_digits.Statement.{statement}
-use Rattle.decimal.proofs.put_digits.Tie as tie
+use Rattle.put_decimal.proofs.put_digits.Statement.{statement}
+use Rattle.put_decimal.proofs.put_digits.Tie as tie
 
 digits-of-requires : tie.Need-digits-of-requires
 digits-of-requires c κs = search needs

@@ -1,13 +1,13 @@
 -- `digits_of` meets its contract. The invariant: n's digits are those of m and then what the array holds from place i on; m has at most i digits. Assumes nothing.
-use Rattle.decimal.proofs.WriteLaws.{before, decimal-start, one-more, all-written, room, shrinks}
+use Rattle.put_decimal.proofs.WriteLaws.{before, decimal-start, one-more, all-written, room, shrinks}
 use Rattle.sheets.specs.Number.{decimal}
 use lib.ListN.{length, drop}
 use borrow.Author.Needs.{needs}
 use native.Mathlib.Omega.{arith}
 use Prim.Native.Nat.{_≤_, _<_, _^_}
 use mathlib.Core.Path.{_≡_, sym, _∙_}
-use Rattle.decimal.proofs.digits_of.Statement.{statement}
-use Rattle.decimal.proofs.digits_of.Tie as tie
+use Rattle.put_decimal.proofs.digits_of.Statement.{statement}
+use Rattle.put_decimal.proofs.digits_of.Tie as tie
 
 abbrev Inv-loop : tie.InvT-loop
 Inv-loop n bytes₀ i₀ m₀ bytes i m = (0 < i) × (i ≤ 20) × (length bytes ≡ 20) × (m < 10 ^ i) × (decimal n ≡ before m (drop i bytes))

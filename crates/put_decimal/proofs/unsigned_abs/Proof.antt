@@ -1,5 +1,5 @@
 -- `unsigned_abs` meets its contract: -1 - z is one less than the magnitude of a negative z, and fits where that may not. Assumes nothing.
-use Rattle.decimal.proofs.SignLaws.{turned, turned-fits, turned-abs, not-below}
+use Rattle.put_decimal.proofs.SignLaws.{turned, turned-fits, turned-abs, not-below}
 use mir.Facts.{toZ-ofZ, fits-natAbs}
 use mir.Syntax.{w64}
 use lib.Signed.{ltZ}
@@ -7,8 +7,8 @@ use lib.IntN.{ℤ, pos}
 use native.Mathlib.Omega.{arith}
 use mathlib.Core.Bool.{true, false}
 use mathlib.Core.Path.{_≡_, subst}
-use Rattle.decimal.proofs.unsigned_abs.Statement.{statement}
-use Rattle.decimal.proofs.unsigned_abs.Tie as tie
+use Rattle.put_decimal.proofs.unsigned_abs.Statement.{statement}
+use Rattle.put_decimal.proofs.unsigned_abs.Tie as tie
 
 sub-result : tie.Need-sub-result
 sub-result c =

@@ -4,10 +4,10 @@ use mathlib.Core.List.{[], _∷_}
 use Prim.Native.Nat.{_+_}
 use native.Mathlib.Omega.{arith}
 use Rattle.sheets.specs.Number.{decimal}
-use Rattle.decimal.proofs.WriteLaws.{decimal-start, first-digit}
+use Rattle.put_decimal.proofs.WriteLaws.{decimal-start, first-digit}
 use borrow.Author.Needs.{needs}
-use Rattle.decimal.proofs.put_u64.Statement.{statement}
-use Rattle.decimal.proofs.put_u64.Tie as tie
+use Rattle.put_decimal.proofs.put_u64.Statement.{statement}
+use Rattle.put_decimal.proofs.put_u64.Tie as tie
 
 cast-put-byte : tie.Need-cast-put-byte
 cast-put-byte c = search needs

@@ -3,8 +3,8 @@ use mir.Facts.{toZ-ofZ, sfits-widen}
 use mir.Val.{SFits}
 use mir.Syntax.{w64}
 use borrow.Author.Needs.{needs}
-use Rattle.decimal.proofs.put_i32.Statement.{statement}
-use Rattle.decimal.proofs.put_i32.Tie as tie
+use Rattle.put_decimal.proofs.put_i32.Statement.{statement}
+use Rattle.put_decimal.proofs.put_i32.Tie as tie
 
 cast-put-i64 : tie.Need-cast-put-i64
 cast-put-i64 c =
