@@ -1,6 +1,7 @@
 /* A fuzzer's entry: any bytes are put to `juzontefa_import`. The sheet ends and the buffer ends where a page that cannot be touched begins, so
  * that a read or a write past either ends the run; the promises of the header are tested. Links with libFuzzer's main and a library
  * compiled with coverage counters. */
+#define _DEFAULT_SOURCE
 #include <stdint.h>
 #include <stdlib.h>
 #include <string.h>
