@@ -1,4 +1,2 @@
 pub mod ColumnLaws
-pub mod TextLaws
 pub mod FindLaws
-pub mod NumberAtLaws

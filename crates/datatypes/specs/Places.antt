@@ -3,14 +3,10 @@
 use Prim.Native.Nat.{ℕ}
 use Rattle.sheets.specs.IntegerType as IntegerPlace
 use Rattle.sheets.specs.PrimitiveType as PrimitivePlace
-use Rattle.sheets.specs.PhysicalType as PhysicalPlace
 use Rattle.datatypes.specs.declared.IntegerType.{IntegerType}
 use Rattle.datatypes.specs.declared.IntegerType.the-variants as IntegerTypes
 use Rattle.datatypes.specs.declared.PrimitiveType.{PrimitiveType}
 use Rattle.datatypes.specs.declared.PrimitiveType.the-variants as PrimitiveTypes
-use Rattle.datatypes.specs.declared.PhysicalType.{PhysicalType}
-use Rattle.datatypes.specs.declared.PhysicalType.the-variants as PhysicalTypes
-use Rattle.datatypes.specs.declared.Places.{Places}
 
 abbrev pub integerPlace : IntegerType → ℕ
 integerPlace IntegerTypes.Int8 = IntegerPlace.Int8
@@ -42,30 +38,3 @@ primitivePlace PrimitiveTypes.Float64 = PrimitivePlace.Float64
 primitivePlace PrimitiveTypes.DaysMs = PrimitivePlace.DaysMs
 primitivePlace PrimitiveTypes.MonthDayNano = PrimitivePlace.MonthDayNano
 primitivePlace PrimitiveTypes.MonthDayMillis = PrimitivePlace.MonthDayMillis
-
-abbrev pub bearing : ℕ → ℕ → Places
-bearing n i = record { place = n; inner = i }
-
--- a physical type that carries no other: "the second 0 if there is none"
-abbrev bare : ℕ → Places
-bare n = bearing n 0
-
--- "the place in `PhysicalType` and that of the inner type"
-abbrev pub physicalPlaces : PhysicalType → Places
-physicalPlaces PhysicalTypes.Null = bare PhysicalPlace.Null
-physicalPlaces PhysicalTypes.Boolean = bare PhysicalPlace.Boolean
-physicalPlaces (PhysicalTypes.Primitive t) = bearing PhysicalPlace.Primitive (primitivePlace t)
-physicalPlaces PhysicalTypes.Binary = bare PhysicalPlace.Binary
-physicalPlaces PhysicalTypes.FixedSizeBinary = bare PhysicalPlace.FixedSizeBinary
-physicalPlaces PhysicalTypes.LargeBinary = bare PhysicalPlace.LargeBinary
-physicalPlaces PhysicalTypes.Utf8 = bare PhysicalPlace.Utf8
-physicalPlaces PhysicalTypes.LargeUtf8 = bare PhysicalPlace.LargeUtf8
-physicalPlaces PhysicalTypes.List = bare PhysicalPlace.List
-physicalPlaces PhysicalTypes.FixedSizeList = bare PhysicalPlace.FixedSizeList
-physicalPlaces PhysicalTypes.LargeList = bare PhysicalPlace.LargeList
-physicalPlaces PhysicalTypes.Struct = bare PhysicalPlace.Struct
-physicalPlaces PhysicalTypes.Union = bare PhysicalPlace.Union
-physicalPlaces PhysicalTypes.Map = bare PhysicalPlace.Map
-physicalPlaces (PhysicalTypes.Dictionary t) = bearing PhysicalPlace.Dictionary (integerPlace t)
-physicalPlaces PhysicalTypes.BinaryView = bare PhysicalPlace.BinaryView
-physicalPlaces PhysicalTypes.Utf8View = bare PhysicalPlace.Utf8View

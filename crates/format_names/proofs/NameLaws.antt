@@ -17,7 +17,7 @@ use Rattle.sheets.specs.Answer.{Answer, refused, given}
 use Rattle.sheets.specs.Format.{Row, rows, rowNamed, toIntegerType}
 use Rattle.sheets.proofs.Tests.{and-left, and-right, meets, every, at-each}
 use Rattle.sheets.proofs.BytesLaws.{same-eq}
-use Rattle.buffer.proofs.SameLaws.{lengths-differ}
+use Rattle.sheets.proofs.SameLaws.{lengths-differ}
 use Rattle.format_names.specs.Names.{nameAt, NoneNamed, NameTold}
 use Rattle.format_names.specs.declared.NameRead.the-variants.{Leaf}
 

@@ -18,11 +18,11 @@ use Rattle.sheets.proofs.FormLaws.{Standing, standing-on, Opened}
 use Rattle.sheets.proofs.ImportLaws.{written, rowWritten, nodeShape, below, ownOf, ownLines, visited, isBare, withOwn, node-written}
 use Rattle.schema_line.specs.declared.SchemaLine.{SchemaLine}
 use Rattle.read_line.specs.Lines.{LineAt}
-use Rattle.schema_sheet.specs.Trees.{HasRow, SkipsRow}
+use Rattle.subtrees.specs.Subtrees.{HasRow, SkipsRow}
 use Rattle.put_node.specs.Nodes.{lineType, nodeLines, Plan, Puts, PutsNode}
 use Rattle.import_field.specs.Contracts.{FieldAt, Begins}
-use Rattle.schema_sheet.specs.declared.Skipped.{Skipped}
-use Rattle.schema_sheet.specs.declared.Skipped.the-variants.{To, Deep}
+use Rattle.subtrees.specs.declared.Skipped.{Skipped}
+use Rattle.subtrees.specs.declared.Skipped.the-variants.{To, Deep}
 use Rattle.put_node.specs.declared.Visit.{Visit}
 use Rattle.put_node.specs.declared.NodeRead.{NodeRead}
 use Rattle.put_node.specs.declared.NodeRead.the-variants.{Put, Refused}

@@ -5,10 +5,10 @@ use Prim.Native.Nat.{ℕ, _<_}
 use native.Mathlib.Omega.{arith}
 use Rattle.sheets.specs.Bytes.{Bytes}
 use Rattle.sheets.specs.Schema.{Schema}
-use Rattle.schema_sheet.specs.Trees.{tallest, SkipsTrees, SkipsRow}
+use Rattle.subtrees.specs.Subtrees.{tallest, SkipsTrees, SkipsRow}
 use Rattle.import_field.specs.Contracts.{LeftAt, Ends}
-use Rattle.schema_sheet.specs.declared.Skipped.{Skipped}
-use Rattle.schema_sheet.specs.declared.Skipped.the-variants.{To, Deep}
+use Rattle.subtrees.specs.declared.Skipped.{Skipped}
+use Rattle.subtrees.specs.declared.Skipped.the-variants.{To, Deep}
 use Rattle.import_field.specs.declared.Step.the-variants.{Done}
 
 module _ (s : Bytes) (at count most : ℕ) (us ts : List Schema) (h : LeftAt s at count most us ts) (k : Skipped) (skips : SkipsRow s at count most k) where

@@ -16,7 +16,7 @@ use Rattle.sheets.proofs.OutcomeLaws.{number-range}
 use Rattle.sheets.proofs.ImportLaws.{written, rowWritten}
 use Rattle.buffer.specs.Over.{over}
 use Rattle.buffer.proofs.OverLaws.{over-lent}
-use Rattle.put_node.specs.Own.{HasRoom}
+use Rattle.node_metadata.specs.NodeMetadata.{HasRoom}
 use Rattle.put_node.specs.Nodes.{Owns}
 use Rattle.import_field.specs.Contracts.{FieldAt, LeftAt, HasFields, HasLeft, Wrote, FieldsWrote, Begins, FieldBegins, Ends, FieldEnds}
 use Rattle.put_node.specs.declared.Visit.{Visit}

@@ -10,7 +10,7 @@ use Rattle.sheets.specs.FieldSheet.{Shape, ofScalar, ofNesting, ofGrouping, ofD
 use Rattle.sheets.proofs.SchemaLaws.{pushChildren, pushDictionary}
 use Rattle.sheets.proofs.ForwardCount.{children-length}
 use Rattle.sheets.proofs.ImportLaws.{visited}
-use Rattle.schema_sheet.specs.Trees.{tallest}
+use Rattle.subtrees.specs.Subtrees.{tallest}
 use Rattle.put_node.specs.Nodes.{Plan}
 use Rattle.put_node.specs.declared.Visit.{Visit}
 

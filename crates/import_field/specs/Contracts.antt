@@ -14,7 +14,7 @@ use Rattle.sheets.proofs.SchemaLaws.{pushChildren}
 use Rattle.sheets.proofs.FormLaws.{Standing}
 use Rattle.sheets.proofs.ImportLaws.{written, rowWritten}
 use Rattle.buffer.specs.Over.{over}
-use Rattle.schema_sheet.specs.Trees.{tallest}
+use Rattle.subtrees.specs.Subtrees.{tallest}
 use Rattle.put_node.specs.Nodes.{Owns}
 use Rattle.put_node.specs.declared.Visit.{Visit}
 use Rattle.import_field.specs.declared.FieldBegun.{FieldBegun}

@@ -1,11 +1,11 @@
 // The lines of a field from the lines of its schema, in a lent buffer. A field is read through its type, and a type through its fields.
 ghost use Prim.Native.Nat.{suc};
-ghost use Rattle.put_node.specs.Own.{HasRoom};
+ghost use Rattle.node_metadata.specs.NodeMetadata.{HasRoom};
 ghost use Rattle.import_field.specs.Contracts.{HasField, HasFields, HasLeft};
 ghost use Rattle.import_field.specs.Contracts.{FieldBegins, FieldEnds, FieldWrote, FieldsWrote};
 use put_node::NodeRead;
 use put_node::Visit;
-use schema_sheet::Skipped;
+use subtrees::Skipped;
 
 // Where the reading goes on and how many bytes the lines have, or a refusal's number.
 pub enum Step {
@@ -37,7 +37,7 @@ fn begin_field(
         NodeRead::Refused(n) => FieldBegun::Refused(n),
         NodeRead::Put(visit) => {
             // The whole sheet was read before, and no tree has more levels: 3 never comes from here.
-            let Skipped::To(next) = schema_sheet::skip_row(s, line.end, visit.first, most) else {
+            let Skipped::To(next) = subtrees::skip_row(s, line.end, visit.first, most) else {
                 return FieldBegun::Refused(3);
             };
             FieldBegun::Row(next, visit)
@@ -50,7 +50,7 @@ fn end_field(s: &[u8], at: usize, count: u64, most: usize, pending: u8, len: usi
     requires { ⌜ HasLeft (now s) at count most ⌝ }
     ensures { λ r. ⌜ FieldEnds (now (s .entry)) at count most pending len r ⌝ }
 {
-    let Skipped::To(next) = schema_sheet::skip_row(s, at, count, most) else {
+    let Skipped::To(next) = subtrees::skip_row(s, at, count, most) else {
         return Step::Refused(3);
     };
     if pending != 0 {

@@ -3,9 +3,9 @@
 use mathlib.Core.Path.{_≡_, refl, sym, ap, subst, _∙_}
 use mathlib.Core.Bool.{false}
 use mathlib.Core.List.{List, [], _∷_, _++_, append-assoc}
-use Prim.Native.Nat.{ℕ, _+_, _-_, _<_, _≤_, min}
+use Prim.Native.Nat.{ℕ, _+_, _-_, _≤_, min}
 use native.Mathlib.Omega.{arith}
-use lib.ListN.{length, take, drop, replicate, length-append}
+use lib.ListN.{length, take, drop, length-append}
 use Rattle.sheets.specs.Refusal.{Refusal, numberOf}
 use Rattle.sheets.specs.Bytes.{Bytes}
 use Rattle.sheets.specs.Answer.{Answer, refused, given, _>>=_}
@@ -14,19 +14,21 @@ use Rattle.sheets.specs.Schema.{Schema}
 use Rattle.sheets.specs.Field.{Field}
 use Rattle.sheets.specs.FieldSheet.{fieldHeading, writeFieldSheet, typeLines}
 use Rattle.sheets.specs.Import.{toField}
-use Rattle.sheets.specs.Outcome.{imported, outcome, refusal, success, importOutcome}
-use Rattle.sheets.proofs.OutcomeLaws.{turned, fits, fits-not}
+use Rattle.sheets.specs.Outcome.{imported, outcome, refusal, importOutcome}
+use Rattle.sheets.proofs.OutcomeLaws.{turned}
 use Rattle.sheets.proofs.ImportLaws.{written, shown}
 use Rattle.buffer.specs.Over.{over, overAt}
-use Rattle.buffer.proofs.OverLaws.{over-lent, over-fits, length-over, overAt-zero}
+use Rattle.buffer.proofs.OverLaws.{over-lent, overAt-zero}
+use Rattle.outcome.specs.Answers.{outcomeOf, Refuses, Tells}
+use Rattle.outcome.specs.declared.Answered.{Answered}
+use Rattle.outcome.proofs.AnswerLaws.{refused as zeros}
 use Rattle.schema_sheet.specs.Sheets.{Opens, ReadsSheet}
 use Rattle.import_field.specs.Contracts.{FieldAt, HasField, Wrote, FieldWrote}
-use Rattle.import_sheet.specs.Sheets.{sheetOf, SheetWroteAs, SheetWrote, outcomeOf}
+use Rattle.import_sheet.specs.Sheets.{sheetOf, SheetWroteAs, SheetWrote}
 use Rattle.schema_sheet.specs.declared.SheetRead.{SheetRead}
 use Rattle.schema_sheet.specs.declared.SheetRead.the-variants.{Body, Refused as Unread}
 use Rattle.import_field.specs.declared.Step.{Step}
 use Rattle.import_field.specs.declared.Step.the-variants.{Done, Refused}
-use Rattle.import_sheet.specs.declared.Imported.{Imported}
 
 -- ── the heading and the lines
 
@@ -74,20 +76,13 @@ module _ (s : Bytes) (at : ℕ) (t : Schema) (ts : List Schema) (f : FieldAt s a
 
 -- ── the outcome
 
--- what `refuse` ensures
-abbrev pub Cleared : ℕ → Bytes → Imported → Bytes → Type 0
-Cleared n mid a out' = (a .number ≡ n) × (a .length ≡ 0) × (out' ≡ replicate (length mid) 0)
-
 module _ (s out : Bytes) where
-  turned-back : (o : Answer Bytes) (n : ℕ) (a : Imported) (mid out' : Bytes) → outcome o out ≡ refusal n out → imported s ≡ o → Cleared n mid a out' → length mid ≡ length out
+  turned-back : (o : Answer Bytes) (n : ℕ) (a : Answered) (mid out' : Bytes) → outcome o out ≡ refusal n out → imported s ≡ o → Refuses n mid a out' → length mid ≡ length out
       → outcomeOf a out' ≡ importOutcome s out
-  turned-back o n a mid out' e i (x, y, z) l =
-      let p : out' ≡ replicate (length out) 0 = z ∙ ap (λ (m : ℕ). replicate m 0) l in
-      let q : outcomeOf a out' ≡ refusal n out = λ i. record { number = x i; size = y i; buffer = p i } in
-      q ∙ sym e ∙ ap (λ (y : Answer Bytes). outcome y out) (sym i)
+  turned-back o n a mid out' e i c l = zeros n mid out a out' c l ∙ sym e ∙ ap (λ (y : Answer Bytes). outcome y out) (sym i)
 
   -- no schema sheet
-  pub import-unread : (k : SheetRead) (n : ℕ) → k ≡ Unread n → ReadsSheet s k → (a : Imported) (out' : Bytes) → Cleared n out a out' → outcomeOf a out' ≡ importOutcome s out
+  pub import-unread : (k : SheetRead) (n : ℕ) → k ≡ Unread n → ReadsSheet s k → (a : Answered) (out' : Bytes) → Refuses n out a out' → outcomeOf a out' ≡ importOutcome s out
   unfolding imported
   import-unread k n e h a out' c =
       let (r, is, number) = subst (ReadsSheet s) e h in
@@ -108,31 +103,17 @@ module _ (s out : Bytes) where
     unfolding imported sheetOf
     of-sheet = ap (λ (o : Answer Schema). o >>= λ t. toField t >>= λ f. given (writeFieldSheet f)) (read .1 .isRead)
 
-    module _ (mid : Bytes) (z : Step) (w : SheetWrote s at out mid z) where
+    module _ (mid : Bytes) (z : Step) (w : SheetWrote s at out mid z) (a : Answered) (out' : Bytes) where
       -- a refusal on the way
-      pub import-refused : (n : ℕ) → z ≡ Refused n → length mid ≡ length out → (a : Imported) (out' : Bytes) → Cleared n mid a out' → outcomeOf a out' ≡ importOutcome s out
-      import-refused n d l a out' c =
+      pub import-refused : (n : ℕ) → z ≡ Refused n → length mid ≡ length out → Refuses n mid a out' → outcomeOf a out' ≡ importOutcome s out
+      import-refused n d l c =
           let v : SheetWrote s at out mid (Refused n) = subst (λ (y : Step). SheetWrote s at out mid y) d w in
           let (r, is, number) = v (read .0) [] field-at in
           turned-back (refused r) n a mid out' (turned r out ∙ ap (λ (m : ℕ). refusal m out) number) (of-sheet ∙ is) c l
 
-      module _ (next len : ℕ) (d : z ≡ Done next len) where
-        wrote : SheetWroteAs (read .0) out mid (Done next len)
-        wrote = subst (λ (y : Step). SheetWrote s at out mid y) d w (read .0) [] field-at
-
-        same : length mid ≡ length out
-        same = let (x, is, lenIs, laid) = wrote in ap length laid ∙ length-over x out
-
-        -- longer than the buffer
-        pub import-long : length mid < len → (a : Imported) (out' : Bytes) → Cleared 16 mid a out' → outcomeOf a out' ≡ importOutcome s out
-        import-long l a out' c =
-            let (x, is, lenIs, laid) = wrote in
-            turned-back (given x) 16 a mid out' (fits-not x out (omega (arith, same, lenIs))) (of-sheet ∙ is) c same
-
-        pub import-done : len ≤ length mid → outcomeOf (record { number = 0; length = len }) mid ≡ importOutcome s out
-        import-done l =
-            let (x, is, lenIs, laid) = wrote in
-            let fit : length x ≤ length out = omega (arith, same, lenIs) in
-            let p : mid ≡ x ++ drop (length x) out = laid ∙ over-fits x out fit in
-            let q : outcomeOf (record { number = 0; length = len }) mid ≡ success x out = λ i. record { number = 0; size = lenIs i; buffer = p i } in
-            q ∙ sym (fits x out fit) ∙ ap (λ (y : Answer Bytes). outcome y out) (sym (of-sheet ∙ is))
+      -- the sheet is written, as far as it fits
+      pub import-done : (next len : ℕ) → z ≡ Done next len → Tells mid len a out' → outcomeOf a out' ≡ importOutcome s out
+      import-done next len d c =
+          let v : SheetWrote s at out mid (Done next len) = subst (λ (y : Step). SheetWrote s at out mid y) d w in
+          let (x, is, lenIs, laid) = v (read .0) [] field-at in
+          c x out lenIs laid ∙ ap (λ (y : Answer Bytes). outcome y out) (sym (of-sheet ∙ is))

@@ -9,12 +9,10 @@ use Rattle.sheets.specs.Answer.{Answer, refused, given, _>>=_}
 use Rattle.sheets.specs.Schema.{Schema}
 use Rattle.sheets.specs.FieldSheet.{writeFieldSheet}
 use Rattle.sheets.specs.Import.{toField}
-use Rattle.sheets.specs.Outcome.{Outcome}
 use Rattle.buffer.specs.Over.{over}
 use Rattle.import_field.specs.declared.Step.{Step}
 use Rattle.import_field.specs.declared.Step.the-variants.{Done, Refused}
 use Rattle.import_field.specs.Contracts.{FieldAt}
-use Rattle.import_sheet.specs.declared.Imported.{Imported}
 
 -- the field sheet of a schema
 unfoldable pub sheetOf : Schema → Answer Bytes
@@ -26,7 +24,3 @@ SheetWroteAs t out out' (Done next len) = (x : Bytes) × (sheetOf t ≡ given x)
 
 abbrev pub SheetWrote : Bytes → ℕ → Bytes → Bytes → Step → Type 0
 SheetWrote s at out out' r = (t : Schema) (ts : List Schema) → FieldAt s at 32 t ts → SheetWroteAs t out out' r
-
--- the answer of import, and the buffer after it, as an outcome
-abbrev pub outcomeOf : Imported → Bytes → Outcome
-outcomeOf a out = record { number = a .number; size = a .length; buffer = out }

@@ -1,19 +1,15 @@
 // Import: a schema sheet's bytes become a field sheet in a lent buffer.
 ghost use mathlib.Core.Path.{_≡_};
 ghost use Prim.Native.Nat.{_≤_};
-ghost use lib.ListN.{length, replicate};
+ghost use lib.ListN.{length};
 ghost use Rattle.sheets.specs.Outcome.{importOutcome};
-ghost use Rattle.put_node.specs.Own.{HasRoom};
+ghost use Rattle.node_metadata.specs.NodeMetadata.{HasRoom};
 ghost use Rattle.import_field.specs.Contracts.{HasField};
-ghost use Rattle.import_sheet.specs.Sheets.{SheetWrote, outcomeOf};
+ghost use Rattle.outcome.specs.Answers.{outcomeOf};
+ghost use Rattle.import_sheet.specs.Sheets.{SheetWrote};
 use import_field::Step;
+use outcome::Answered;
 use schema_sheet::SheetRead;
-
-// What `import` answers: 0 and the sheet's length, or a refusal's number and 0.
-pub struct Imported {
-    pub number: u8,
-    pub length: usize,
-}
 
 // Writes the heading and the field's lines, as far as they fit.
 fn put_sheet(s: &[u8], at: usize, out: &mut [u8], entries: &mut [u32], spare: &mut [u32]) -> Step
@@ -61,31 +57,15 @@ fn put_by_length(s: &[u8], at: usize, out: &mut [u8]) -> Step
     put_long(s, at, out)
 }
 
-// A refusal: the number, and zeros.
-fn refuse(out: &mut [u8], number: u8) -> Imported
-    ensures { λ r. ⌜ (r .number ≡ number) × (r .length ≡ 0) × (now (out .exit) ≡ replicate (length (now (out .entry))) 0) ⌝ }
-{
-    buffer::clear(out);
-    Imported { number, length: 0 }
-}
-
 // The field sheet of a schema sheet, written over the first bytes of out; or the number of its refusal, and zeros.
-pub fn import(s: &[u8], out: &mut [u8]) -> Imported
+pub fn import(s: &[u8], out: &mut [u8]) -> Answered
     ensures { λ r. ⌜ outcomeOf r (now (out .exit)) ≡ importOutcome (now (s .entry)) (now (out .entry)) ⌝ }
 {
     match schema_sheet::read_sheet(s) {
-        SheetRead::Refused(n) => refuse(out, n),
+        SheetRead::Refused(n) => outcome::refuse(out, n),
         SheetRead::Body(at) => match put_by_length(s, at, out) {
-            Step::Refused(n) => refuse(out, n),
-            Step::Done { next: _, len } => {
-                if out.len() < len {
-                    return refuse(out, 16);
-                }
-                Imported {
-                    number: 0,
-                    length: len,
-                }
-            }
+            Step::Refused(n) => outcome::refuse(out, n),
+            Step::Done { next: _, len } => outcome::written(out, len),
         },
     }
 }

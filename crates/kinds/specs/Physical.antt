@@ -12,7 +12,8 @@ use Rattle.sheets.specs.Mappings.{PhysicalType as HostPhysical}
 use Rattle.sheets.specs.Kind
 use Rattle.sheets.specs.IntegerType as IntegerPlace
 use Rattle.sheets.specs.PhysicalType as PhysicalPlace
-use Rattle.datatypes.specs.Places.{primitivePlace, physicalPlaces}
+use Rattle.datatypes.specs.Places.{primitivePlace}
+use Rattle.physical_type.specs.PhysicalPlaces.{physicalPlaces}
 use Rattle.units.specs.At.{firstAt, isSome}
 use Rattle.datatypes.specs.declared.PrimitiveType.{PrimitiveType}
 use Rattle.datatypes.specs.declared.PrimitiveTypeAt.{PrimitiveTypeAt}

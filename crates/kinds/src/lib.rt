@@ -3,9 +3,9 @@ pub mod kind;
 
 use datatypes::IntegerType;
 use datatypes::IntegerTypeAt;
-use datatypes::PhysicalType;
 use datatypes::PrimitiveType;
 use datatypes::PrimitiveTypeAt;
+use physical_type::PhysicalType;
 use units::IntervalUnit;
 ghost use mathlib.Core.Path.{_≡_};
 ghost use mathlib.Core.Option.{some};

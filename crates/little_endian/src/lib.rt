@@ -45,5 +45,5 @@ pub fn put_word(out: &mut [u8], at: usize, n: u32) -> usize
     ensures { λ r. ⌜ (r ≡ at + length (hex (wordBytes n))) × (now (out .exit) ≡ overAt at (hex (wordBytes n)) (now (out .entry))) ⌝ }
 {
     let b = word_bytes(n);
-    hex::put_hex(out, at, &b)
+    put_hex::put_hex(out, at, &b)
 }

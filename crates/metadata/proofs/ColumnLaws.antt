@@ -13,9 +13,9 @@ use Rattle.sheets.specs.FieldSheet.{writeList, pairText}
 use Rattle.sheets.specs.Metadata.{extensionOf, somePairs}
 use Rattle.hex.specs.Hex.{isHex, bytesOf}
 use Rattle.metadata.specs.declared.Metadata.{Metadata}
-use Rattle.metadata.specs.Entry.{pairAt, pairsAt, valueAt}
+use Rattle.read_pair.specs.Entry.{pairAt, pairsAt, valueAt}
 use Rattle.metadata.specs.Reading.{Means}
-use Rattle.metadata.specs.Pairs.{pairsColumn, valueColumn, CanPut, CanPutValue}
+use Rattle.put_pairs.specs.Pairs.{pairsColumn, valueColumn, CanPut, CanPutValue}
 use Rattle.metadata.proofs.SizeLaws.{column-short, value-short}
 
 -- ── the definitions

@@ -15,15 +15,15 @@ use Rattle.sheets.specs.Field.{Pair}
 use Rattle.sheets.specs.Demand3.{noReserved}
 use Rattle.sheets.specs.Metadata.{nameKey, metadataKey, reserved, insertNew, ordinary, orElse, valueOf}
 use Rattle.sheets.proofs.BytesLaws.{same-eq}
-use Rattle.buffer.proofs.SameLaws.{lengths-differ}
+use Rattle.sheets.proofs.SameLaws.{lengths-differ}
 use Rattle.hex.specs.Hex.{isHex, bytesOf}
 use Rattle.hex.proofs.HexLaws.{twice-length}
 use Rattle.metadata.specs.declared.KeyKind.{KeyKind}
 use Rattle.metadata.specs.declared.KeyKind.the-variants.{Name, More, Ordinary}
 use Rattle.metadata.specs.declared.Metadata.{Metadata}
-use Rattle.metadata.specs.Entry.{pairAt, pairsAt, valueAt, Stands, EachStands}
+use Rattle.read_pair.specs.Entry.{pairAt, pairsAt, valueAt, Stands, EachStands}
 use Rattle.metadata.specs.Reading.{kindOf, kept, Keeps}
-use Rattle.metadata.proofs.EntryLaws.{not-none, each-more}
+use Rattle.put_pairs.proofs.EntryLaws.{not-none, each-more}
 
 -- ── one more pair at the end
 

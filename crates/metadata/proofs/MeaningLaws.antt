@@ -3,7 +3,7 @@ use mathlib.Core.Path.{_≡_, refl, sym, ap, ap₂, subst, _∙_}
 use mathlib.Core.Bool.{Bool, true, false, cond}
 use mathlib.Core.List.{List, [], _∷_, map}
 use mathlib.Core.Option.{Option, some}
-use Prim.Native.Nat.{ℕ, _^_, _≤_, _<_}
+use Prim.Native.Nat.{ℕ, _%_, _^_, _≤_, _<_}
 use native.Mathlib.Omega.{arith}
 use lib.Dec.{ltb}
 use lib.ListN.{length, take, drop}
@@ -12,6 +12,7 @@ use Rattle.sheets.specs.Refusal.{badMetadata}
 use Rattle.sheets.specs.Rule.{Meets}
 use Rattle.sheets.specs.Bytes.{Bytes}
 use Rattle.sheets.specs.Answer.{Answer, refused, given, _>>=_}
+use Rattle.sheets.specs.Text.{hex}
 use Rattle.sheets.specs.Field.{Pair}
 use Rattle.sheets.specs.Demand3.{noReserved}
 use Rattle.sheets.specs.Metadata.{littleValue, takePairs, countOf, readBlock, ordinary, extensionOf, Extension, somePairs, meaning, metadataFromBytes}
@@ -19,12 +20,13 @@ use Rattle.hex.specs.Hex.{isHex, bytesOf}
 use Rattle.hex.proofs.HexLaws.{twice-length}
 use Rattle.little_endian.specs.Word.{wordValue, fourAt}
 use Rattle.key_order.specs.Order.{keyAt, ordered}
-use Rattle.key_order.proofs.PairLaws.{Each, each-ordered, ordered-hex-pairs}
+use Rattle.key_order.proofs.PairLaws.{Each, HexKey, each-ordered, ordered-hex-pairs}
 use Rattle.metadata.specs.declared.Metadata.{Metadata}
-use Rattle.metadata.specs.Entry.{lengthAt, pairAt, pairsAt, Stands, EachStands}
-use Rattle.metadata.specs.Reading.{Block, RefusedWith, Keeps, Room, Means, kept}
-use Rattle.metadata.proofs.TextLaws.{cut-given, cut-short, word-length}
-use Rattle.metadata.proofs.EntryLaws.{hex-keys}
+use Rattle.read_pair.specs.Entry.{lengthAt, pairAt, pairsAt, Stands, EachStands}
+use Rattle.read_pair.specs.PairReading.{Block, RefusedWith}
+use Rattle.metadata.specs.Reading.{Keeps, Room, Means, kept}
+use Rattle.read_pair.proofs.TextLaws.{cut-given, cut-short, word-length}
+use Rattle.put_pairs.proofs.EntryLaws.{key-part, key-below}
 use Rattle.metadata.proofs.KeepLaws.{ordinary-kept, kept-free}
 
 -- ── the count
@@ -67,6 +69,15 @@ pub pairs-given : (m : Bytes) → isHex m ≡ true → 8 ≤ length m → (n : �
 pairs-given m h l n e ps f = block-pairs (bytesOf m) (omega (arith, twice-length m h)) ∙ ap (λ (i : ℕ). takePairs i (drop 4 (bytesOf m))) (sym e) ∙ f
 
 -- ── the order
+
+-- the keys of entries are their pairs', in hexadecimal
+key-text : (m : Bytes) → isHex m ≡ true → (e : ℕ) → Stands (bytesOf m) e → keyAt m e ≡ hex (pairAt (bytesOf m) e .0)
+unfolding keyAt
+key-text m h e s = key-part m h e s (e % 65536) refl
+
+hex-keys : (m : Bytes) → isHex m ≡ true → (es : List ℕ) → EachStands (bytesOf m) es → Each (HexKey (keyAt m) (pairAt (bytesOf m))) es
+hex-keys m h [] s = tt
+hex-keys m h (e ∷ es) s = ((key-text m h e (s .0), key-below m h e (s .0)), hex-keys m h es (s .1))
 
 to-each : (b : Bytes) (l : List ℕ) → EachStands b l → Each (Stands b) l
 to-each b [] s = tt

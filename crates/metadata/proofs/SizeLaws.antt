@@ -22,12 +22,12 @@ use Rattle.hex.specs.Hex.{isHex, bytesOf}
 use Rattle.hex.proofs.HexLaws.{twice-length}
 use Rattle.hex.proofs.PartLaws.{length-hex}
 use Rattle.metadata.specs.declared.Metadata.{Metadata}
-use Rattle.metadata.specs.Entry.{lengthAt, pairFrom, pairAt, valueAt}
+use Rattle.read_pair.specs.Entry.{lengthAt, pairFrom, pairAt, valueAt}
 use Rattle.metadata.specs.Reading.{Means}
-use Rattle.metadata.specs.Pairs.{pairsColumn, valueColumn}
-use Rattle.metadata.proofs.TextLaws.{afterText, afterLength, then}
+use Rattle.put_pairs.specs.Pairs.{pairsColumn, valueColumn}
+use Rattle.read_pair.proofs.TextLaws.{afterText, afterLength, then}
 use Rattle.metadata.proofs.MeaningLaws.{afterCount}
-use Rattle.metadata.proofs.PutLaws.{afterCommas, joined}
+use Rattle.put_pairs.proofs.PutLaws.{afterCommas, joined}
 
 -- the bytes that the pairs take in a block
 abbrev weight : List Pair → ℕ

@@ -11,10 +11,11 @@ use Rattle.sheets.specs.Metadata.{takePairs}
 use Rattle.hex.specs.Hex.{bytesOf}
 use Rattle.hex.proofs.HexLaws.{twice-length}
 use Rattle.metadata.specs.declared.Metadata.{Metadata}
-use Rattle.metadata.specs.Entry.{entryOf, pairFrom, pairAt, IsEntry, Stands}
-use Rattle.metadata.specs.Reading.{Block, RefusedWith, PairBetween, Keeps, Adds}
-use Rattle.metadata.proofs.TextLaws.{pair-read}
-use Rattle.metadata.proofs.EntryLaws.{pair-of-entry, stands}
+use Rattle.read_pair.specs.Entry.{entryOf, pairFrom, pairAt, IsEntry, Stands}
+use Rattle.read_pair.specs.PairReading.{Block, RefusedWith, PairBetween}
+use Rattle.metadata.specs.Reading.{Keeps, Adds}
+use Rattle.read_pair.proofs.TextLaws.{pair-read}
+use Rattle.put_pairs.proofs.EntryLaws.{pair-of-entry, stands}
 use Rattle.metadata.proofs.KeepLaws.{keeps-none}
 
 -- pairs, and then those of an answer

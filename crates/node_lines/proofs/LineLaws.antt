@@ -19,11 +19,11 @@ use Rattle.field_line.specs.declared.TypeText.{TypeText}
 use Rattle.field_line.specs.declared.TypeText.the-variants.{NoText, Zone, Ids}
 use Rattle.field_line.specs.declared.TypeColumns.{TypeColumns}
 use Rattle.field_line.proofs.LengthLaws.{column-length, name-piece-length, bare-length, shape-short}
-use Rattle.format.specs.Told.{textOf, TextAt}
+use Rattle.format_types.specs.Told.{textOf, TextAt}
 use Rattle.format_parts.specs.Parts.{idsText, HasIds}
 use Rattle.metadata.specs.declared.Metadata.{Metadata}
-use Rattle.metadata.specs.Entry.{valueAt}
-use Rattle.metadata.specs.Pairs.{pairsColumn}
+use Rattle.read_pair.specs.Entry.{valueAt}
+use Rattle.put_pairs.specs.Pairs.{pairsColumn}
 use Rattle.metadata.proofs.ColumnLaws.{value-column, no-value, has-value}
 use Rattle.metadata.proofs.SizeLaws.{value-short}
 use Rattle.node_lines.specs.Pieces.{ownText, typeLine, extensionLine, nodeText, linesText}

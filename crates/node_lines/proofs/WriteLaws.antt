@@ -11,7 +11,7 @@ use Rattle.buffer.specs.Over.{overAt}
 use Rattle.field_line.specs.Columns.{column, shapePiece, namePiece, ownPiece}
 use Rattle.field_line.specs.declared.TypeColumns.{TypeColumns}
 use Rattle.field_line.proofs.ColumnLaws.{then-space}
-use Rattle.format.specs.Told.{textOf}
+use Rattle.format_types.specs.Told.{textOf}
 use Rattle.node_lines.specs.Pieces.{typePiece, ownText}
 
 -- the same text was written

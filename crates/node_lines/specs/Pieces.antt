@@ -3,7 +3,7 @@ use mathlib.Core.Path.{_≡_}
 use mathlib.Core.Bool.{Bool, true, false}
 use mathlib.Core.List.{List, _++_}
 use mathlib.Core.Option.{Option, none, some}
-use Prim.Native.Nat.{ℕ, _+_, _*_, _≤_, _<_, _^_}
+use Prim.Native.Nat.{ℕ, _+_, _*_, _<_, _^_}
 use lib.ListN.{length}
 use Rattle.sheets.specs.Bytes.{Bytes}
 use Rattle.sheets.specs.Text.{writeText}
@@ -14,10 +14,10 @@ use Rattle.hex.specs.Hex.{isHex, bytesOf}
 use Rattle.field_line.specs.Columns.{column, shapePiece, namePiece, ownPiece, endPiece}
 use Rattle.field_line.specs.declared.TypeText.{TypeText}
 use Rattle.field_line.specs.declared.TypeColumns.{TypeColumns}
-use Rattle.format.specs.Told.{textOf, TextAt}
+use Rattle.format_types.specs.Told.{textOf, TextAt}
 use Rattle.metadata.specs.declared.Metadata.{Metadata}
-use Rattle.metadata.specs.Entry.{valueAt, Entries, OrNone}
-use Rattle.metadata.specs.Pairs.{pairsColumn}
+use Rattle.read_pair.specs.Entry.{valueAt, OrNone}
+use Rattle.put_pairs.specs.Pairs.{pairsColumn, HasPairs}
 
 -- kind p q text more of a type
 unfoldable pub typePiece : Bytes → TypeColumns → Bytes
@@ -72,13 +72,6 @@ pub record CanPutType (f : Bytes) (c : TypeColumns) (at : ℕ) : Type 0 where
   pub low : at < 2 ^ 38
   pub place : TextAt f (c .text)
   pub format : length f < 65536
-
--- the pairs are entries of the metadata
-pub record HasPairs (m : Bytes) (es : List ℕ) (n : ℕ) : Type 0 where
-  pub isText : isHex m ≡ true
-  pub short : length m < 65536
-  pub entries : Entries (bytesOf m) es n
-  pub column : length (pairsColumn (bytesOf m) es n) ≤ length m + 1
 
 pub record CanPutOwn (name m : Bytes) (es : List ℕ) (n at : ℕ) : Type 0 where
   pub low : at < 2 ^ 38

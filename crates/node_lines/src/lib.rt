@@ -5,9 +5,9 @@ ghost use lib.ListN.{length};
 ghost use Rattle.sheets.specs.Text.{writeText};
 ghost use Rattle.hex.specs.Hex.{bytesOf};
 ghost use Rattle.field_line.specs.Columns.{shapePiece};
-ghost use Rattle.format.specs.Told.{textOf};
-ghost use Rattle.metadata.specs.Entry.{valueAt};
-ghost use Rattle.metadata.specs.Pairs.{pairsColumn};
+ghost use Rattle.format_types.specs.Told.{textOf};
+ghost use Rattle.read_pair.specs.Entry.{valueAt};
+ghost use Rattle.put_pairs.specs.Pairs.{pairsColumn};
 ghost use Rattle.node_lines.specs.Pieces.{typePiece, ownText, typeLine, linesText, longest, PutAt, Writes};
 ghost use Rattle.node_lines.specs.Pieces.{CanPutText, CanPutType, CanPutOwn, CanPutLine, CanPutExtension, CanPutLines};
 use field_line::TypeColumns;
@@ -57,7 +57,7 @@ fn put_own(
         return field_line::put_bare(out, at);
     }
     let a = field_line::put_name(out, at, name, nullable);
-    let b = metadata::put_pairs(out, a, m, entries, count);
+    let b = put_pairs::put_pairs(out, a, m, entries, count);
     buffer::put_byte(out, b, b' ')
 }
 
@@ -89,9 +89,9 @@ fn put_extension(out: &mut [u8], at: usize, m: &[u8], name: u32, more: u32) -> u
     ensures { λ r. ⌜ PutAt at (shapePiece 37 0 0 (writeText (valueAt (bytesOf (now (m .entry))) name)) (writeText (valueAt (bytesOf (now (m .entry))) more))) r (now (out .entry)) (now (out .exit)) ⌝ }
 {
     let a = buffer::put_at(out, at, b"37 0 0 ");
-    let b = metadata::put_value(out, a, m, name);
+    let b = put_pairs::put_value(out, a, m, name);
     let c = buffer::put_byte(out, b, b' ');
-    let d = metadata::put_value(out, c, m, more);
+    let d = put_pairs::put_value(out, c, m, more);
     buffer::put_byte(out, d, b' ')
 }
 

@@ -24,8 +24,8 @@ use Rattle.field_line.specs.declared.TypeText.the-variants.{NoText}
 use Rattle.field_line.specs.declared.TypeColumns.{TypeColumns}
 use Rattle.schema_line.specs.declared.SchemaLine.{SchemaLine}
 use Rattle.schema_line.specs.Texts.{textIn}
-use Rattle.format.specs.declared.FormatRead.{FormatRead}
-use Rattle.format.specs.declared.FormatRead.the-variants as Format
+use Rattle.format_types.specs.declared.FormatRead.{FormatRead}
+use Rattle.format_types.specs.declared.FormatRead.the-variants as Format
 use Rattle.format_names.specs.declared.IndexRead.{IndexRead}
 use Rattle.format_names.specs.declared.IndexRead.the-variants as Index
 use Rattle.node_type.specs.declared.Below.{Below}
@@ -33,8 +33,8 @@ use Rattle.node_type.specs.declared.Below.the-variants.{Nothing, First, 
 use Rattle.node_type.specs.declared.TypeRead.{TypeRead}
 use Rattle.node_type.specs.declared.TypeRead.the-variants as Read
 use Rattle.format_names.specs.Names.{IndexTold}
-use Rattle.format.specs.Told.{shapeOf, nests, groups, isNesting, isGrouping, Tells}
-use Rattle.format.specs.Told.{Told as FormatTold}
+use Rattle.format_types.specs.Told.{shapeOf, nests, groups, isNesting, isGrouping, Tells}
+use Rattle.format_types.specs.Told.{Told as FormatTold}
 use Rattle.node_type.specs.Types.{Told}
 use Rattle.node_type.specs.Visits.{belowOf, belowAt, lacksChild}
 use Rattle.node_type.proofs.TextLaws.{text-bytes}

@@ -3,7 +3,7 @@ use mathlib.Core.Path.{_≡_}
 use Rattle.sheets.specs.Bytes.{Bytes}
 use Rattle.sheets.specs.FieldSheet.{Shape, columns, noText}
 use Rattle.field_line.specs.declared.TypeColumns.{TypeColumns}
-use Rattle.format.specs.Told.{textOf, TextAt}
+use Rattle.format_types.specs.Told.{textOf, TextAt}
 
 -- the columns c, with the format's text f, are those of the type
 pub record Told (f : Bytes) (sh : Shape) (c : TypeColumns) : Type 0 where

@@ -3,7 +3,7 @@ use mathlib.Core.Bool.{Bool, false, cond}
 use Prim.Native.Nat.{ℕ}
 use lib.Dec.{eqb}
 use Rattle.sheets.specs.FieldSheet.{Shape, ofScalar, ofNesting, ofGrouping, ofDictionary, ofExtension}
-use Rattle.format.specs.Told.{isNesting, isGrouping}
+use Rattle.format_types.specs.Told.{isNesting, isGrouping}
 use Rattle.node_type.specs.declared.Below.{Below}
 use Rattle.node_type.specs.declared.Below.the-variants.{Nothing, First, All, Values}
 

@@ -9,8 +9,8 @@ ghost use Rattle.node_type.specs.Visits.{belowAt, lacksChild};
 ghost use Rattle.node_type.specs.NodeTypes.{IsText, columnType, indexShape, formatShape, ShapeTold};
 use field_line::TypeColumns;
 use field_line::TypeText;
-use format::FormatRead;
 use format_names::IndexRead;
+use format_types::FormatRead;
 use schema_line::SchemaLine;
 
 // Which subtrees a type visits: none, the first child, all children, the dictionary's values.

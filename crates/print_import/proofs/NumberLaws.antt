@@ -8,8 +8,8 @@ use Rattle.sheets.specs.Refusal.{noRoom}
 use Rattle.sheets.specs.Bytes.{Bytes}
 use Rattle.sheets.specs.Answer.{Answer, refused, given}
 use Rattle.sheets.specs.Outcome.{Outcome, outcome, success, refusal, importOutcome}
-use Rattle.import_sheet.specs.Sheets.{outcomeOf}
-use Rattle.import_sheet.specs.declared.Imported.{Imported}
+use Rattle.outcome.specs.Answers.{outcomeOf}
+use Rattle.outcome.specs.declared.Answered.{Answered}
 use Rattle.print_import.specs.Printed.{printedNumber}
 
 by-size : (a : Answer Bytes) (out lent : Bytes) → length out ≡ length lent → outcome a out .number ≡ outcome a lent .number
@@ -24,6 +24,6 @@ by-size (given x) out lent e = pick (leb (length x) (length out)) ∙ ap (λ (n 
 zeros : (s out : Bytes) (n : ℕ) → n ≡ length out → importOutcome s out .number ≡ importOutcome s (replicate n 0) .number
 zeros s out n e = by-size _ out (replicate n 0) (sym e ∙ sym (length-replicate {A = ℕ} n 0))
 
-pub printed : (s out after : Bytes) (r : Imported) → 65536 ≡ length out → outcomeOf r after ≡ importOutcome s out → r .number ≡ printedNumber s
+pub printed : (s out after : Bytes) (r : Answered) → 65536 ≡ length out → outcomeOf r after ≡ importOutcome s out → r .number ≡ printedNumber s
 unfolding printedNumber
 printed s out after r e h = ap (λ (o : Outcome). o .number) h ∙ zeros s out 65536 e

@@ -19,7 +19,7 @@ use Rattle.read_line.specs.Lines.{Shows, LineAt}
 use Rattle.put_node.specs.declared.Visit.{Visit}
 use Rattle.put_node.specs.declared.NodeRead.{NodeRead}
 use Rattle.put_node.specs.declared.NodeRead.the-variants.{Put, Refused}
-use Rattle.put_node.specs.Own.{HasRoom}
+use Rattle.node_metadata.specs.NodeMetadata.{HasRoom}
 
 -- the type that a node's line tells, or the refusal of its format
 unfoldable pub lineType : Line → Answer Shape

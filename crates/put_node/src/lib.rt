@@ -1,15 +1,12 @@
 // From one line of a schema sheet to the field lines of its node, and what is to be done with the subtrees below it.
 ghost use mathlib.Core.Path.{_≡_};
 ghost use mathlib.Core.Bool.{false};
-ghost use Rattle.schema_line.specs.Texts.{textIn};
 ghost use Rattle.columns.specs.Columns.{part};
 ghost use Rattle.node_type.specs.Visits.{lacksChild};
-ghost use Rattle.node_type.specs.NodeTypes.{IsText};
 ghost use Rattle.put_node.specs.Visits.{childrenBelow, visitOf, IsPart};
-ghost use Rattle.put_node.specs.Own.{metadataOf, ownAnswer, ReadsAs, columnAnswer, PutsOwn, HasBlock, HasColumns};
+ghost use Rattle.put_node.specs.Own.{columnAnswer, PutsOwn, HasColumns};
 ghost use Rattle.put_node.specs.Nodes.{NodeAt, PutsNode};
 use field_line::TypeColumns;
-use metadata::Metadata;
 use metadata::MetadataRead;
 use node_type::Below;
 use node_type::TypeRead;
@@ -93,37 +90,6 @@ fn visit_of(b: Below, children: u64, own: Own) -> Visit
     }
 }
 
-// What the metadata's column says; a null pointer has no pairs.
-fn read_metadata(column: &[u8], entries: &mut [u32], spare: &mut [u32]) -> MetadataRead
-    requires { ⌜ HasBlock (now column) (now entries) (now spare) ⌝ }
-    ensures { λ r. ⌜ ReadsAs (metadataOf (now (column .entry))) (textIn (now (column .entry))) (now (entries .exit)) r ⌝ }
-{
-    if buffer::same(column, b"~") {
-        return MetadataRead::Found(Metadata {
-            count: 0,
-            name: 0,
-            more: 0,
-        });
-    }
-    metadata::metadata_from_bytes(schema_line::text_of(column), entries, spare)
-}
-
-// The same, unless the name is refused: the metadata's refusal comes before the name's.
-fn read_own(name: &[u8], column: &[u8], entries: &mut [u32], spare: &mut [u32]) -> MetadataRead
-    requires { ⌜ IsText (now name) × HasBlock (now column) (now entries) (now spare) ⌝ }
-    ensures { λ r. ⌜ ReadsAs (ownAnswer (now (name .entry)) (now (column .entry))) (textIn (now (column .entry))) (now (entries .exit)) r ⌝ }
-{
-    match read_metadata(column, entries, spare) {
-        MetadataRead::Refused(n) => MetadataRead::Refused(n),
-        MetadataRead::Found(d) => {
-            if utf8::is_utf8_hex(schema_line::text_of(name)) {
-                return MetadataRead::Found(d);
-            }
-            MetadataRead::Refused(5)
-        }
-    }
-}
-
 // A node's own lines from the columns of its name and its metadata.
 fn put_columns(
     out: &mut [u8],
@@ -140,7 +106,7 @@ fn put_columns(
     requires { ⌜ HasColumns (now f) c (now name) (now column) (now entries) (now spare) ⌝ }
     ensures { λ r. ⌜ PutsOwn (columnAnswer (now (f .entry)) c k bare (now (name .entry)) nullable (now (column .entry))) (now (f .entry)) (now (name .entry)) (now (column .entry)) r (now (out .entry)) (now (out .exit)) ⌝ }
 {
-    match read_own(name, column, entries, spare) {
+    match node_metadata::read_own(name, column, entries, spare) {
         MetadataRead::Refused(n) => Own { len: 0, pending: n },
         MetadataRead::Found(d) => {
             let m = schema_line::text_of(column);

@@ -15,7 +15,8 @@ use Rattle.sheets.specs.Codec.{Codec, Row as Columns, number, signed, text, don
 use Rattle.sheets.specs.Number.{readNumber, readSigned}
 use Rattle.sheets.specs.Schema.{childrenOf, dictionaryOf}
 use Rattle.sheets.proofs.FormLaws.{standing-row}
-use Rattle.columns.specs.Columns.{part, columnLength, ColumnAt, HasNumber, HasSigned}
+use Rattle.columns.specs.Columns.{part, columnLength, ColumnAt}
+use Rattle.number_columns.specs.NumberColumns.{HasNumber, HasSigned}
 use Rattle.read_line.specs.Lines.{LineAt, HasTree}
 use Rattle.columns.proofs.ColumnLaws.{column-end}
 use Rattle.read_line.proofs.TailLaws.{Tail, tail-column, tail-next, last-column, tail-last}

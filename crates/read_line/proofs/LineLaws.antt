@@ -23,13 +23,15 @@ use Rattle.sheets.proofs.Tests.{meets, passing}
 use Rattle.sheets.proofs.FormLaws.{Row, row-end, row-open, line-bad, rule-bad, dictionary-bad, children-bad}
 use Rattle.hex.specs.Hex.{gives}
 use Rattle.schema_line.specs.declared.SchemaLine.{SchemaLine}
-use Rattle.columns.specs.Columns.{part, ColumnAt, isText, lacksZeroIn, isCString, Finds, FindsNumber, FindsSigned}
+use Rattle.columns.specs.Columns.{part, ColumnAt, Finds}
+use Rattle.text_columns.specs.TextColumns.{isText, lacksZeroIn, isCString}
+use Rattle.number_columns.specs.NumberColumns.{FindsNumber, FindsSigned}
 use Rattle.read_line.specs.Lines.{TextAt, LineAt}
 use Rattle.columns.specs.declared.Place.the-variants.{Nowhere}
-use Rattle.columns.specs.declared.NumberColumn.the-variants as Unsigned
-use Rattle.columns.specs.declared.SignedColumn.the-variants as Signed
+use Rattle.number_columns.specs.declared.NumberColumn.the-variants as Unsigned
+use Rattle.number_columns.specs.declared.SignedColumn.the-variants as Signed
 use Rattle.columns.proofs.ColumnLaws.{column-size}
-use Rattle.columns.proofs.TextLaws.{text-some}
+use Rattle.text_columns.proofs.TextLaws.{text-some}
 use Rattle.read_line.proofs.SplitLaws.{Cut, first-of}
 use Rattle.read_line.proofs.TailLaws.{Tail, tail-next, tail-cons, tail-bad, tail-last, tail-end, last-bad}
 

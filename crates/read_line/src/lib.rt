@@ -1,9 +1,9 @@
 // A line of a schema sheet at a place: read and tested, or, where it is known to stand, found again.
 ghost use mathlib.Core.Path.{_≡_};
 ghost use Rattle.read_line.specs.Lines.{partOf, HasTree, LineAt, ReadsLine};
-use columns::NumberColumn;
 use columns::Place;
-use columns::SignedColumn;
+use number_columns::NumberColumn;
+use number_columns::SignedColumn;
 use schema_line::Part;
 use schema_line::SchemaLine;
 
@@ -22,24 +22,30 @@ fn between(start: usize, end: usize) -> Part
 pub fn read_line(s: &[u8], at: usize) -> LineRead
     ensures { λ r. ⌜ ReadsLine (now (s .entry)) at r ⌝ }
 {
-    let Place::At(format) = columns::c_string_column(s, at) else {
+    let Place::At(format) = text_columns::c_string_column(s, at) else {
         return LineRead::Bad;
     };
-    let Place::At(name) = columns::c_string_column(s, format + 1) else {
+    let Place::At(name) = text_columns::c_string_column(s, format + 1) else {
         return LineRead::Bad;
     };
-    let SignedColumn::At(flags, flags_end) = columns::signed_column(s, name + 1) else {
+    let SignedColumn::At(flags, flags_end) = number_columns::signed_column(s, name + 1) else {
         return LineRead::Bad;
     };
-    let Place::At(metadata) = columns::text_column(s, flags_end + 1) else {
+    let Place::At(metadata) = text_columns::text_column(s, flags_end + 1) else {
         return LineRead::Bad;
     };
-    let NumberColumn::At(children, children_end) = columns::number_column(s, metadata + 1, b' ')
-    else {
+    let NumberColumn::At(children, children_end) = number_columns::number_column(
+        s,
+        metadata + 1,
+        b' ',
+    ) else {
         return LineRead::Bad;
     };
-    let NumberColumn::At(dictionary, end) = columns::number_column(s, children_end + 1, b'\n')
-    else {
+    let NumberColumn::At(dictionary, end) = number_columns::number_column(
+        s,
+        children_end + 1,
+        b'\n',
+    ) else {
         return LineRead::Bad;
     };
     if 1 < dictionary {
@@ -70,10 +76,10 @@ pub fn line_at(s: &[u8], at: usize) -> SchemaLine
     SchemaLine {
         format: between(at, format),
         name: between(format + 1, name),
-        flags: columns::signed_at(s, name + 1, flags),
+        flags: number_columns::signed_at(s, name + 1, flags),
         metadata: between(flags + 1, metadata),
-        children: columns::number_at(s, metadata + 1, children),
-        dictionary: columns::number_at(s, children + 1, dictionary),
+        children: number_columns::number_at(s, metadata + 1, children),
+        dictionary: number_columns::number_at(s, children + 1, dictionary),
         end: dictionary + 1,
     }
 }

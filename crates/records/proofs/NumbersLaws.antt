@@ -14,8 +14,9 @@ use Rattle.sheets.specs.Bytes.{Bytes, all, lacks}
 use Rattle.sheets.specs.Number.{decimal, readNumber, valueFrom}
 use Rattle.sheets.proofs.NumberLaws.{value-decimal, read-decimal, decimal-lacks}
 use Rattle.sheets.proofs.InverseLaws.{number-read}
-use Rattle.columns.specs.Columns.{part, FindsNumber}
-use Rattle.columns.specs.declared.NumberColumn.the-variants as Column
+use Rattle.columns.specs.Columns.{part}
+use Rattle.number_columns.specs.NumberColumns.{FindsNumber}
+use Rattle.number_columns.specs.declared.NumberColumn.the-variants as Column
 use Rattle.columns.proofs.ColumnLaws.{column-of, column-part}
 use Rattle.records.specs.Text.{stopBefore, numbersText}
 use Rattle.records.specs.Reading.{Stands, Missing, isWord}

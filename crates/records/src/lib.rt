@@ -4,7 +4,7 @@ ghost use Prim.Native.Nat.{_<_};
 ghost use lib.ListN.{length};
 ghost use Rattle.records.specs.Text.{isPlain};
 ghost use Rattle.records.specs.Reading.{ReadsByte, ReadsPart, ReadsNumbers, ReadsFirstLine, ReadsHeader, ReadsRecord};
-use columns::NumberColumn;
+use number_columns::NumberColumn;
 
 // Where the text goes on, or that what is looked for does not stand there.
 enum Place {
@@ -127,14 +127,14 @@ fn read_numbers(s: &[u8], at: usize, out: &mut [u64]) -> Place
     let mut i = at;
     let mut k = 0;
     while k < last {
-        let NumberColumn::At(n, end) = columns::number_column(s, i, b' ') else {
+        let NumberColumn::At(n, end) = number_columns::number_column(s, i, b' ') else {
             return Place::Bad;
         };
         out[k] = n;
         i = end + 1;
         k += 1;
     }
-    let NumberColumn::At(n, end) = columns::number_column(s, i, b'\n') else {
+    let NumberColumn::At(n, end) = number_columns::number_column(s, i, b'\n') else {
         return Place::Bad;
     };
     out[last] = n;

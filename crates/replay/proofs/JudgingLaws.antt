@@ -11,7 +11,7 @@ use lib.Seq.{take-all, length-take-le}
 use Rattle.sheets.specs.Bytes.{Bytes, same}
 use Rattle.sheets.specs.Outcome.{Outcome}
 use Rattle.sheets.proofs.BytesLaws.{same-refl, same-eq}
-use Rattle.buffer.proofs.SameLaws.{lengths-differ}
+use Rattle.sheets.proofs.SameLaws.{lengths-differ}
 use Rattle.records.specs.declared.Header.{Header}
 use Rattle.replay.specs.declared.judge.Replayed.the-variants.{NotYet}
 use Rattle.replay.specs.Judging.{filled, bufferAfter, recorded, answered, JudgesCall}

@@ -1,6 +1,6 @@
 -- Reading a tree by its line and its row of subtrees, and a row by one tree after the other: a law for each step. What holds of the levels is
 -- that of skipping; what holds of the form is that of the walk over the lines. Assumes nothing.
-use mathlib.Core.Path.{_≡_, refl, sym, subst}
+use mathlib.Core.Path.{_≡_, refl, subst}
 use mathlib.Core.List.{List, _++_}
 use mathlib.Core.Logic.{_↔_}
 use Prim.Native.Nat.{ℕ, suc, _+_, _-_, _≤_, _<_}
@@ -12,11 +12,11 @@ use Rattle.sheets.proofs.FormLaws.{Row, Standing}
 use Rattle.schema_line.specs.declared.SchemaLine.{SchemaLine}
 use Rattle.read_line.specs.Lines.{LineAt}
 use Rattle.schema_sheet.specs.Trees.{ReadsTree, ReadsRow}
-use Rattle.schema_sheet.specs.declared.Skipped.the-variants.{To, Deep}
+use Rattle.subtrees.specs.declared.Skipped.the-variants.{To, Deep}
 use Rattle.schema_sheet.specs.declared.TreeRead.{TreeRead}
 use Rattle.schema_sheet.specs.declared.TreeRead.the-variants as Read
 use Rattle.schema_sheet.proofs.WalkLaws.{walk-on, walk-many}
-use Rattle.schema_sheet.proofs.SkipLaws.{below-skipped, Going, going-none, going-more, going-deep, going-all}
+use Rattle.subtrees.proofs.SkipLaws.{below-skipped, Going, going-none, going-more, going-deep, going-all}
 
 -- so many trees, under equal counts
 counted : {m n : ℕ} {b : Bytes} → m ≡ n → Row m b → Row n b

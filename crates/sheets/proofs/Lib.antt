@@ -2,6 +2,7 @@ pub mod Tests
 pub mod OutcomeLaws
 pub mod ConditionLaws
 pub mod BytesLaws
+pub mod SameLaws
 pub mod NumberLaws
 pub mod TextLaws
 pub mod SheetLaws

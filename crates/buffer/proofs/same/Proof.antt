@@ -1,5 +1,5 @@
 -- `same` meets its contract. The invariant: the whole is the same if what follows place i is. Assumes nothing.
-use Rattle.buffer.proofs.SameLaws.{lengths-differ, same-end, same-more, differ-at}
+use Rattle.sheets.proofs.SameLaws.{lengths-differ, same-end, same-more, differ-at}
 use Rattle.sheets.specs.Bytes.{same}
 use lib.ListN.{length, drop}
 use borrow.Author.Needs.{needs}

@@ -11,10 +11,11 @@ use Rattle.sheets.specs.Format.{ofScalar, zone, readCut}
 use Rattle.hex.specs.Hex.{bytesOf}
 use Rattle.hex.proofs.HexLaws.{length-bytes, twice-length}
 use Rattle.hex.proofs.PartLaws.{hex-drop, bytes-drop}
-use Rattle.format_names.specs.Names.{NamePlaced, NoneNamed, unitNames, modeNames}
+use Rattle.format_names.specs.Names.{NamePlaced, unitNames, modeNames}
 use Rattle.format_names.proofs.PlaceLaws.{placed}
 use Rattle.format_parts.proofs.PartLaws as parts
 use Rattle.format.proofs.ReadLaws as reading
+use Rattle.format_types.proofs.ToldLaws as told
 use borrow.Author.Needs.{needs}
 use Rattle.format.proofs.read_cut.Statement.{statement}
 use Rattle.format.proofs.read_cut.Tie as tie
@@ -79,7 +80,7 @@ returns c =
     let k = st .args .k in
     let p = placed 3 unitNames (take k b) (subst (λ (x : Bytes). NamePlaced 3 unitNames x (c .before .before .before .before .name-place .result)) (parts.head-bytes f (st .pre .0) k) (c .before .before .before .before .name-place .ensures)) (c .before .before .unit .given .1) in
     let u = reading.unit-named (take k b) (drop (k + 1) b) (c .before .before .unit .given .0 .0) (p .0) (p .1) in
-    reading.told-as f (c .zoned .result) (u .2 ∙ ap (λ (x : Bytes). given (ofScalar (timestamp (u .0) (zone x)))) (sym (bytes-drop f (st .pre .0) (k + 1)))) refl (c .zoned .ensures (u .0) (u .1))
+    told.told-as f (c .zoned .result) (u .2 ∙ ap (λ (x : Bytes). given (ofScalar (timestamp (u .0) (zone x)))) (sym (bytes-drop f (st .pre .0) (k + 1)))) refl (c .zoned .ensures (u .0) (u .1))
 
 enum-told : tie.Need-enum-told
 enum-told c = search needs
@@ -106,7 +107,7 @@ returns-2 c =
     let k = st .args .k in
     let p = placed 3 modeNames (take k b) (subst (λ (x : Bytes). NamePlaced 3 modeNames x (c .before .before .before .before .name-place2 .result)) (parts.head-bytes f (st .pre .0) k) (c .before .before .before .before .name-place2 .ensures)) (c .before .before .mode .given .1) in
     let m = reading.mode-named (take k b) (drop (k + 1) b) (c .before .before .mode .given .0 .0) (p .0) (p .1) in
-    reading.told-as f (c .union-of .result) (m .2) refl (c .union-of .ensures (m .0) (m .1))
+    told.told-as f (c .union-of .result) (m .2) refl (c .union-of .ensures (m .0) (m .1))
 
 enum-told-2 : tie.Need-enum-told-2
 enum-told-2 c = search needs
@@ -125,7 +126,7 @@ returns-3 c =
     let f = st .args .f .now in
     let b = bytesOf f in
     let k = st .args .k in
-    reading.told-as f (c .read-sizes .result) (ap (λ (x : Bytes). readCut x (drop (k + 1) b)) (sym (parts.head-bytes f (st .pre .0) k))) refl (c .read-sizes .ensures)
+    told.told-as f (c .read-sizes .result) (ap (λ (x : Bytes). readCut x (drop (k + 1) b)) (sym (parts.head-bytes f (st .pre .0) k))) refl (c .read-sizes .ensures)
 
 pub read-cut-spec : {M : Type 1} → statement M
 read-cut-spec =

@@ -6,8 +6,9 @@ use Rattle.sheets.specs.Field.{list, largeList, map, struct}
 use Rattle.sheets.specs.FieldSheet.{toNat}
 use Rattle.sheets.specs.Format.{ofNesting, ofGrouping}
 use Rattle.hex.specs.Hex.{bytesOf}
-use Rattle.format.specs.Told.{numbers}
+use Rattle.format_types.specs.Told.{numbers}
 use Rattle.format.proofs.ReadLaws as reading
+use Rattle.format_types.proofs.ToldLaws as told
 use borrow.Author.Needs.{needs}
 use Rattle.format.proofs.read_format.Statement.{statement}
 use Rattle.format.proofs.read_format.Tie as tie
@@ -46,7 +47,7 @@ returns-2 c =
     let f = st .args .f .now in
     let b = bytesOf f in
     let none = reading.other-name b (c .before .before .before .before .enum-told .given .1) (c .before .before .before .before .before .before .fixed-name .ensures) in
-    reading.told-as f (numbers 27 0 0) (reading.name-0 (st .args .sorted) b none (sym (c .before .before .says .ensures) ∙ c .before .if1 .taken)) (c .numbers2 .ensures) (reading.numbers-told f (ofNesting list) 27 0 record { kind = refl; p = refl; q = refl; text = refl; more = refl; place = tt; nesting = refl; grouping = refl })
+    told.told-as f (numbers 27 0 0) (reading.name-0 (st .args .sorted) b none (sym (c .before .before .says .ensures) ∙ c .before .if1 .taken)) (c .numbers2 .ensures) (told.numbers-told f (ofNesting list) 27 0 record { kind = refl; p = refl; q = refl; text = refl; more = refl; place = tt; nesting = refl; grouping = refl })
 
 slice-aggregate-says-2 : tie.Need-slice-aggregate-says-2
 slice-aggregate-says-2 c = search needs
@@ -63,7 +64,7 @@ returns-3 c =
     let f = st .args .f .now in
     let b = bytesOf f in
     let none = reading.other-name b (c .before .before .before .before .before .before .before .enum-told .given .1) (c .before .before .before .before .before .before .before .before .before .fixed-name .ensures) in
-    reading.told-as f (numbers 29 0 0) (reading.name-1 (st .args .sorted) b none (sym (c .before .before .before .before .before .says .ensures) ∙ c .before .before .before .before .if1 .left) (sym (c .before .before .says2 .ensures) ∙ c .before .if2 .taken)) (c .numbers3 .ensures) (reading.numbers-told f (ofNesting largeList) 29 0 record { kind = refl; p = refl; q = refl; text = refl; more = refl; place = tt; nesting = refl; grouping = refl })
+    told.told-as f (numbers 29 0 0) (reading.name-1 (st .args .sorted) b none (sym (c .before .before .before .before .before .says .ensures) ∙ c .before .before .before .before .if1 .left) (sym (c .before .before .says2 .ensures) ∙ c .before .if2 .taken)) (c .numbers3 .ensures) (told.numbers-told f (ofNesting largeList) 29 0 record { kind = refl; p = refl; q = refl; text = refl; more = refl; place = tt; nesting = refl; grouping = refl })
 
 slice-aggregate-says-3 : tie.Need-slice-aggregate-says-3
 slice-aggregate-says-3 c = search needs
@@ -83,7 +84,7 @@ returns-4 c =
     let f = st .args .f .now in
     let b = bytesOf f in
     let none = reading.other-name b (c .before .before .before .before .before .before .before .before .before .before .before .enum-told .given .1) (c .before .before .before .before .before .before .before .before .before .before .before .before .before .fixed-name .ensures) in
-    reading.told-as f (numbers 31 (toNat (st .args .sorted)) 0) (reading.name-2 (st .args .sorted) b none (sym (c .before .before .before .before .before .before .before .before .before .says .ensures) ∙ c .before .before .before .before .before .before .before .before .if1 .left) (sym (c .before .before .before .before .before .before .says2 .ensures) ∙ c .before .before .before .before .before .if2 .left) (sym (c .before .before .before .says3 .ensures) ∙ c .before .before .if3 .taken)) (c .numbers4 .ensures ∙ ap (λ (p : ℕ). numbers 31 p 0) (c .before .flag .ensures)) (reading.numbers-told f (ofNesting (map (st .args .sorted))) 31 (toNat (st .args .sorted)) record { kind = refl; p = refl; q = refl; text = refl; more = refl; place = tt; nesting = refl; grouping = refl })
+    told.told-as f (numbers 31 (toNat (st .args .sorted)) 0) (reading.name-2 (st .args .sorted) b none (sym (c .before .before .before .before .before .before .before .before .before .says .ensures) ∙ c .before .before .before .before .before .before .before .before .if1 .left) (sym (c .before .before .before .before .before .before .says2 .ensures) ∙ c .before .before .before .before .before .if2 .left) (sym (c .before .before .before .says3 .ensures) ∙ c .before .before .if3 .taken)) (c .numbers4 .ensures ∙ ap (λ (p : ℕ). numbers 31 p 0) (c .before .flag .ensures)) (told.numbers-told f (ofNesting (map (st .args .sorted))) 31 (toNat (st .args .sorted)) record { kind = refl; p = refl; q = refl; text = refl; more = refl; place = tt; nesting = refl; grouping = refl })
 
 slice-aggregate-says-4 : tie.Need-slice-aggregate-says-4
 slice-aggregate-says-4 c = search needs
@@ -100,7 +101,7 @@ returns-5 c =
     let f = st .args .f .now in
     let b = bytesOf f in
     let none = reading.other-name b (c .before .before .before .before .before .before .before .before .before .before .before .before .before .enum-told .given .1) (c .before .before .before .before .before .before .before .before .before .before .before .before .before .before .before .fixed-name .ensures) in
-    reading.told-as f (numbers 30 0 0) (reading.name-3 (st .args .sorted) b none (sym (c .before .before .before .before .before .before .before .before .before .before .before .says .ensures) ∙ c .before .before .before .before .before .before .before .before .before .before .if1 .left) (sym (c .before .before .before .before .before .before .before .before .says2 .ensures) ∙ c .before .before .before .before .before .before .before .if2 .left) (sym (c .before .before .before .before .before .says3 .ensures) ∙ c .before .before .before .before .if3 .left) (sym (c .before .before .says4 .ensures) ∙ c .before .if4 .taken)) (c .numbers5 .ensures) (reading.numbers-told f (ofGrouping struct) 30 0 record { kind = refl; p = refl; q = refl; text = refl; more = refl; place = tt; nesting = refl; grouping = refl })
+    told.told-as f (numbers 30 0 0) (reading.name-3 (st .args .sorted) b none (sym (c .before .before .before .before .before .before .before .before .before .before .before .says .ensures) ∙ c .before .before .before .before .before .before .before .before .before .before .if1 .left) (sym (c .before .before .before .before .before .before .before .before .says2 .ensures) ∙ c .before .before .before .before .before .before .before .if2 .left) (sym (c .before .before .before .before .before .says3 .ensures) ∙ c .before .before .before .before .if3 .left) (sym (c .before .before .says4 .ensures) ∙ c .before .if4 .taken)) (c .numbers5 .ensures) (told.numbers-told f (ofGrouping struct) 30 0 record { kind = refl; p = refl; q = refl; text = refl; more = refl; place = tt; nesting = refl; grouping = refl })
 
 read-other-requires : tie.Need-read-other-requires
 read-other-requires c κs = search needs
@@ -111,7 +112,7 @@ returns-6 c =
     let f = st .args .f .now in
     let b = bytesOf f in
     let none = reading.other-name b (c .before .before .before .before .before .before .before .before .before .before .before .before .before .enum-told .given .1) (c .before .before .before .before .before .before .before .before .before .before .before .before .before .before .before .fixed-name .ensures) in
-    reading.told-as f (c .read-other .result) (reading.name-other (st .args .sorted) b none (sym (c .before .before .before .before .before .before .before .before .before .before .before .says .ensures) ∙ c .before .before .before .before .before .before .before .before .before .before .if1 .left) (sym (c .before .before .before .before .before .before .before .before .says2 .ensures) ∙ c .before .before .before .before .before .before .before .if2 .left) (sym (c .before .before .before .before .before .says3 .ensures) ∙ c .before .before .before .before .if3 .left) (sym (c .before .before .says4 .ensures) ∙ c .before .if4 .left)) refl (c .read-other .ensures)
+    told.told-as f (c .read-other .result) (reading.name-other (st .args .sorted) b none (sym (c .before .before .before .before .before .before .before .before .before .before .before .says .ensures) ∙ c .before .before .before .before .before .before .before .before .before .before .if1 .left) (sym (c .before .before .before .before .before .before .before .before .says2 .ensures) ∙ c .before .before .before .before .before .before .before .if2 .left) (sym (c .before .before .before .before .before .says3 .ensures) ∙ c .before .before .before .before .if3 .left) (sym (c .before .before .says4 .ensures) ∙ c .before .if4 .left)) refl (c .read-other .ensures)
 
 pub read-format-spec : {M : Type 1} → statement M
 read-format-spec =

@@ -7,7 +7,7 @@ use Rattle.sheets.specs.Format.{readOther}
 use Rattle.hex.specs.Hex.{bytesOf}
 use Rattle.format_names.proofs.PlaceLaws.{byte-placed}
 use Rattle.format_parts.proofs.PartLaws as parts
-use Rattle.format.proofs.ReadLaws as reading
+use Rattle.format_types.proofs.ToldLaws as told
 use borrow.Author.Needs.{needs}
 use Rattle.format.proofs.read_other.Statement.{statement}
 use Rattle.format.proofs.read_other.Tie as tie
@@ -43,7 +43,7 @@ returns-2 c =
     let f = st .args .f .now in
     let b = bytesOf f in
     let p = byte-placed b 0 58 (c .before .before .before .before .byte-place .ensures) (c .before .before .k .given .1) in
-    reading.told-as f (c .read-cut .result) (ap readOther (parts.cut-at b (c .before .before .k .given .0 .0) (p .1) (p .2) (λ j m. p .3 j (omega arith) m))) refl (c .read-cut .ensures)
+    told.told-as f (c .read-cut .result) (ap readOther (parts.cut-at b (c .before .before .k .given .0 .0) (p .1) (p .2) (λ j m. p .3 j (omega arith) m))) refl (c .read-cut .ensures)
 
 pub read-other-spec : {M : Type 1} → statement M
 read-other-spec =

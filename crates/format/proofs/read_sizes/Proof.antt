@@ -6,10 +6,11 @@ use Rattle.sheets.specs.Bytes.{Bytes}
 use Rattle.sheets.specs.Answer.{given, _>>=_}
 use Rattle.sheets.specs.Format.{ofScalar, readSize, decimalParts}
 use Rattle.hex.specs.Hex.{bytesOf}
-use Rattle.format.specs.declared.FormatRead.the-variants as F
-use Rattle.format.specs.Told.{sizeRead}
+use Rattle.format_types.specs.declared.FormatRead.the-variants as F
+use Rattle.format_types.specs.Told.{sizeRead}
 use Rattle.format_parts.proofs.PartLaws as parts
 use Rattle.format.proofs.ReadLaws as reading
+use Rattle.format_types.proofs.ToldLaws as told
 use borrow.Author.Needs.{needs}
 use Rattle.format.proofs.read_sizes.Statement.{statement}
 use Rattle.format.proofs.read_sizes.Tie as tie
@@ -29,7 +30,7 @@ returns c =
     let f = st .args .f .now in
     let h = bytesOf (st .args .h .now) in
     let r = drop (st .args .at) (bytesOf f) in
-    reading.told-as f (sizeRead 23 (readSize r)) (reading.cut-binary h r (sym (c .before .before .says .ensures) ∙ c .before .if1 .taken)) (c .sized .ensures) (reading.binary-told f (readSize r))
+    told.told-as f (sizeRead 23 (readSize r)) (reading.cut-binary h r (sym (c .before .before .says .ensures) ∙ c .before .if1 .taken)) (c .sized .ensures) (told.binary-told f (readSize r))
 
 slice-aggregate-says-2 : tie.Need-slice-aggregate-says-2
 slice-aggregate-says-2 c = search needs
@@ -46,7 +47,7 @@ returns-2 c =
     let f = st .args .f .now in
     let h = bytesOf (st .args .h .now) in
     let r = drop (st .args .at) (bytesOf f) in
-    reading.told-as f (sizeRead 28 (readSize r)) (reading.cut-list h r (sym (c .before .before .says2 .ensures) ∙ c .before .if2 .taken)) (c .sized2 .ensures) (reading.list-told f (readSize r))
+    told.told-as f (sizeRead 28 (readSize r)) (reading.cut-list h r (sym (c .before .before .says2 .ensures) ∙ c .before .if2 .taken)) (c .sized2 .ensures) (told.list-told f (readSize r))
 
 slice-aggregate-says-3 : tie.Need-slice-aggregate-says-3
 slice-aggregate-says-3 c = search needs
@@ -63,7 +64,7 @@ returns-3 c =
     let f = st .args .f .now in
     let h = bytesOf (st .args .h .now) in
     let r = drop (st .args .at) (bytesOf f) in
-    reading.told-as f (c .decimal-type .result) (reading.cut-decimal h r (sym (c .before .before .says3 .ensures) ∙ c .before .if3 .taken) ∙ ap (λ (ps : List Bytes). decimalParts ps >>= λ s. given (ofScalar s)) (sym (parts.parts-here (bytesOf f) (st .args .at) (st .pre .0 .1)))) refl (c .decimal-type .ensures)
+    told.told-as f (c .decimal-type .result) (reading.cut-decimal h r (sym (c .before .before .says3 .ensures) ∙ c .before .if3 .taken) ∙ ap (λ (ps : List Bytes). decimalParts ps >>= λ s. given (ofScalar s)) (sym (parts.parts-here (bytesOf f) (st .args .at) (st .pre .0 .1)))) refl (c .decimal-type .ensures)
 
 returns-4 : tie.Need-returns-4
 returns-4 c =
@@ -71,7 +72,7 @@ returns-4 c =
     let f = st .args .f .now in
     let h = bytesOf (st .args .h .now) in
     let r = drop (st .args .at) (bytesOf f) in
-    reading.told-as f (F.Refused 6) (reading.cut-other h r (st .pre .1 .noUnit) (st .pre .1 .noMode) (sym (c .before .before .before .before .before .before .before .says .ensures) ∙ c .before .before .before .before .before .before .if1 .left) (sym (c .before .before .before .before .says2 .ensures) ∙ c .before .before .before .if2 .left) (sym (c .before .says3 .ensures) ∙ c .if3 .left)) refl (reading.unsupported f)
+    told.told-as f (F.Refused 6) (reading.cut-other h r (st .pre .1 .noUnit) (st .pre .1 .noMode) (sym (c .before .before .before .before .before .before .before .says .ensures) ∙ c .before .before .before .before .before .before .if1 .left) (sym (c .before .before .before .before .says2 .ensures) ∙ c .before .before .before .if2 .left) (sym (c .before .says3 .ensures) ∙ c .if3 .left)) refl (reading.unsupported f)
 
 pub read-sizes-spec : {M : Type 1} → statement M
 read-sizes-spec =

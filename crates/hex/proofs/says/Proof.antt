@@ -7,7 +7,7 @@ use native.Mathlib.Omega.{arith}
 use Rattle.sheets.specs.Bytes.{same}
 use Rattle.hex.specs.Hex.{bytesOf}
 use Rattle.hex.proofs.HexLaws.{length-bytes}
-use Rattle.buffer.proofs.SameLaws.{lengths-differ, same-end, same-more, differ-at}
+use Rattle.sheets.proofs.SameLaws.{lengths-differ, same-end, same-more, differ-at}
 use borrow.Author.Needs.{needs}
 use Rattle.hex.proofs.says.Statement.{statement}
 use Rattle.hex.proofs.says.Tie as tie

@@ -1,6 +1,6 @@
 -- `import` meets its contract: each way out has its law in `SheetLaws`. Assumes nothing.
 use denote.Ref.{now}
-use Rattle.import_sheet.proofs.SheetLaws.{import-unread, field-there, import-refused, import-long, import-done}
+use Rattle.import_sheet.proofs.SheetLaws.{import-unread, field-there, import-refused, import-done}
 use borrow.Author.Needs.{needs}
 use Rattle.import_sheet.proofs.import.Statement.{statement}
 use Rattle.import_sheet.proofs.import.Tie as tie
@@ -32,30 +32,30 @@ refuse-requires-2 c κs = search needs
 enum-known-len : tie.Need-enum-known-len
 enum-known-len c = search needs
 
-refuse-requires-3 : tie.Need-refuse-requires-3
-refuse-requires-3 c κs = search needs
+written-requires : tie.Need-written-requires
+written-requires c κs = search needs
 
 same-length : tie.Need-same-length
 same-length c = search needs
 
 returns : tie.Need-returns
 returns c =
-    let a = c .before .before .before .before .before .before .before .before .before .before .before .before .before .before .before .before .before .before .args in
-    let s = now (a .s) in
-    let out = now (a .out) in
-    let r = c .before .before .before .before .before .before .before .before .before .before .before .before .before .before .before .read-sheet in
-    let e = c .before .before .before .before .before .before .before .before .before .before .before .before .before .at .given .1 in
-    let p = c .before .before .before .before .before .before .before .before .before .before .put-by-length in
-    import-long s out (r .result) _ e (r .ensures) _ (p .result) (p .ensures) _ _ (c .before .before .before .before .before .before .len .given .1) (c .before .before .before .before .if1 .taken) _ _ (c .before .before .refuse3 .ensures)
+    let a = c .before .before .before .before .before .before .before .before .before .before .args in
+    let r = c .before .before .before .before .before .before .before .read-sheet in
+    import-unread (now (a .s)) (now (a .out)) (r .result) _ (c .before .before .before .before .before .n .given .1) (r .ensures) _ _ (c .before .before .refuse .ensures)
 
 same-length-2 : tie.Need-same-length-2
 same-length-2 c = search needs
 
 returns-2 : tie.Need-returns-2
 returns-2 c =
-    let a = c .before .before .before .before .before .before .before .before .before .before .args in
-    let r = c .before .before .before .before .before .before .before .read-sheet in
-    import-unread (now (a .s)) (now (a .out)) (r .result) _ (c .before .before .before .before .before .n .given .1) (r .ensures) _ _ (c .before .before .refuse .ensures)
+    let a = c .before .before .before .before .before .before .before .before .before .before .before .before .before .before .before .before .before .args in
+    let s = now (a .s) in
+    let out = now (a .out) in
+    let r = c .before .before .before .before .before .before .before .before .before .before .before .before .before .before .read-sheet in
+    let e = c .before .before .before .before .before .before .before .before .before .before .before .before .at .given .1 in
+    let p = c .before .before .before .before .before .before .before .before .before .put-by-length in
+    import-refused s out (r .result) _ e (r .ensures) _ (p .result) (p .ensures) _ _ _ (c .before .before .before .before .before .n2 .given .1) (p .kept .1 .1 .0) (c .before .before .refuse2 .ensures)
 
 same-length-3 : tie.Need-same-length-3
 same-length-3 c = search needs
@@ -68,20 +68,7 @@ returns-3 c =
     let r = c .before .before .before .before .before .before .before .before .before .before .before .before .before .before .read-sheet in
     let e = c .before .before .before .before .before .before .before .before .before .before .before .before .at .given .1 in
     let p = c .before .before .before .before .before .before .before .before .before .put-by-length in
-    import-refused s out (r .result) _ e (r .ensures) _ (p .result) (p .ensures) _ (c .before .before .before .before .before .n2 .given .1) (p .kept .1 .1 .0) _ _ (c .before .before .refuse2 .ensures)
-
-same-length-4 : tie.Need-same-length-4
-same-length-4 c = search needs
-
-returns-4 : tie.Need-returns-4
-returns-4 c =
-    let a = c .before .before .before .before .before .before .before .before .before .before .before .before .before .before .args in
-    let s = now (a .s) in
-    let out = now (a .out) in
-    let r = c .before .before .before .before .before .before .before .before .before .before .before .read-sheet in
-    let e = c .before .before .before .before .before .before .before .before .before .at .given .1 in
-    let p = c .before .before .before .before .before .before .put-by-length in
-    import-done s out (r .result) _ e (r .ensures) _ (p .result) (p .ensures) _ _ (c .before .before .len .given .1) (c .if1 .left)
+    import-done s out (r .result) _ e (r .ensures) _ (p .result) (p .ensures) _ _ _ _ (c .before .before .before .before .before .len .given .1) (c .before .before .written .ensures)
 
 pub import-spec : {M : Type 1} → statement M
 import-spec =
@@ -95,12 +82,10 @@ import-spec =
     enum-known-n-2
     refuse-requires-2
     enum-known-len
-    refuse-requires-3
+    written-requires
     same-length
     returns
     same-length-2
     returns-2
     same-length-3
-    returns-3
-    same-length-4
-    returns-4)
+    returns-3)

@@ -1,5 +1,5 @@
 -- `entry_of` meets its contract. Assumes nothing.
-use Rattle.metadata.proofs.EntryLaws.{is-entry}
+use Rattle.put_pairs.proofs.EntryLaws.{is-entry}
 use borrow.Author.Needs.{needs}
 use Rattle.metadata.proofs.entry_of.Statement.{statement}
 use Rattle.metadata.proofs.entry_of.Tie as tie

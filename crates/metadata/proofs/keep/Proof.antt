@@ -3,7 +3,7 @@ use mathlib.Core.Path.{sym, ap, _∙_}
 use native.Mathlib.Omega.{arith}
 use Rattle.hex.specs.Hex.{bytesOf}
 use Rattle.metadata.specs.Reading.{kindOf}
-use Rattle.metadata.proofs.EntryLaws.{key-hex, key-bytes}
+use Rattle.put_pairs.proofs.EntryLaws.{key-hex, key-bytes}
 use Rattle.metadata.proofs.KeepLaws.{keeps-name, keeps-more, keeps-pair}
 use borrow.Author.Needs.{needs}
 use Rattle.metadata.proofs.keep.Statement.{statement}

@@ -5,8 +5,9 @@ use native.Mathlib.Omega.{arith}
 use lib.ListN.{length}
 use Rattle.hex.specs.Hex.{bytesOf}
 use Rattle.hex.proofs.HexLaws.{twice-length}
-use Rattle.metadata.specs.Entry.{Stands}
-use Rattle.metadata.specs.Reading.{PairFound, Adds}
+use Rattle.read_pair.specs.Entry.{Stands}
+use Rattle.read_pair.specs.PairReading.{PairFound}
+use Rattle.metadata.specs.Reading.{Adds}
 use Rattle.metadata.proofs.WalkLaws.{Walking, walk-start, walk-refused, walk-end, walk-next, is-entry-size, entry-stands, room-left}
 use borrow.Author.Needs.{needs}
 use Rattle.metadata.proofs.walk.Statement.{statement}

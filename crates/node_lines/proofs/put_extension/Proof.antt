@@ -1,12 +1,12 @@
 -- `put_extension` meets its contract: a chain of five writes. Assumes nothing.
 use Rattle.sheets.specs.Bytes.{Bytes}
-use Rattle.metadata.specs.Entry.{valueAt}
+use Rattle.read_pair.specs.Entry.{valueAt}
 use Rattle.sheets.specs.Text.{writeText}
 use Rattle.metadata.proofs.ColumnLaws.{value-column}
 use Rattle.metadata.proofs.SizeLaws.{value-short}
 use Rattle.node_lines.proofs.WriteLaws.{put-same, extension-shape}
 use mathlib.Core.Path.{ap, _∙_}
-use Rattle.metadata.specs.Pairs.{valueColumn}
+use Rattle.put_pairs.specs.Pairs.{valueColumn}
 use Rattle.hex.specs.Hex.{bytesOf}
 use Rattle.field_line.specs.Columns.{shapePiece}
 use mathlib.Core.List.{[], _∷_, _++_}

@@ -3,7 +3,7 @@ use borrow.Author.Needs.{needs}
 use Rattle.node_lines.specs.Pieces.{typePiece, ownText, typeLine}
 use Rattle.node_lines.proofs.LineLaws.{own-short}
 use Rattle.field_line.proofs.LengthLaws.{end-short}
-use Rattle.metadata.specs.Pairs.{pairsColumn}
+use Rattle.put_pairs.specs.Pairs.{pairsColumn}
 use Rattle.hex.specs.Hex.{bytesOf}
 use Rattle.field_line.specs.Columns.{column, endPiece}
 use Rattle.buffer.proofs.OverLaws.{none-yet, and-then}

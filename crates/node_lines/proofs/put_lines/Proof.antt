@@ -1,11 +1,11 @@
 -- `put_lines` meets its contract: one line, or a chain of four writes. Assumes nothing.
-use Rattle.metadata.specs.Entry.{valueAt}
+use Rattle.read_pair.specs.Entry.{valueAt}
 use Rattle.sheets.specs.Text.{writeText}
 use Rattle.sheets.specs.FieldSheet.{noText}
 use Rattle.node_lines.specs.Pieces.{ownText, typeLine, extensionLine, linesText}
 use Rattle.node_lines.proofs.LineLaws.{own-short, extension-short, lines-plain, lines-extended, writes-whole}
 use Rattle.field_line.proofs.LengthLaws.{end-short, bare-length}
-use Rattle.metadata.specs.Pairs.{pairsColumn}
+use Rattle.put_pairs.specs.Pairs.{pairsColumn}
 use Rattle.hex.specs.Hex.{bytesOf}
 use Rattle.field_line.specs.Columns.{column, shapePiece, ownPiece, endPiece}
 use mathlib.Core.List.{_++_}

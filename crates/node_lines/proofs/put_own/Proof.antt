@@ -1,7 +1,7 @@
 -- `put_own` meets its contract: a bare line, or a chain of three writes. Assumes nothing.
 use Rattle.sheets.specs.FieldSheet.{noText}
 use Rattle.node_lines.specs.Pieces.{ownText}
-use Rattle.metadata.specs.Pairs.{pairsColumn}
+use Rattle.put_pairs.specs.Pairs.{pairsColumn}
 use Rattle.node_lines.proofs.WriteLaws.{put-same, own-bare, own-named}
 use Rattle.field_line.proofs.LengthLaws.{name-piece-length}
 use Rattle.hex.specs.Hex.{bytesOf}

@@ -1,7 +1,7 @@
 -- `put_text` meets its contract: by cases of the text. Assumes nothing.
 use Rattle.node_lines.proofs.LineLaws.{rest-short, text-none, zone-place, text-zone, ids-place, ids-there, text-ids}
 use Rattle.node_lines.proofs.WriteLaws.{put-same}
-use Rattle.format.specs.Told.{textOf}
+use Rattle.format_types.specs.Told.{textOf}
 use Rattle.format_parts.specs.Parts.{idsText}
 use Rattle.hex.specs.Hex.{bytesOf}
 use native.Mathlib.Omega.{arith}

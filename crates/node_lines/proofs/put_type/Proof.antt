@@ -1,7 +1,7 @@
 -- `put_type` meets its contract: a chain of five writes. Assumes nothing.
 use Rattle.node_lines.proofs.WriteLaws.{put-same, type-shape}
 use Rattle.node_lines.specs.Pieces.{typePiece}
-use Rattle.format.specs.Told.{textOf}
+use Rattle.format_types.specs.Told.{textOf}
 use Rattle.field_line.proofs.LengthLaws.{number-short}
 use Rattle.field_line.specs.Columns.{column}
 use Rattle.buffer.proofs.OverLaws.{none-yet, and-then}

@@ -7,10 +7,12 @@ use native.Mathlib.Omega.{arith}
 use mir.Facts.{toZ-ofZ}
 use mir.Syntax.{w64}
 use mir.Val.{SFits}
-use Rattle.columns.specs.Columns.{isText, isCString, Finds, FindsNumber, FindsSigned}
+use Rattle.text_columns.specs.TextColumns.{isText, isCString}
+use Rattle.columns.specs.Columns.{Finds}
+use Rattle.number_columns.specs.NumberColumns.{FindsNumber, FindsSigned}
 use Rattle.columns.specs.declared.Place.the-variants.{At}
-use Rattle.columns.specs.declared.NumberColumn.the-variants as Unsigned
-use Rattle.columns.specs.declared.SignedColumn.the-variants as Signed
+use Rattle.number_columns.specs.declared.NumberColumn.the-variants as Unsigned
+use Rattle.number_columns.specs.declared.SignedColumn.the-variants as Signed
 use Rattle.read_line.proofs.LineLaws.{format-bad, name-bad, flags-bad, metadata-bad, children-missing, dictionary-missing, dictionary-two, line-there}
 use borrow.Author.Needs.{needs}
 use Rattle.read_line.proofs.read_line.Statement.{statement}

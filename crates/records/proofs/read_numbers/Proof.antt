@@ -5,7 +5,7 @@ use Prim.Native.Nat.{ℕ, _+_, _-_, _≤_}
 use native.Mathlib.Omega.{arith}
 use lib.ListN.{length}
 use borrow.Author.Needs.{needs}
-use Rattle.columns.specs.Columns.{FindsNumber}
+use Rattle.number_columns.specs.NumberColumns.{FindsNumber}
 use Rattle.records.proofs.NumbersLaws.{SpacedTo, no-number-yet, next-number, last-number, no-number, no-last-number}
 use Rattle.records.proofs.read_numbers.Statement.{statement}
 use Rattle.records.proofs.read_numbers.Tie as tie

@@ -1,11 +1,11 @@
 -- The proof of the cycle of calls {read_tree, read_row}. The measure is the number of levels that are left, twice, and one more in `read_row`.
 -- In the loop of `read_row`: the row is read as far as the trees that are due (`Reading`). Assumes nothing.
-use mathlib.Core.Path.{_≡_, refl, subst}
+use mathlib.Core.Path.{refl, subst}
 use native.Mathlib.Omega.{arith}
 use borrow.Author.Needs.{needs}
 use Prim.Native.Nat.{ℕ, _+_, _<_}
-use Rattle.read_line.specs.Lines.{LineAt, ReadsLine}
-use Rattle.schema_sheet.proofs.SkipLaws.{levels-some}
+use Rattle.read_line.specs.Lines.{ReadsLine}
+use Rattle.subtrees.proofs.SkipLaws.{levels-some}
 use Rattle.schema_sheet.proofs.ReadLaws.{tree-many, tree-read, Reading, reading-none, reading-deep, reading-bad, reading-more, reading-all}
 use borrow.Fn.Kinds.{In}
 use borrow.Fn.PlainCycle.{Measures, is, falls, and}

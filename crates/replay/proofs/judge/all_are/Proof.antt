@@ -5,7 +5,7 @@ use native.Mathlib.Omega.{arith}
 use lib.ListN.{length, getD, drop, replicate, length-replicate, getD-replicate}
 use borrow.Author.Needs.{needs}
 use Rattle.sheets.specs.Bytes.{same}
-use Rattle.buffer.proofs.SameLaws.{same-end, same-more, differ-at}
+use Rattle.sheets.proofs.SameLaws.{same-end, same-more, differ-at}
 use Rattle.replay.proofs.judge.all_are.Statement.{statement}
 use Rattle.replay.proofs.judge.all_are.Tie as tie
 

@@ -1,0 +1,2 @@
+pub mod NumberAtLaws
+pub mod NumberFindLaws

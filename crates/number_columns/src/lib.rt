@@ -1,0 +1,77 @@
+// The numbers in the columns of a line: read and tested, or read where they are known to stand.
+ghost use mathlib.Core.Path.{_≡_};
+ghost use mathlib.Core.Bool.{true};
+ghost use Prim.Native.Nat.{_+_, _<_};
+ghost use Rattle.sheets.specs.Answer.{given};
+ghost use Rattle.sheets.specs.Number.{readNumber, readSigned};
+ghost use Rattle.columns.specs.Columns.{isStop, part};
+ghost use Rattle.number_columns.specs.NumberColumns.{FindsNumber, FindsSigned, HasNumber, HasSigned};
+use columns::Place;
+use decimal::Signed64;
+use decimal::Unsigned64;
+
+pub enum NumberColumn {
+    At(u64, usize),
+    Bad,
+}
+
+pub enum SignedColumn {
+    At(i64, usize),
+    Bad,
+}
+
+pub fn signed_column(s: &[u8], at: usize) -> SignedColumn
+    ensures { λ r. ⌜ FindsSigned (now (s .entry)) at 32 r ⌝ }
+{
+    let Place::At(e) = columns::column(s, at, columns::number_end(s, at), b' ') else {
+        return SignedColumn::Bad;
+    };
+    let Signed64::Value(z) = decimal::read_i64(&s[at..e]) else {
+        return SignedColumn::Bad;
+    };
+    SignedColumn::At(z, e)
+}
+
+pub fn number_column(s: &[u8], at: usize, stop: u8) -> NumberColumn
+    requires { ⌜ isStop stop ≡ true ⌝ }
+    ensures { λ r. ⌜ FindsNumber (now (s .entry)) at stop r ⌝ }
+{
+    let Place::At(e) = columns::column(s, at, columns::number_end(s, at), stop) else {
+        return NumberColumn::Bad;
+    };
+    let Unsigned64::Value(n) = decimal::read_u64(&s[at..e]) else {
+        return NumberColumn::Bad;
+    };
+    NumberColumn::At(n, e)
+}
+
+fn wide(b: u8) -> u64
+    ensures { λ r. ⌜ (r ≡ b) × (r < 256) ⌝ }
+{
+    b as u64
+}
+
+// The number whose digits stand from place at up to end.
+pub fn number_at(s: &[u8], at: usize, end: usize) -> u64
+    requires { ⌜ HasNumber (now s) at end ⌝ }
+    ensures { λ r. ⌜ readNumber (part (now (s .entry)) at end) ≡ given r ⌝ }
+{
+    let mut v: u64 = 0;
+    let mut i = at;
+    while i < end {
+        v = v * 10 + wide(s[i] - b'0');
+        i += 1;
+    }
+    v
+}
+
+// The signed number that stands from place at up to end.
+pub fn signed_at(s: &[u8], at: usize, end: usize) -> i64
+    requires { ⌜ HasSigned (now s) at end ⌝ }
+    ensures { λ r. ⌜ readSigned (part (now (s .entry)) at end) ≡ given r ⌝ }
+{
+    let Signed64::Value(z) = decimal::read_i64(&s[at..end]) else {
+        return 0;
+    };
+    z
+}

@@ -1,0 +1,68 @@
+-- `columns::c_string_column` meets its contract: the column from here on is a text without byte 00 or is not, and there is no other. Assumes nothing.
+use mathlib.Core.Path.{refl, sym, _∙_}
+use native.Mathlib.Omega.{arith}
+use Rattle.text_columns.specs.TextColumns.{isCString}
+use Rattle.columns.proofs.FindLaws.{none-there, column-there, other-there}
+use borrow.Author.Needs.{needs}
+use Rattle.text_columns.proofs.c_string_column.Statement.{statement}
+use Rattle.text_columns.proofs.c_string_column.Tie as tie
+
+text-end-requires : tie.Need-text-end-requires
+text-end-requires c κs = search needs
+
+column-requires : tie.Need-column-requires
+column-requires c κs = (c .text-end .ensures, refl)
+
+enum-known-e : tie.Need-enum-known-e
+enum-known-e c = search needs
+
+enum-told : tie.Need-enum-told
+enum-told c = search needs
+
+returns : tie.Need-returns
+returns c = λ e k h. none-there (c .before .before .before .before .before .args .s .now) (c .before .before .before .before .before .args .at) 32 _ (c .before .before .column .ensures) (c .enum-told .given .1) e k
+
+sub-is-c-string : tie.Need-sub-is-c-string
+sub-is-c-string c =
+    let k = column-there (c .before .before .before .before .before .before .args .s .now) (c .before .before .before .before .before .before .args .at) 32 _ (c .before .before .before .column .ensures) _ (c .before .e .given .1) in
+    omega (arith, k .low, k .high)
+
+part-is-c-string-start : tie.Need-part-is-c-string-start
+part-is-c-string-start c =
+    let k = column-there (c .before .before .before .before .before .before .args .s .now) (c .before .before .before .before .before .before .args .at) 32 _ (c .before .before .before .column .ensures) _ (c .before .e .given .1) in
+    omega (arith, k .low, k .high)
+
+part-is-c-string-end : tie.Need-part-is-c-string-end
+part-is-c-string-end c =
+    let k = column-there (c .before .before .before .before .before .before .args .s .now) (c .before .before .before .before .before .before .args .at) 32 _ (c .before .before .before .column .ensures) _ (c .before .e .given .1) in
+    omega (arith, k .low, k .high)
+
+is-c-string-requires : tie.Need-is-c-string-requires
+is-c-string-requires c κs = search needs
+
+returns-2 : tie.Need-returns-2
+returns-2 c = (
+  column-there (c .before .before .before .before .before .before .before .before .before .args .s .now) (c .before .before .before .before .before .before .before .before .before .args .at) 32 _ (c .before .before .before .before .before .before .column .ensures) _ (c .before .before .before .before .e .given .1),
+  sym (c .before .is-c-string .ensures) ∙ c .if1 .taken,
+)
+
+returns-3 : tie.Need-returns-3
+returns-3 c =
+    let k = column-there (c .before .before .before .before .before .before .before .before .before .args .s .now) (c .before .before .before .before .before .before .before .before .before .args .at) 32 _ (c .before .before .before .before .before .before .column .ensures) _ (c .before .before .before .before .e .given .1) in
+    other-there refl k isCString (sym (c .before .is-c-string .ensures) ∙ c .if1 .left)
+
+pub c-string-column-spec : {M : Type 1} → statement M
+c-string-column-spec =
+    tie.close
+    (tie.spec
+    text-end-requires
+    column-requires
+    enum-known-e
+    enum-told
+    returns
+    sub-is-c-string
+    part-is-c-string-start
+    part-is-c-string-end
+    is-c-string-requires
+    returns-2
+    returns-3)

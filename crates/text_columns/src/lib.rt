@@ -1,0 +1,92 @@
+// The texts in the columns of a line: found and tested.
+ghost use mathlib.Core.Path.{_≡_};
+ghost use mathlib.Core.Bool.{true};
+ghost use Prim.Native.Nat.{_+_};
+ghost use Rattle.sheets.specs.Rule.{passes};
+ghost use Rattle.sheets.specs.Bytes.{lacks};
+ghost use Rattle.hex.specs.Hex.{isHex, bytesOf};
+ghost use Rattle.columns.specs.Columns.{Finds};
+ghost use Rattle.text_columns.specs.TextColumns.{isMark, isText, isZero, isCString};
+use columns::Place;
+
+// `~` is a null pointer, `-` an empty text.
+fn is_mark(b: u8) -> bool
+    ensures { λ r. ⌜ r ≡ isMark b ⌝ }
+{
+    if b == b'~' {
+        return true;
+    }
+    b == b'-'
+}
+
+fn is_text(s: &[u8]) -> bool
+    ensures { λ r. ⌜ r ≡ isText (now (s .entry)) ⌝ }
+{
+    if s.len() == 0 {
+        return false;
+    }
+    if s.len() == 1 {
+        return is_mark(s[0]);
+    }
+    hex::is_hex(s)
+}
+
+// Whether the digits are 00.
+fn is_zero(a: u8, b: u8) -> bool
+    ensures { λ r. ⌜ r ≡ isZero a b ⌝ }
+{
+    if a != b'0' {
+        return false;
+    }
+    b == b'0'
+}
+
+// Whether no pair of s is 00. Nothing leaves the loop early, so that it compiles to vector instructions.
+fn lacks_zero(s: &[u8]) -> bool
+    requires { ⌜ isHex (now s) ≡ true ⌝ }
+    ensures { λ r. ⌜ r ≡ passes (lacks 0 (bytesOf (now (s .entry)))) ⌝ }
+{
+    let mut ok = true;
+    for k in 0..s.len() / 2 {
+        ok = ok & !is_zero(s[2 * k], s[2 * k + 1]);
+    }
+    ok
+}
+
+fn is_c_string(s: &[u8]) -> bool
+    ensures { λ r. ⌜ r ≡ isCString (now (s .entry)) ⌝ }
+{
+    if !is_text(s) {
+        return false;
+    }
+    if s.len() == 1 {
+        return true;
+    }
+    lacks_zero(s)
+}
+
+// The end of the text's column from place at on.
+pub fn text_column(s: &[u8], at: usize) -> Place
+    ensures { λ r. ⌜ Finds isText (now (s .entry)) at 32 r ⌝ }
+{
+    let Place::At(e) = columns::column(s, at, columns::text_end(s, at), b' ') else {
+        return Place::Nowhere;
+    };
+    if is_text(&s[at..e]) {
+        return Place::At(e);
+    }
+    Place::Nowhere
+}
+
+// The end of the column from place at on that is a text without byte 00.
+pub fn c_string_column(s: &[u8], at: usize) -> Place
+    ensures { λ r. ⌜ Finds isCString (now (s .entry)) at 32 r ⌝ }
+{
+    let Place::At(e) = columns::column(s, at, columns::text_end(s, at), b' ') else {
+        return Place::Nowhere;
+    };
+    if is_c_string(&s[at..e]) {
+        return Place::At(e);
+    }
+    Place::Nowhere
+}
