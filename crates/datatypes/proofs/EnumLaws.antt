@@ -1,6 +1,6 @@
 -- For each enumeration: a case stands at its own place; a case that is found at a place has it; where nothing is found the place is past the
 -- last, so no case has it. Assumes nothing.
-use mathlib.Core.Path.{_≡_, refl, sym, ap, _∙_}
+use mathlib.Core.Path.{_≡_, refl}
 use mathlib.Core.Option.{Option, none, some}
 use Prim.Native.Nat.{ℕ, _≤_}
 use native.Mathlib.Omega.{arith}
@@ -10,11 +10,9 @@ use Rattle.datatypes.specs.At.{integerTypes, integerTypeOf, integerTypeA
 use Rattle.units.proofs.AtLaws.{found-place, has, past}
 use Rattle.datatypes.specs.declared.IntegerType.{IntegerType}
 use Rattle.datatypes.specs.declared.IntegerType.the-variants as IntegerTypes
-use Rattle.datatypes.specs.declared.IntegerTypeAt.{IntegerTypeAt}
 use Rattle.datatypes.specs.declared.IntegerTypeAt.the-variants as IntegerTypeIs
 use Rattle.datatypes.specs.declared.PrimitiveType.{PrimitiveType}
 use Rattle.datatypes.specs.declared.PrimitiveType.the-variants as PrimitiveTypes
-use Rattle.datatypes.specs.declared.PrimitiveTypeAt.{PrimitiveTypeAt}
 use Rattle.datatypes.specs.declared.PrimitiveTypeAt.the-variants as PrimitiveTypeIs
 
 -- ── `IntegerType`

@@ -4,10 +4,8 @@ use mathlib.Core.Path.{_≡_, refl, sym, ap, _∙_}
 use mathlib.Core.Bool.{Bool, true, false}
 use mathlib.Core.List.{[], _∷_, _++_, append-assoc}
 use mathlib.Core.Option.{Option, none, some}
-use Prim.Native.Nat.{ℕ, zero, suc, _+_, _<_}
-use native.Mathlib.Nat.{not-suc-le-zero, le-of-suc-le-suc}
+use Prim.Native.Nat.{ℕ, zero, suc, _+_}
 use native.Mathlib.Omega.{arith}
-use lib.ListN.{length, set}
 use Rattle.sheets.specs.Refusal.{notUtf8}
 use Rattle.sheets.specs.Rule.{is}
 use Rattle.sheets.specs.Answer.{given}
@@ -23,7 +21,6 @@ use Rattle.sheets.specs.Import.{nameText}
 use Rattle.sheets.proofs.Tests.{met-when}
 use Rattle.sheets.proofs.BytesLaws.{same-eq}
 use Rattle.sheets.proofs.InverseLaws.{text-read}
-use Rattle.buffer.specs.Over.{over, overAt}
 use Rattle.hex.specs.Hex.{isHex, bytesOf}
 use Rattle.hex.proofs.PartLaws.{hex-bytes}
 use Rattle.field_line.specs.Columns.{column, shapePiece, columnsPiece, nameColumn, namePiece, ownPiece, endPiece, pairPiece}

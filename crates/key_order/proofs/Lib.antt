@@ -1,5 +1,3 @@
 pub mod KeyLaws
 pub mod MergeLaws
-pub mod InsertLaws
-pub mod HalvesLaws
 pub mod PairLaws

@@ -1,8 +1,8 @@
 -- What the conversions' contracts say, as functions of the case; and what a caller gets from them: the type is a scalar, whose columns are the
 -- answer's. Assumes nothing.
-use mathlib.Core.Path.{_≡_, refl, sym, ap, _∙_}
-use mathlib.Core.Option.{Option, none, some}
-use Prim.Native.Nat.{ℕ, _≤_, _<_}
+use mathlib.Core.Path.{_≡_, refl}
+use mathlib.Core.Option.{Option, some}
+use Prim.Native.Nat.{ℕ, _≤_}
 use native.Mathlib.Omega.{arith}
 use borrow.Author.Tests.{lt-leb, le-ltb, ne-eqb}
 use Rattle.sheets.specs.Refusal.{undefinedMapping}

@@ -1,18 +1,18 @@
 -- `to_physical_type` by the column `kind`: where it is not defined, and that it is what the definitions of the mappings say of a type whose first
 -- line has that kind. Assumes nothing.
 use mathlib.Core.Path.{_≡_, refl, sym, ap, subst, _∙_}
-use mathlib.Core.Bool.{Bool, true, false, not, _&&_, cond}
+use mathlib.Core.Bool.{Bool, true, false, not, _&&_}
 use mathlib.Core.List.{List, [], _∷_}
-use mathlib.Core.Option.{Option, none, some}
+use mathlib.Core.Option.{none}
 use Prim.Native.Nat.{ℕ, _<_}
 use native.Mathlib.Omega.{arith}
-use lib.Dec.{T, eqb, leb}
+use lib.Dec.{T, leb}
 use borrow.Author.Tests.{ne-eqb, lt-leb, le-leb, ltb-true}
 use Rattle.sheets.specs.Refusal.{undefinedMapping}
-use Rattle.sheets.specs.Answer.{Answer, refused, given, _>>=_, found}
+use Rattle.sheets.specs.Answer.{Answer, refused, given}
 use Rattle.sheets.specs.Mappings.{Row, rowAt, leafRows, intervalPhysical, leafPhysical, scalarPhysical, nestingPhysical, groupingPhysical, toPhysicalType}
 use Rattle.sheets.specs.Mappings.{PhysicalType as HostPhysical}
-use Rattle.sheets.specs.Field.{Width, bits128, bits32, bits64, bits256, Scalar, leaf, timestamp, fixedSizeBinary, decimalType, Nesting, list, largeList, fixedSizeList, map, Grouping, struct, union, ArrowDataType, dictionary, isLeaf, scalarRule, typeRule}
+use Rattle.sheets.specs.Field.{bits128, bits32, bits64, bits256, Scalar, leaf, timestamp, fixedSizeBinary, decimalType, Nesting, list, largeList, fixedSizeList, map, Grouping, struct, union, ArrowDataType, dictionary, isLeaf, scalarRule, typeRule}
 use Rattle.sheets.specs.FieldSheet.{columns, ofScalar, ofNesting, ofGrouping, ofDictionary}
 use Rattle.sheets.specs.Rule.{Meets}
 use Rattle.sheets.specs.Kind

@@ -138,7 +138,7 @@ fn in_order(m: &[u8], entries: &mut [u32], spare: &mut [u32], f: Metadata) -> Me
     requires { ⌜ CanOrder (now m) (now entries) (now spare) f ⌝ }
     ensures { λ r. ⌜ Orders (bytesOf (now (m .entry))) (now (entries .entry)) f (now (entries .exit)) r ⌝ }
 {
-    let count = key_order::sort_keys(m, entries, spare, f.count);
+    let count = sort_keys::sort_keys(m, entries, spare, f.count);
     Metadata {
         count,
         name: f.name,

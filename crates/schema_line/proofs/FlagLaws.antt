@@ -1,18 +1,18 @@
 -- A flag of a signed 64-bit number by a mask of one bit, and the lowest bit of its half. A negative number -(n + 1) stands as 2 ^ 64 - (n + 1),
 -- whose bits are the complement of n's. Assumes nothing.
 use mathlib.Core.Path.{_≡_, refl, sym, ap, _∙_}
-use mathlib.Core.Bool.{Bool, true, false, not}
+use mathlib.Core.Bool.{not}
 use Prim.Native.Nat.{ℕ, zero, suc, zero-le, _+_, _-_, _*_, _/_, _%_, _^_, _≤_, _<_}
 use native.Mathlib.Nat.{lt-of-le-of-lt, zero-mul, one-mul}
 use native.Mathlib.Omega.{arith}
 use lib.Bits.{bitAnd, and-high, and-mask}
 use lib.Dec.{eqb}
-use lib.IntN.{ℤ, pos, negsuc, negℤ, natAbs}
+use lib.IntN.{ℤ, pos, negsuc, negℤ}
 use lib.Pow.{pow-pos}
 use lib.Signed.{mag, quotZ}
 use mir.Syntax.{w64}
 use mir.Val.{SFits, ofZ}
-use borrow.Author.Tests.{eq-eqb, ne-eqb}
+use borrow.Author.Tests.{ne-eqb}
 use Rattle.sheets.specs.Flags.{bit, odd, nullable}
 
 -- a bit that is scaled is not 0 exactly if it is 1

@@ -1,6 +1,5 @@
 -- The two conditions of demand 3 on a field's lines, taken together: rules at every line are met together if each is met. By induction over the
 -- type. Assumes nothing.
-use mathlib.Core.Path.{_≡_, refl}
 use Prim.Native.Nat.{ℕ}
 use Rattle.sheets.specs.Rule.{Rule, Meets}
 use Rattle.sheets.specs.Field.{Info, ArrowDataType, scalar, nested, grouped, dictionary, extension, Fields, nil, add, Field}

@@ -1,24 +1,22 @@
 -- Demand 3, proved. Export and import undo each other up to plain form on trees (RoundTrip, PlainLaws); sheets are read back as the trees they
 -- were written from (SchemaLaws, FieldSheetLaws); what export writes keeps the rules of a schema sheet and fits 32 levels (ExportLaws), and a
 -- sheet of 65,535 bytes holds no text that a 32-bit length would not count (SizeLaws). Assumes nothing.
-use mathlib.Core.Path.{_≡_, refl, sym, _∙_, ap, subst}
-use mathlib.Core.Logic.{_↔_}
+use mathlib.Core.Path.{_≡_, sym, _∙_, ap, subst}
 use mathlib.Core.Bool.{true}
-use Prim.Native.Nat.{ℕ, _≤_}
+use Prim.Native.Nat.{_≤_}
 use native.Mathlib.Omega.{arith}
 use lib.Dec.{leb}
 use lib.ListN.{length}
 use borrow.Author.Tests.{le-leb, leb-true}
 use Rattle.sheets.specs.Rule.{Meets}
 use Rattle.sheets.specs.Bytes.{Bytes}
-use Rattle.sheets.specs.Answer.{Answer, refused, given, _>>=_}
-use Rattle.sheets.specs.Schema.{Schema, schemaLevels, readSchemaSheet, writeSchemaSheet}
+use Rattle.sheets.specs.Answer.{Answer, given, _>>=_}
+use Rattle.sheets.specs.Schema.{Schema, schemaLevels, writeSchemaSheet}
 use Rattle.sheets.specs.Field.{Field, fieldRule, fieldLevels}
 use Rattle.sheets.specs.Plain.{plain}
-use Rattle.sheets.specs.Import.{toField}
 use Rattle.sheets.specs.Export.{schemaNew}
 use Rattle.sheets.specs.FieldSheet.{readFieldSheet, writeFieldSheet}
-use Rattle.sheets.specs.Outcome.{Outcome, success, imported, exported, outcome, exportOutcome}
+use Rattle.sheets.specs.Outcome.{imported, exported, outcome}
 use Rattle.sheets.specs.Demand3.{IsShort, written, Exportable, exportOf, plainFormOf, Demand3}
 use Rattle.sheets.proofs.Tests.{first-gave}
 use Rattle.sheets.proofs.ConditionLaws.{fieldFree, free}

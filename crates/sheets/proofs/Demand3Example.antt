@@ -1,22 +1,20 @@
 -- The conditions of demand 3 can be met: a field that meets them (an extension in an extension over a dictionary, an empty timezone, pairs that are
 -- Some of nothing), another with the same plain form, and the demand used at both. By computation. Assumes nothing.
-use mathlib.Core.Path.{_≡_, refl, sym, _∙_, ap}
+use mathlib.Core.Path.{_≡_, refl}
 use mathlib.Core.Bool.{true, false}
-use mathlib.Core.List.{List, [], _∷_}
+use mathlib.Core.List.{[], _∷_}
 use mathlib.Core.Option.{none, some}
-use Prim.Native.Nat.{ℕ, _≤_}
 use native.Mathlib.Omega.{arith}
 use lib.ListN.{length, replicate}
 use borrow.Author.Tests.{leb-true}
-use Rattle.sheets.specs.Rule.{Meets}
 use Rattle.sheets.specs.Number.{decimal}
 use Rattle.sheets.specs.Format.{rows}
 use Rattle.sheets.specs.IntegerType
 use Rattle.sheets.specs.Kind
 use Rattle.sheets.specs.Field.{Field, leaf, timestamp, nanosecond, struct, scalar, grouped, dictionary, extension, nil, add}
 use Rattle.sheets.specs.Bytes.{Bytes, ascii}
-use Rattle.sheets.specs.Outcome.{Outcome, success, imported, exported, outcome, importOutcome, exportOutcome}
-use Rattle.sheets.specs.Demand3.{Exportable, exportOf, plainFormOf, everyLine, ownKeys, noRule, narrowIndex, Demand3}
+use Rattle.sheets.specs.Outcome.{success, exported, outcome, importOutcome, exportOutcome}
+use Rattle.sheets.specs.Demand3.{Exportable, exportOf, plainFormOf, everyLine, ownKeys, noRule, narrowIndex}
 use Rattle.sheets.proofs.Tests.{meets}
 use Rattle.sheets.proofs.Demand3.{demand3}
 

@@ -1,20 +1,18 @@
 -- What export gives keeps the rules of a schema sheet, is bytes, and has no more levels than the field. Assumes nothing.
-use mathlib.Core.Path.{_≡_, refl, sym, _∙_, ap, subst}
+use mathlib.Core.Path.{_≡_, refl, subst}
 use mathlib.Core.Bool.{Bool, true, false}
 use mathlib.Core.List.{List, [], _∷_, _++_}
 use mathlib.Core.Option.{Option, none, some}
-use Prim.Native.Nat.{ℕ, zero, suc, _+_, _/_, _%_, _^_, _<_, _≤_, max}
+use Prim.Native.Nat.{ℕ, zero, suc, _+_, _/_, _%_, _^_, _≤_}
 use native.Mathlib.Omega.{arith}
-use lib.Dec.{eqb, ltb, leb}
-use lib.IntN.{ℤ, pos}
 use lib.ListN.{length}
 use borrow.Author.Tests.{lt-ltb}
-use Rattle.sheets.specs.Rule.{Rule, is, _and_, each, Meets}
-use Rattle.sheets.specs.Bytes.{Bytes, all, lacks}
-use Rattle.sheets.specs.Answer.{Answer, refused, given, _>>=_}
+use Rattle.sheets.specs.Rule.{each, Meets}
+use Rattle.sheets.specs.Bytes.{Bytes, all}
+use Rattle.sheets.specs.Answer.{given, _>>=_}
 use Rattle.sheets.specs.Utf8.{isUtf8}
-use Rattle.sheets.specs.Schema.{Node, Schema, schema, Schemas, end, _&_, Dictionary, absent, present, schemaRule, childrenRule, dictionaryRule, schemaLevels, childrenLevels, dictionaryLevels}
-use Rattle.sheets.specs.Field.{Pair, Info, Scalar, leaf, Nesting, list, largeList, fixedSizeList, map, Grouping, ArrowDataType, scalar, nested, grouped, dictionary, extension, Fields, nil, add, Field, countFields, infoRule, typeRule, fieldsRule, fieldRule, typeLevels, fieldsLevels, fieldLevels}
+use Rattle.sheets.specs.Schema.{Schema, Schemas, end, _&_, Dictionary, absent, present, schemaRule, childrenRule, dictionaryRule, schemaLevels, childrenLevels, dictionaryLevels}
+use Rattle.sheets.specs.Field.{Pair, Info, leaf, Nesting, list, largeList, fixedSizeList, map, ArrowDataType, scalar, nested, grouped, dictionary, extension, Fields, nil, add, Field, countFields, infoRule, typeRule, fieldsRule, fieldRule, typeLevels, fieldsLevels, fieldLevels}
 use Rattle.sheets.specs.Format.{scalarFormat, nestingFormat, groupingFormat, indexFormat}
 use Rattle.sheets.specs.Metadata.{little, writeText32, writePairs, metadataToBytes, Extension, orNone, blockOf, insertOver, withMetadata, nameKey, schemaMetadata}
 use Rattle.sheets.specs.Export.{flag, sortedFlag, schemaNode, valuesInfo, schemaNewOf, schemaChildren, schemaNew}
@@ -25,7 +23,7 @@ use Rattle.sheets.proofs.Utf8Laws.{utf8-bytes}
 use Rattle.sheets.proofs.SchemaLaws.{schemaBytes, childrenBytes, dictionaryBytes}
 use Rattle.sheets.proofs.FormatLaws.{utf8-scalar, utf8-nesting, utf8-grouping}
 use Rattle.sheets.proofs.MetadataLaws.{extensionRule, textPair, pairs-text, pairs-ordered, all-text}
-use Rattle.sheets.proofs.RoundTrip.{isSome, index-leaf, exportedNode, node-gave, values-rule}
+use Rattle.sheets.proofs.RoundTrip.{isSome, index-leaf, node-gave, values-rule}
 
 -- ── the block is bytes
 

@@ -3,18 +3,17 @@
 -- types, as many as the count began with. By what each shape takes off the types of the lines after it. Assumes nothing.
 use mathlib.Core.Path.{_≡_, refl, sym, _∙_, ap, subst}
 use mathlib.Core.Bool.{Bool, true, false, not, Bool·beq}
-use mathlib.Core.List.{List, [], _∷_, _++_}
+use mathlib.Core.List.{List, [], _∷_}
 use mathlib.Core.Option.{Option, none, some}
-use Prim.Native.Nat.{ℕ, zero, suc, _+_, _≤_, _<_}
+use Prim.Native.Nat.{ℕ, zero, suc, _+_}
 use native.Mathlib.Omega.{arith}
 use lib.Dec.{eqb}
 use lib.ListN.{length}
-use borrow.Author.Tests.{eqb-true}
 use Rattle.sheets.specs.Refusal.{badLines}
 use Rattle.sheets.specs.Rule.{Rule, is, _and_, each, Meets}
 use Rattle.sheets.specs.Bytes.{Bytes}
 use Rattle.sheets.specs.Answer.{Answer, refused, given, _>>=_, when}
-use Rattle.sheets.specs.Field.{Info, Scalar, Nesting, Grouping, ArrowDataType, scalar, nested, grouped, dictionary, extension, Fields, nil, add, Field}
+use Rattle.sheets.specs.Field.{Info, Nesting, ArrowDataType, scalar, nested, grouped, dictionary, extension, Fields, nil, add, Field}
 use Rattle.sheets.specs.FieldSheet.{Shape, ofScalar, ofNesting, ofGrouping, ofDictionary, ofExtension, Line, fieldLine, columnsOf, ownOf, childrenOf, readShape, readInfo, Entry, takeFields, takeField, takeBare, placeType, placeLine, entries}
 use Rattle.sheets.proofs.Tests.{first-gave, met-when, never, not-given}
 

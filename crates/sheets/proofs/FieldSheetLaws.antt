@@ -5,28 +5,28 @@ use native.Mathlib.Omega.{arith}
 use borrow.Author.Tests.{eqb-true}
 use mathlib.Core.List.{List, [], _∷_, _++_, append-assoc, append-nil}
 use mathlib.Core.Option.{Option, none, some}
-use Prim.Native.Nat.{ℕ, zero, suc, _≤_}
-use lib.Dec.{eqb, ltb, leb}
-use lib.IntN.{ℤ, pos, negsuc}
+use Prim.Native.Nat.{ℕ, zero, suc}
+use lib.Dec.{eqb, leb}
+use lib.IntN.{ℤ}
 use lib.ListN.{length}
-use Rattle.sheets.specs.Refusal.{Refusal, badLines, tooDeep}
-use Rattle.sheets.specs.Rule.{Rule, is, _and_, each, passes, Meets}
-use Rattle.sheets.specs.Bytes.{Bytes, ascii, all, same, lacks, split, join}
-use Rattle.sheets.specs.Answer.{Answer, refused, given, _>>=_, when, found}
-use Rattle.sheets.specs.Number.{decimal, writeSigned, readNumber, readSigned}
-use Rattle.sheets.specs.Text.{hex, unhex, writeText, readText}
+use Rattle.sheets.specs.Refusal.{badLines, tooDeep}
+use Rattle.sheets.specs.Rule.{Rule, is, _and_, each, Meets}
+use Rattle.sheets.specs.Bytes.{Bytes, all, same, lacks}
+use Rattle.sheets.specs.Answer.{Answer, refused, given, _>>=_, when}
+use Rattle.sheets.specs.Number.{writeSigned, readSigned}
+use Rattle.sheets.specs.Text.{hex, writeText, readText}
 use Rattle.sheets.specs.Utf8.{isUtf8}
 use Rattle.sheets.specs.Sheet.{readSheet, writeSheet, single}
 use Rattle.sheets.proofs.InverseLaws.{sheet-read, sheet-length}
 use Rattle.sheets.proofs.SchemaLaws.{single-read}
-use Rattle.sheets.specs.Field.{Pair, Info, TimeUnit, unitPlace, second, millisecond, microsecond, nanosecond, Width, bits128, bits32, bits64, bits256, Scalar, leaf, timestamp, fixedSizeBinary, decimalType, Nesting, list, largeList, fixedSizeList, map, Grouping, struct, union, ArrowDataType, scalar, nested, grouped, dictionary, extension, Fields, nil, add, Field, countFields, scalarRule, nestingRule, groupingRule, textRule, pairsRule, metadataRule, infoRule, typeRule, fieldsRule, fieldRule, idRule, fieldLevels}
-use Rattle.sheets.specs.FieldSheet.{Columns, Shape, ofScalar, ofNesting, ofGrouping, ofDictionary, ofExtension, noText, unitAt, toNat, boolAt, columns, pairText, pairOf, readPair, readList, writeList, Own, infoColumns, readInfo, infoNamed, sameOwn, fieldLine, lineOf, columnsOf, ownOf, childrenOf, typeLines, fieldsLines, shapeAt, sameColumns, readShape, Line, Entry, placeLine, takeFields, takeField, takeBare, placeType, entries, fieldOf, fieldHeading, writeFieldSheet, readFieldSheet}
-use Rattle.sheets.proofs.Tests.{when-met, passing, first-gave, met-when, same-number, and-left, and-right, not-given}
+use Rattle.sheets.specs.Field.{Pair, Info, TimeUnit, unitPlace, second, millisecond, microsecond, nanosecond, bits128, bits32, bits64, bits256, leaf, timestamp, fixedSizeBinary, decimalType, list, largeList, fixedSizeList, map, struct, union, ArrowDataType, scalar, nested, grouped, dictionary, extension, Fields, nil, add, Field, countFields, scalarRule, nestingRule, groupingRule, textRule, pairsRule, metadataRule, infoRule, typeRule, fieldsRule, fieldRule, idRule, fieldLevels}
+use Rattle.sheets.specs.FieldSheet.{Columns, Shape, ofScalar, ofNesting, ofGrouping, ofDictionary, ofExtension, noText, unitAt, toNat, boolAt, columns, pairText, readPair, readList, writeList, Own, infoColumns, readInfo, infoNamed, sameOwn, fieldLine, lineOf, columnsOf, ownOf, childrenOf, typeLines, fieldsLines, shapeAt, sameColumns, readShape, Line, Entry, placeLine, takeFields, takeField, takeBare, placeType, entries, fieldOf, fieldHeading, writeFieldSheet, readFieldSheet}
+use Rattle.sheets.proofs.Tests.{passing, first-gave, met-when, same-number, and-left, and-right, not-given}
 use Rattle.sheets.proofs.BytesLaws.{same-refl, same-eq, split-next, split-last, eachLacks, each-append, all-append}
 use Rattle.sheets.proofs.NumberLaws.{read-decimal, read-signed, decimal-lacks, signed-lacks, isNumeral}
-use Rattle.sheets.proofs.TextLaws.{isHex, bytesRule, isByte, read-text, text-lacks, noTextByte, unhex-hex, hex-lacks}
-use Rattle.sheets.specs.Codec.{Codec, Row, number, raw, done, _▸_, line}
-use Rattle.sheets.proofs.CodecLaws.{_⊗_, any, clean, Lawful, LawfulRow, number-lawful, raw-lawful, done-lawful, column-lawful, line-back, line-once, line-ends}
+use Rattle.sheets.proofs.TextLaws.{isHex, isByte, read-text, text-lacks, noTextByte, unhex-hex, hex-lacks}
+use Rattle.sheets.specs.Codec.{number, raw, done, _▸_}
+use Rattle.sheets.proofs.CodecLaws.{_⊗_, any, clean, LawfulRow, number-lawful, raw-lawful, done-lawful, column-lawful, line-back, line-once, line-ends}
 use Rattle.sheets.proofs.SheetLaws.{read-sheet, sheet-lines}
 use Rattle.sheets.proofs.Utf8Laws.{utf8-bytes, text-bytes}
 use Rattle.sheets.proofs.ListLaws.{read-list, listRule, list-lacks}

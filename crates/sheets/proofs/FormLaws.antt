@@ -3,25 +3,25 @@
 -- the trees of the lines after it (`trees-next`), which holds for every line and every rest. Assumes nothing.
 use mathlib.Core.Path.{_≡_, refl, sym, _∙_, ap, subst}
 use mathlib.Core.Logic.{_↔_}
-use mathlib.Core.Bool.{Bool, true, false, _&&_, cond}
+use mathlib.Core.Bool.{Bool, true, false}
 use mathlib.Core.List.{List, [], _∷_, _++_}
-use mathlib.Core.Option.{Option, none, some}
+use mathlib.Core.Option.{some}
 use Prim.Native.Nat.{ℕ, zero, suc, _+_, _≤_, _<_}
 use native.Mathlib.Omega.{arith}
-use lib.Dec.{eqb, ltb, leb}
+use lib.Dec.{leb}
 use lib.ListN.{length, length-append}
 use Rattle.sheets.specs.Refusal.{Refusal, badLines, tooDeep}
-use Rattle.sheets.specs.Rule.{Rule, is, _and_, each, passes, Meets}
+use Rattle.sheets.specs.Rule.{is, each, passes, Meets}
 use Rattle.sheets.specs.Bytes.{Bytes, lacks, split, after}
-use Rattle.sheets.specs.Answer.{Answer, refused, given, _>>=_, when, decide, found}
-use Rattle.sheets.specs.Sheet.{ended, endedLines, readSheet, single}
+use Rattle.sheets.specs.Answer.{Answer, refused, given, _>>=_, when, decide}
+use Rattle.sheets.specs.Sheet.{ended, endedLines, single}
 use Rattle.sheets.specs.Schema.{Schema, schema, Schemas, end, _&_, Dictionary, absent, present, Line, nodeOf, childrenOf, dictionaryOf, countSchemas, countDictionary, schemaLine, schemaLines, takeChildren, takeDictionary, placeSchema, schemaTrees, nodeRule, schemaRule, childrenRule, dictionaryRule, schemaLevels, schemaHeading, readSchemaSheet}
 use Rattle.sheets.proofs.Tests.{first-gave, meets, passing, not-given}
 use Rattle.sheets.proofs.BytesLaws.{split-next, split-last}
 use Rattle.sheets.proofs.InverseLaws.{split-some, ended-join, join-split}
 use Rattle.sheets.proofs.SchemaLaws.{pushChildren, pushDictionary, children-taken, dictionary-taken, allLines, trees-read}
 use Rattle.sheets.proofs.ForwardCount.{take-some, take-one, children-length, dictionary-length, one-at-most}
-use Rattle.sheets.proofs.RefusalLaws.{OnlyLines, lines-only, schema-line-only, trees-only}
+use Rattle.sheets.proofs.RefusalLaws.{lines-only, trees-only}
 
 -- ── the trees of the bytes from a line on
 

@@ -1,27 +1,25 @@
 -- Format strings read back as what they were written from, in plain form. Assumes nothing.
-use mathlib.Core.Path.{_≡_, refl, sym, _∙_, ap, subst}
-use mathlib.Core.Logic.{_≢_}
+use mathlib.Core.Path.{_≡_, refl, _∙_, ap}
 use mathlib.Core.Bool.{Bool, true, false, _&&_, _||_, not, cond}
-use mathlib.Core.List.{List, [], _∷_, _++_, append-assoc}
+use mathlib.Core.List.{List, [], _∷_, _++_}
 use mathlib.Core.List.{map as mapList}
 use mathlib.Core.Option.{Option, none, some}
 use Prim.Native.Nat.{ℕ, zero, suc, _+_, _^_, _<_, _≤_}
 use native.Mathlib.Omega.{arith}
 use lib.Dec.{eqb, ltb, leb}
 use lib.IntN.{ℤ, pos, negsuc}
-use lib.Signed.{mag}
-use borrow.Author.Tests.{ltb-true, lt-ltb, le-leb, leb-true, eqb-true, ne-eqb, not-true}
+use borrow.Author.Tests.{ltb-true, lt-ltb, le-leb, leb-true, eqb-true, ne-eqb}
 use Rattle.sheets.specs.Refusal.{Refusal, noFormat}
-use Rattle.sheets.specs.Rule.{Rule, is, _and_, each, passes, Meets}
-use Rattle.sheets.specs.Bytes.{Bytes, ascii, all, lacks, same, split, join}
-use Rattle.sheets.specs.Answer.{Answer, refused, given, _>>=_, when, found, readEach}
+use Rattle.sheets.specs.Rule.{Rule, is, _and_, each, Meets}
+use Rattle.sheets.specs.Bytes.{Bytes, ascii, all, lacks, same, join}
+use Rattle.sheets.specs.Answer.{Answer, refused, given, _>>=_, found}
 use Rattle.sheets.specs.Number.{decimal, valueFrom, isDigit, lean, writeSigned}
 use Rattle.sheets.specs.Utf8.{isUtf8}
 use Rattle.sheets.specs.Field.{TimeUnit, second, millisecond, microsecond, nanosecond, Width, bits128, bits32, bits64, bits256, Scalar, leaf, timestamp, fixedSizeBinary, decimalType, Nesting, list, largeList, fixedSizeList, map, Grouping, struct, union, upFrom, scalarRule, nestingRule, groupingRule, sizeRule, idRule, textRule}
 use Rattle.sheets.specs.Demand3.{narrow}
 use Rattle.sheets.specs.Plain.{plainZone, plainScalar, plainGrouping}
-use Rattle.sheets.specs.Format.{Row, rows, rowNamed, rowOf, unitLetter, orEmpty, widthText, scalarFormat, nestingFormat, unionName, writeIds, groupingFormat, Format, ofScalar, ofNesting, ofGrouping, unsigned, dropPlus, readSize, minus, readId, widthOf, decimalParts, cut, zone, readCut, readOther, readNamed, readFormat, toIntegerType, indexFormat}
-use Rattle.sheets.proofs.Tests.{when-met, passing, meets, first-gave, every, at-each, and-left, and-right, never, not-some, not-given}
+use Rattle.sheets.specs.Format.{Row, rows, rowNamed, rowOf, unitLetter, orEmpty, widthText, scalarFormat, nestingFormat, unionName, writeIds, groupingFormat, Format, ofScalar, ofNesting, ofGrouping, unsigned, dropPlus, readSize, readId, decimalParts, zone, readNamed, readFormat, toIntegerType, indexFormat}
+use Rattle.sheets.proofs.Tests.{passing, meets, first-gave, every, at-each, and-left, and-right, never, not-some, not-given}
 use Rattle.sheets.proofs.BytesLaws.{split-join, eachLacks, all-append, all-weaken}
 use Rattle.sheets.proofs.NumberLaws.{decimal-digits, decimal-lean, value-decimal, decimal-lacks, signed-lacks}
 use Rattle.sheets.proofs.Utf8Laws.{utf8-append, isAscii, ascii-utf8}

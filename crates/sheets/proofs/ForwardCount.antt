@@ -1,15 +1,15 @@
 -- For code that checks a schema sheet's form from the first line to the last: a count of the subtrees still to come. It ends at 0 with the last
 -- line, and not before, exactly if the lines are those of trees, as many as the count began with. Assumes nothing.
 use mathlib.Core.Path.{_≡_, refl, sym, _∙_, ap, subst}
-use mathlib.Core.Bool.{Bool, true, false}
-use mathlib.Core.List.{List, [], _∷_, _++_}
-use Prim.Native.Nat.{ℕ, zero, suc, _+_, _≤_, _<_}
+use mathlib.Core.Bool.{Bool, true}
+use mathlib.Core.List.{List, [], _∷_}
+use Prim.Native.Nat.{ℕ, zero, suc, _+_, _<_}
 use native.Mathlib.Omega.{arith}
 use lib.Dec.{ltb}
 use lib.ListN.{length}
 use borrow.Author.Tests.{lt-ltb, ltb-true}
-use Rattle.sheets.specs.Refusal.{Refusal, badLines}
-use Rattle.sheets.specs.Rule.{is, Meets}
+use Rattle.sheets.specs.Refusal.{badLines}
+use Rattle.sheets.specs.Rule.{is}
 use Rattle.sheets.specs.Bytes.{Bytes}
 use Rattle.sheets.specs.Answer.{Answer, refused, given, _>>=_, when}
 use Rattle.sheets.specs.Schema.{Schema, schema, Schemas, end, _&_, Dictionary, absent, present, Line, nodeOf, childrenOf, dictionaryOf, countSchemas, countDictionary, schemaLine, takeChildren, takeDictionary, placeSchema, schemaTrees}

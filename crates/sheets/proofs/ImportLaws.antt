@@ -1,17 +1,17 @@
 -- Import line by line, for code that writes a node's lines before it goes on to the lines below: the lines that a node of a schema becomes are its
 -- own (one, or two where the metadata names an extension), then those of what it visits; and the refusals come in the order format, type, what is
 -- below, metadata, name. By cases of the format; each law for all nodes. Assumes nothing.
-use mathlib.Core.Path.{_≡_, refl, sym, _∙_, ap, subst}
+use mathlib.Core.Path.{_≡_, refl, sym, _∙_, ap}
 use mathlib.Core.Bool.{Bool, true, false}
 use mathlib.Core.List.{List, [], _∷_, _++_, append-nil}
 use mathlib.Core.Option.{Option, none, some}
 use Prim.Native.Nat.{ℕ, zero, suc}
 use lib.IntN.{ℤ}
-use Rattle.sheets.specs.Refusal.{Refusal, noChild}
+use Rattle.sheets.specs.Refusal.{noChild}
 use Rattle.sheets.specs.Bytes.{Bytes}
 use Rattle.sheets.specs.Answer.{Answer, refused, given, _>>=_}
 use Rattle.sheets.specs.Schema.{Node, Schema, schema, Schemas, end, _&_, Dictionary, absent, present, countSchemas, countDictionary}
-use Rattle.sheets.specs.Field.{Info, Nesting, Grouping, ArrowDataType, scalar, nested, grouped, dictionary, extension, Fields, nil, add, Field, countFields}
+use Rattle.sheets.specs.Field.{Info, Nesting, Grouping, ArrowDataType, scalar, nested, grouped, dictionary, Fields, nil, add, Field, countFields}
 use Rattle.sheets.specs.FieldSheet.{Shape, fieldLine, lineOf, typeLines, fieldsLines}
 use Rattle.sheets.specs.FieldSheet.{ofScalar as scalarShape, ofNesting as nestingShape, ofGrouping as groupingShape, ofDictionary, ofExtension}
 use Rattle.sheets.specs.Flags.{isOrdered, isSorted, nullable}

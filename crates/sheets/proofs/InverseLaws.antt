@@ -1,7 +1,7 @@
 -- What was read is what would be written: a number, a text, a sheet's lines have one text each. Assumes nothing.
-use mathlib.Core.Path.{_≡_, refl, sym, _∙_, ap, subst}
+use mathlib.Core.Path.{_≡_, refl, sym, _∙_, ap}
 use mathlib.Core.Logic.{_≢_}
-use mathlib.Core.Bool.{Bool, true, false, _&&_, not, cond}
+use mathlib.Core.Bool.{Bool, true, false, _&&_, cond}
 use mathlib.Core.List.{List, [], _∷_, _++_, append-assoc}
 use mathlib.Core.Option.{Option, none, some}
 use Prim.Native.Nat.{ℕ, zero, suc, _+_, _*_, _-_, _/_, _%_, _<_, _≤_}
@@ -9,11 +9,11 @@ use native.Mathlib.Omega.{arith}
 use lib.Dec.{eqb, ltb, leb}
 use lib.IntN.{ℤ, pos, negsuc}
 use lib.ListN.{length}
-use borrow.Author.Tests.{ltb-true, ltb-false, lt-ltb, le-ltb, leb-true, eqb-true, eqb-false, not-true}
-use Rattle.sheets.specs.Refusal.{Refusal, notSheet, badLines}
-use Rattle.sheets.specs.Rule.{Rule, is, _and_, Meets}
-use Rattle.sheets.specs.Bytes.{Bytes, ascii, all, same, split, splitStep, prepend, join, after}
-use Rattle.sheets.specs.Answer.{Answer, refused, given, _>>=_, when, found}
+use borrow.Author.Tests.{ltb-false, lt-ltb, le-ltb, leb-true, eqb-true, eqb-false, not-true}
+use Rattle.sheets.specs.Refusal.{notSheet, badLines}
+use Rattle.sheets.specs.Rule.{is, _and_, Meets}
+use Rattle.sheets.specs.Bytes.{Bytes, ascii, all, same, split, splitStep, join, after}
+use Rattle.sheets.specs.Answer.{refused, given, _>>=_, when, found}
 use Rattle.sheets.specs.Number.{isDigit, digits, decimal, valueFrom, lean, readNumber, writeSigned, negative, readSigned}
 use Rattle.sheets.specs.Text.{hexDigit, hex, digitValue, unhex, writeText, readText}
 use Rattle.sheets.specs.Sheet.{ended, endedLines, writeSheet, readSheet}

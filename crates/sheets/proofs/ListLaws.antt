@@ -1,15 +1,15 @@
 -- A list in a column, and each element's text, read back: once for every element type. Assumes nothing.
-use mathlib.Core.Path.{_≡_, refl, sym, _∙_, ap, subst}
+use mathlib.Core.Path.{_≡_, refl, sym, _∙_, ap}
 use mathlib.Core.Bool.{Bool, true, false, not}
-use mathlib.Core.List.{List, [], _∷_, _++_, map}
+use mathlib.Core.List.{List, [], _∷_, map}
 use mathlib.Core.Option.{Option, none, some}
 use Prim.Native.Nat.{ℕ, zero, suc}
 use native.Mathlib.Omega.{arith}
 use lib.Dec.{eqb}
-use Rattle.sheets.specs.Refusal.{Refusal, badLines}
-use Rattle.sheets.specs.Rule.{Rule, is, _and_, each, Meets}
+use Rattle.sheets.specs.Refusal.{badLines}
+use Rattle.sheets.specs.Rule.{Rule, is, each, Meets}
 use Rattle.sheets.specs.Bytes.{Bytes, ascii, lacks, same, split, join}
-use Rattle.sheets.specs.Answer.{Answer, refused, given, _>>=_, readEach}
+use Rattle.sheets.specs.Answer.{Answer, refused, given, readEach}
 use Rattle.sheets.specs.FieldSheet.{writeList, readList, noText}
 use Rattle.sheets.proofs.BytesLaws.{same-eq, split-join, eachLacks, join-lacks}
 

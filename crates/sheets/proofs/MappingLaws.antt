@@ -1,14 +1,10 @@
 -- Laws of the mappings: applied twice they are applied once. Assumes nothing.
-use mathlib.Core.Path.{_≡_, refl, sym, _∙_, ap, subst}
-use mathlib.Core.Bool.{Bool, true, false, _&&_, cond}
-use mathlib.Core.List.{List, [], _∷_}
-use mathlib.Core.Option.{Option, none, some}
-use Prim.Native.Nat.{ℕ}
+use mathlib.Core.Path.{_≡_, refl, subst}
+use mathlib.Core.Bool.{Bool, true, false, _&&_}
 use native.Mathlib.Omega.{arith}
-use Rattle.sheets.specs.Answer.{Answer, refused, given, _>>=_}
+use Rattle.sheets.specs.Answer.{Answer, given, _>>=_}
 use Rattle.sheets.specs.Field.{Info, Nesting, Grouping, ArrowDataType, scalar, nested, grouped, dictionary, extension, Fields, nil, add}
-use Rattle.sheets.specs.Rule.{Rule, is, _and_, each, passes, Meets}
-use Rattle.sheets.specs.Mappings.{Row, leafRows, rowAt, leafUnder, scalarUnder, underlyingPhysicalType, fieldsUnderlying, toPhysicalType, toStorage, toStorageRecursive, fieldsStorage, unless, isMap, isUnion}
+use Rattle.sheets.specs.Mappings.{toPhysicalType, toStorage, toStorageRecursive, fieldsStorage, unless, isMap, isUnion}
 use Rattle.sheets.proofs.Tests.{first-gave, not-given}
 
 pub storage-twice : (t : ArrowDataType) → toStorage (toStorage t) ≡ toStorage t

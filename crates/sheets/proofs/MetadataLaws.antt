@@ -1,24 +1,22 @@
 -- The metadata block read back as the pairs and the extension it was written from. Assumes nothing.
-use mathlib.Core.Path.{_≡_, refl, sym, _∙_, ap, subst}
-use mathlib.Core.Logic.{_≢_}
-use mathlib.Core.Bool.{Bool, true, false, _&&_, _||_, not, cond}
-use mathlib.Core.List.{List, [], _∷_, _++_, append-assoc}
+use mathlib.Core.Path.{_≡_, refl, sym, _∙_, ap}
+use mathlib.Core.Bool.{Bool, true, false, cond}
+use mathlib.Core.List.{List, [], _∷_, _++_}
 use mathlib.Core.Option.{Option, none, some}
-use Prim.Native.Nat.{ℕ, zero, suc, _+_, _-_, _*_, _/_, _%_, _^_, _<_, _≤_}
+use Prim.Native.Nat.{ℕ, zero, suc, _+_, _/_, _^_, _<_, _≤_}
 use native.Mathlib.Omega.{arith}
 use native.Mathlib.Nat.{div-add-mod, div-lt-iff-lt-mul, pow-suc}
-use lib.Dec.{eqb, ltb, leb}
+use lib.Dec.{ltb}
 use lib.ListN.{length, length-append}
 use borrow.Author.Tests.{ltb-true, lt-ltb, not-true}
-use Rattle.sheets.specs.Rule.{Rule, is, _and_, each, passes, Meets}
-use Rattle.sheets.specs.Bytes.{Bytes, ascii, all, lacks, same}
-use Rattle.sheets.specs.Answer.{Answer, refused, given, _>>=_, when}
+use Rattle.sheets.specs.Rule.{Rule, is, _and_, each, Meets}
+use Rattle.sheets.specs.Bytes.{Bytes, same}
+use Rattle.sheets.specs.Answer.{given}
 use Rattle.sheets.specs.Utf8.{isUtf8}
 use Rattle.sheets.specs.Field.{Pair, before, firstAfter, pairsRule, metadataRule, textRule}
 use Rattle.sheets.specs.Plain.{plainPairs}
 use Rattle.sheets.specs.Demand3.{noReserved}
-use Rattle.sheets.specs.Metadata.{little, littleValue, cutAt, takeText, takePairs, countOf, readBlock, writeText32, writePairs, metadataToBytes, nameKey, metadataKey, reserved, Extension, insertNew, insertOver, ordinary, orElse, valueOf, extensionOf, somePairs, meaning, metadataFromBytes, orNone, withMetadata, blockOf, schemaMetadata}
-use Rattle.sheets.proofs.Tests.{when-met, passing, meets}
+use Rattle.sheets.specs.Metadata.{little, littleValue, cutAt, takeText, takePairs, readBlock, writeText32, writePairs, metadataToBytes, nameKey, metadataKey, reserved, Extension, insertNew, insertOver, ordinary, orElse, valueOf, somePairs, meaning, metadataFromBytes, orNone, withMetadata, blockOf, schemaMetadata}
 use Rattle.sheets.proofs.BytesLaws.{same-eq, same-refl}
 
 -- ── numbers in bytes, at every width

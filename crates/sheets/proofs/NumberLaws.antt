@@ -1,18 +1,17 @@
 -- Numbers read back from their digits. Assumes nothing.
-use mathlib.Core.Path.{_≡_, refl, sym, _∙_, ap, subst}
-use mathlib.Core.Logic.{_≢_}
-use mathlib.Core.Bool.{Bool, true, false, _&&_, not, cond}
-use mathlib.Core.List.{List, [], _∷_, _++_}
-use Prim.Native.Nat.{ℕ, zero, suc, _+_, _*_, _-_, _/_, _%_, _<_, _≤_}
+use mathlib.Core.Path.{_≡_, refl, _∙_, ap}
+use mathlib.Core.Bool.{Bool, true, false, _&&_, not}
+use mathlib.Core.List.{[], _∷_}
+use Prim.Native.Nat.{ℕ, zero, suc, _+_, _/_, _%_, _<_}
 use native.Mathlib.Omega.{arith}
-use native.Mathlib.Nat.{div-add-mod', mod-lt}
+use native.Mathlib.Nat.{div-add-mod'}
 use lib.Dec.{eqb, ltb, leb}
 use borrow.Author.Tests.{ltb-true, ltb-false, le-leb, leb-true, ne-eqb}
 use lib.IntN.{ℤ, pos, negsuc}
-use Rattle.sheets.specs.Refusal.{Refusal, badLines}
-use Rattle.sheets.specs.Rule.{Rule, is, _and_, passes, Meets}
+use Rattle.sheets.specs.Refusal.{badLines}
+use Rattle.sheets.specs.Rule.{is, _and_, Meets}
 use Rattle.sheets.specs.Bytes.{Bytes, all, lacks}
-use Rattle.sheets.specs.Answer.{Answer, refused, given, _>>=_, when}
+use Rattle.sheets.specs.Answer.{given}
 use Rattle.sheets.specs.Number.{isDigit, digits, decimal, valueFrom, lean, readNumber, writeSigned, readSigned}
 use Rattle.sheets.proofs.Tests.{when-met, and-left, and-right, not-given}
 use Rattle.sheets.proofs.BytesLaws.{all-weaken, all-lacks}

@@ -1,18 +1,17 @@
 -- The plain form is exported as the field is, keeps the rules, and has no more levels. Assumes nothing.
-use mathlib.Core.Path.{_≡_, refl, sym, _∙_, ap, subst}
+use mathlib.Core.Path.{_≡_, refl}
 use mathlib.Core.Bool.{Bool, true, false}
-use mathlib.Core.List.{List, [], _∷_, _++_}
+use mathlib.Core.List.{List, [], _∷_}
 use mathlib.Core.Option.{Option, none, some}
-use Prim.Native.Nat.{ℕ, zero, suc, _+_, _^_, _<_, _≤_, max}
+use Prim.Native.Nat.{ℕ, zero, suc, _^_, _≤_}
 use native.Mathlib.Omega.{arith}
-use lib.Dec.{eqb, ltb, leb}
-use lib.IntN.{ℤ, pos}
+use lib.Dec.{leb}
 use borrow.Author.Tests.{leb-true}
-use Rattle.sheets.specs.Rule.{Rule, is, _and_, each, Meets}
+use Rattle.sheets.specs.Rule.{Rule, is, _and_, Meets}
 use Rattle.sheets.specs.Bytes.{Bytes}
-use Rattle.sheets.specs.Answer.{Answer, refused, given, _>>=_}
-use Rattle.sheets.specs.Schema.{Schema, Schemas, end, _&_, Dictionary, absent, present}
-use Rattle.sheets.specs.Field.{Pair, Info, TimeUnit, second, Scalar, leaf, timestamp, fixedSizeBinary, decimalType, Nesting, Grouping, struct, union, ArrowDataType, scalar, nested, grouped, dictionary, extension, Fields, nil, add, Field, countFields, textRule, scalarRule, groupingRule, metadataRule, infoRule, typeRule, fieldsRule, fieldRule, typeLevels, fieldsLevels, fieldLevels}
+use Rattle.sheets.specs.Answer.{_>>=_}
+use Rattle.sheets.specs.Schema.{Schemas, end, _&_, Dictionary, absent, present}
+use Rattle.sheets.specs.Field.{Pair, Info, Scalar, leaf, timestamp, fixedSizeBinary, decimalType, Grouping, struct, union, ArrowDataType, scalar, nested, grouped, dictionary, extension, Fields, nil, add, Field, countFields, textRule, scalarRule, groupingRule, metadataRule, infoRule, typeRule, fieldsRule, fieldRule, typeLevels, fieldsLevels, fieldLevels}
 use Rattle.sheets.specs.Plain.{plainZone, plainPairs, plainInfo, plainScalar, plainGrouping, plainType, plainFields, plain}
 use Rattle.sheets.specs.Format.{orEmpty, scalarFormat, nestingFormat, groupingFormat, indexFormat}
 use Rattle.sheets.specs.Metadata.{Extension, orNone, schemaMetadata}

@@ -1,21 +1,21 @@
 -- Reading lines refuses with 2 and with nothing else: shown for a chain, and so for every reader of columns, lines and trees. Assumes nothing.
-use mathlib.Core.Path.{_≡_, refl, sym, _∙_, ap}
+use mathlib.Core.Path.{_≡_, refl, sym, _∙_}
 use mathlib.Core.Bool.{Bool, true, false, _&&_, cond}
 use mathlib.Core.List.{List, [], _∷_}
-use mathlib.Core.Option.{Option, some}
+use mathlib.Core.Option.{some}
 use Prim.Native.Nat.{ℕ, zero, suc, _+_, _*_, _-_}
 use native.Mathlib.Omega.{arith}
 use lib.Dec.{eqb, leb}
-use lib.IntN.{ℤ, pos}
+use lib.IntN.{pos}
 use Rattle.sheets.specs.Refusal.{Refusal, badLines}
 use Rattle.sheets.specs.Rule.{Rule, is, _and_, passes}
 use Rattle.sheets.specs.Bytes.{Bytes, ascii, same, all, split}
 use Rattle.sheets.specs.Answer.{Answer, refused, given, _>>=_, when, decide}
 use Rattle.sheets.specs.Number.{readNumber, readSigned, negative, lean, isDigit, valueFrom}
 use Rattle.sheets.specs.Text.{digitValue, unhex, readText}
-use Rattle.sheets.specs.Codec.{Codec, Row, number, signed, text, noColumns, readColumn, done, _▸_}
+use Rattle.sheets.specs.Codec.{noColumns, readColumn}
 use Rattle.sheets.specs.Sheet.{endedLines}
-use Rattle.sheets.specs.Schema.{Schema, Schemas, Dictionary, Line, schema, nodeOf, childrenOf, dictionaryOf, schemaLine, takeChildren, takeDictionary, placeSchema, schemaTrees}
+use Rattle.sheets.specs.Schema.{Schema, childrenOf, dictionaryOf, schemaLine, takeChildren, takeDictionary, schemaTrees}
 use Rattle.sheets.proofs.Tests.{not-given}
 
 -- an answer that is refused with 2 if it is refused

@@ -1,29 +1,27 @@
 -- Import of an export is the plain form. Assumes nothing.
-use mathlib.Core.Path.{_≡_, refl, sym, _∙_, ap, subst}
-use mathlib.Core.Bool.{Bool, true, false, _&&_, _||_, not, cond}
-use mathlib.Core.List.{List, [], _∷_, _++_}
+use mathlib.Core.Path.{_≡_, refl, ap, subst}
+use mathlib.Core.Bool.{Bool, true, false}
 use mathlib.Core.Option.{Option, none, some}
-use Prim.Native.Nat.{ℕ, zero, suc, _+_, _-_, _^_, _<_, _≤_}
+use Prim.Native.Nat.{ℕ, zero, suc, _+_, _^_}
 use native.Mathlib.Omega.{arith}
-use lib.Dec.{eqb, ltb, leb}
-use lib.IntN.{ℤ, pos, negsuc}
-use lib.ListN.{length}
+use lib.Dec.{ltb, leb}
+use lib.IntN.{pos}
 use borrow.Author.Tests.{ltb-true, leb-true}
-use Rattle.sheets.specs.Refusal.{Refusal, zeroByte}
-use Rattle.sheets.specs.Rule.{Rule, is, _and_, each, passes, Meets}
+use Rattle.sheets.specs.Refusal.{zeroByte}
+use Rattle.sheets.specs.Rule.{Rule, is, _and_, passes, Meets}
 use Rattle.sheets.specs.Bytes.{Bytes, lacks}
-use Rattle.sheets.specs.Answer.{Answer, refused, given, _>>=_, when}
+use Rattle.sheets.specs.Answer.{Answer, given, _>>=_}
 use Rattle.sheets.specs.Utf8.{isUtf8}
 use Rattle.sheets.specs.Schema.{Node, Schema, schema, Schemas, end, _&_, Dictionary, absent, present, countSchemas}
-use Rattle.sheets.specs.Field.{Pair, Info, Scalar, leaf, Nesting, list, largeList, fixedSizeList, map, Grouping, ArrowDataType, scalar, nested, grouped, dictionary, extension, Fields, nil, add, Field, countFields, infoRule, typeRule, fieldsRule, fieldRule, scalarRule, leafRule}
+use Rattle.sheets.specs.Field.{Info, leaf, Nesting, list, largeList, fixedSizeList, map, ArrowDataType, scalar, nested, grouped, dictionary, extension, Fields, nil, add, Field, countFields, infoRule, typeRule, fieldsRule, fieldRule, scalarRule, leafRule}
 use Rattle.sheets.specs.Demand3.{ownKeys as infoFree}
 use Rattle.sheets.proofs.ConditionLaws.{typeFree, fieldsFree, fieldFree}
 use Rattle.sheets.specs.Plain.{plainInfo, plainType, plainFields, plain}
-use Rattle.sheets.specs.Format.{readFormat, scalarFormat, nestingFormat, groupingFormat, indexFormat, toIntegerType}
-use Rattle.sheets.specs.Metadata.{Extension, orNone, schemaMetadata, metadataFromBytes}
+use Rattle.sheets.specs.Format.{scalarFormat, nestingFormat, groupingFormat, indexFormat}
+use Rattle.sheets.specs.Metadata.{Extension, schemaMetadata}
 use Rattle.sheets.specs.Flags.{bit, nullable}
-use Rattle.sheets.specs.Import.{toDtype, toFieldNode, toField, toFields, toValues, extended, allOf}
-use Rattle.sheets.specs.Export.{flag, sortedFlag, schemaNode, valuesInfo, outermost, schemaNewOf, schemaChildren, schemaNew}
+use Rattle.sheets.specs.Import.{toDtype, toField, toFields, toValues, extended, allOf}
+use Rattle.sheets.specs.Export.{flag, sortedFlag, schemaNode, valuesInfo, schemaNewOf, schemaChildren, schemaNew}
 use Rattle.sheets.proofs.Tests.{met-when, first-gave, meets, every, at-each}
 use Rattle.sheets.proofs.FormatLaws.{read-scalar, utf8-scalar, sortedOf, read-nesting, utf8-nesting, read-grouping, utf8-grouping, read-index}
 use Rattle.sheets.proofs.MetadataLaws.{extensionRule, shortBlock, read-metadata}

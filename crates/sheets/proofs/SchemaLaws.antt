@@ -1,22 +1,21 @@
 -- A schema sheet reads back as the schema it was written from. Assumes nothing.
 use mathlib.Core.Path.{_≡_, refl, sym, _∙_, ap, subst}
-use mathlib.Core.Bool.{Bool, true, false}
+use mathlib.Core.Bool.{true}
 use mathlib.Core.List.{List, [], _∷_, _++_, append-assoc, append-nil}
-use mathlib.Core.Option.{Option, none, some}
-use Prim.Native.Nat.{ℕ, zero, suc, _≤_}
+use Prim.Native.Nat.{ℕ, zero, suc}
 use native.Mathlib.Omega.{arith}
-use lib.Dec.{eqb, ltb, leb}
+use lib.Dec.{leb}
 use lib.ListN.{length}
-use Rattle.sheets.specs.Refusal.{Refusal, badLines, tooDeep}
-use Rattle.sheets.specs.Rule.{Rule, is, _and_, passes, Meets}
-use Rattle.sheets.specs.Bytes.{Bytes, all, lacks, split, join}
-use Rattle.sheets.specs.Answer.{Answer, refused, given, _>>=_, when, found}
-use Rattle.sheets.specs.Schema.{Node, Schema, schema, Schemas, end, _&_, Dictionary, absent, present, Line, lineOf, nodeOf, childrenOf, dictionaryOf, countSchemas, countDictionary, schemaLine, schemaLines, childrenLines, dictionaryLines, takeChildren, takeDictionary, placeSchema, schemaTrees, schemaRule, childrenRule, dictionaryRule, schemaLevels, schemaHeading, writeSchemaSheet, readSchemaSheet}
-use Rattle.sheets.proofs.Tests.{when-met, passing, first-gave, met-when, not-given}
+use Rattle.sheets.specs.Refusal.{badLines, tooDeep}
+use Rattle.sheets.specs.Rule.{Rule, is, _and_, Meets}
+use Rattle.sheets.specs.Bytes.{Bytes, lacks}
+use Rattle.sheets.specs.Answer.{given, _>>=_, when}
+use Rattle.sheets.specs.Schema.{Node, Schema, schema, Schemas, end, _&_, Dictionary, absent, present, Line, lineOf, nodeOf, childrenOf, dictionaryOf, countSchemas, countDictionary, schemaLine, schemaLines, childrenLines, dictionaryLines, takeChildren, takeDictionary, placeSchema, schemaTrees, schemaRule, schemaLevels, schemaHeading, writeSchemaSheet, readSchemaSheet}
+use Rattle.sheets.proofs.Tests.{passing, first-gave, met-when, not-given}
 use Rattle.sheets.proofs.BytesLaws.{eachLacks, each-append}
-use Rattle.sheets.specs.Codec.{Codec, Row, number, signed, text, done, _▸_, line}
+use Rattle.sheets.specs.Codec.{number, signed, text, done, _▸_}
 use Rattle.sheets.proofs.TextLaws.{bytesRule}
-use Rattle.sheets.proofs.CodecLaws.{_⊗_, any, Lawful, LawfulRow, number-lawful, signed-lawful, text-lawful, done-lawful, column-lawful, line-back, line-once, line-ends}
+use Rattle.sheets.proofs.CodecLaws.{_⊗_, any, LawfulRow, number-lawful, signed-lawful, text-lawful, done-lawful, column-lawful, line-back, line-once, line-ends}
 use Rattle.sheets.specs.Sheet.{readSheet, writeSheet, single}
 use Rattle.sheets.proofs.SheetLaws.{read-sheet}
 use Rattle.sheets.proofs.InverseLaws.{sheet-read}

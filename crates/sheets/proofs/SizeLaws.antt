@@ -1,21 +1,20 @@
 -- Within a sheet of 65,535 bytes nothing is longer than a 32-bit length counts. Assumes nothing.
-use mathlib.Core.Path.{_≡_, refl, sym, _∙_, ap, subst}
+use mathlib.Core.Path.{_≡_, refl}
 use mathlib.Core.Bool.{Bool, true, false}
 use mathlib.Core.List.{List, [], _∷_, _++_}
 use mathlib.Core.Option.{Option, none, some}
-use Prim.Native.Nat.{ℕ, zero, suc, _+_, _*_, _^_, _<_, _≤_}
+use Prim.Native.Nat.{ℕ, zero, suc, _+_, _*_, _^_, _≤_}
 use native.Mathlib.Omega.{arith}
-use lib.Dec.{eqb, ltb, leb}
+use lib.Dec.{leb}
 use lib.ListN.{length, length-append}
 use borrow.Author.Tests.{lt-ltb, le-leb, leb-true}
-use Rattle.sheets.specs.Rule.{Rule, is, _and_, each, Meets}
+use Rattle.sheets.specs.Rule.{Rule, is, each, Meets}
 use Rattle.sheets.specs.Bytes.{Bytes, join}
-use Rattle.sheets.specs.Answer.{Answer, refused, given, _>>=_}
 use Rattle.sheets.specs.Number.{decimal, writeSigned}
 use Rattle.sheets.specs.Text.{hex, writeText}
 use Rattle.sheets.specs.Sheet.{ended, writeSheet}
 use Rattle.sheets.specs.Schema.{Node, Schema, schema, Schemas, end, _&_, Dictionary, absent, present, countSchemas, countDictionary, schemaLine, lineOf, schemaLines, childrenLines, dictionaryLines, schemaHeading, writeSchemaSheet}
-use Rattle.sheets.specs.Field.{Info, Nesting, ArrowDataType, scalar, nested, grouped, dictionary, extension, Fields, nil, add, Field, countFields}
+use Rattle.sheets.specs.Field.{Info, ArrowDataType, scalar, nested, grouped, dictionary, extension, Fields, nil, add, Field, countFields}
 use Rattle.sheets.specs.FieldSheet.{typeLines, fieldsLines, fieldHeading, writeFieldSheet}
 use Rattle.sheets.proofs.MetadataLaws.{shortBlock}
 use Rattle.sheets.proofs.RoundTrip.{schemaShort, childrenShort, dictionaryShort}

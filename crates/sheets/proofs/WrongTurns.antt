@@ -1,11 +1,11 @@
 -- Sheets that tell the wrong turns of document 01 from the right ones, and each refusal from its neighbours in the order of visiting: one table,
 -- by computation. The answers are the source's. Assumes nothing.
-use mathlib.Core.Path.{_≡_, refl}
+use mathlib.Core.Path.{refl}
 use mathlib.Core.List.{List, [], _∷_, _++_}
 use Prim.Native.Nat.{ℕ}
 use Rattle.sheets.specs.Bytes.{Bytes, ascii}
 use Rattle.sheets.specs.Outcome.{imported, exported, plained}
-use Rattle.sheets.specs.Bench.{Case, Right, numbered, fieldSheet, schemaSheet, imports, importRefuses, exports, times}
+use Rattle.sheets.specs.Bench.{Case, Right, numbered, fieldSheet, imports, importRefuses, exports, times}
 
 abbrev exportRefuses : Bytes → ℕ → Case
 exportRefuses a n = record { got = numbered (exported (fieldSheet a)); wanted = (n, []) }

@@ -2,7 +2,6 @@
 use mathlib.Core.Path.{_≡_, refl}
 use mathlib.Core.List.{List, [], _∷_, _++_, map}
 use Prim.Native.Nat.{ℕ, zero, suc}
-use Prim.Native.String.{String}
 use Rattle.sheets.specs.Refusal.{numberOf}
 use Rattle.sheets.specs.Bytes.{Bytes, lineEnd, ascii}
 use Rattle.sheets.specs.Answer.{Answer, refused, given}

@@ -1,16 +1,16 @@
 -- Export: `ArrowSchema::new`, a schema from a field. Assumes nothing.
-use mathlib.Core.Bool.{Bool, true, false, _&&_, cond}
-use mathlib.Core.List.{List, [], _∷_, _++_}
+use mathlib.Core.Bool.{Bool, true, false}
+use mathlib.Core.List.{[]}
 use mathlib.Core.Option.{Option, none, some}
-use Prim.Native.Nat.{ℕ, zero, suc, _+_, _*_}
-use lib.IntN.{ℤ, pos, negsuc}
-use Rattle.sheets.specs.Refusal.{Refusal, zeroByte}
+use Prim.Native.Nat.{ℕ, zero, suc, _+_}
+use lib.IntN.{pos}
+use Rattle.sheets.specs.Refusal.{zeroByte}
 use Rattle.sheets.specs.Bytes.{Bytes, lacks}
-use Rattle.sheets.specs.Rule.{Rule, is, _and_}
-use Rattle.sheets.specs.Answer.{Answer, refused, given, _>>=_, when}
+use Rattle.sheets.specs.Rule.{_and_}
+use Rattle.sheets.specs.Answer.{Answer, given, _>>=_, when}
 use Rattle.sheets.specs.Flags.{ORDERED, NULLABLE, SORTED}
-use Rattle.sheets.specs.Schema.{Node, Schema, schema, Schemas, end, _&_, Dictionary, absent, present}
-use Rattle.sheets.specs.Field.{Info, Nesting, list, largeList, fixedSizeList, map, ArrowDataType, scalar, nested, grouped, dictionary, extension, Fields, nil, add, Field, countFields}
+use Rattle.sheets.specs.Schema.{Schema, schema, Schemas, end, _&_, Dictionary, absent, present}
+use Rattle.sheets.specs.Field.{Info, Nesting, list, largeList, fixedSizeList, map, ArrowDataType, scalar, nested, grouped, dictionary, extension, Fields, nil, add, Field}
 use Rattle.sheets.specs.Format.{toFormat}
 use Rattle.sheets.specs.Metadata.{Extension, schemaMetadata}
 

@@ -2,14 +2,14 @@
 -- hold. Types that behave alike stand under one constructor: scalar types have no children, nested types have one field, grouped types any
 -- number. Assumes nothing.
 use mathlib.Core.Bool.{Bool, true, false, _&&_, _||_, cond}
-use mathlib.Core.List.{List, [], _∷_, _++_}
+use mathlib.Core.List.{List, [], _∷_}
 use mathlib.Core.Option.{Option, none, some}
 use Prim.Native.Nat.{ℕ, zero, suc, _^_, max}
 use lib.Dec.{eqb, leb, ltb}
-use lib.IntN.{ℤ, pos, negsuc}
+use lib.IntN.{ℤ, pos}
 use lib.Signed.{mag}
 use Rattle.sheets.specs.Rule.{Rule, is, _and_, each}
-use Rattle.sheets.specs.Bytes.{Bytes, same}
+use Rattle.sheets.specs.Bytes.{Bytes}
 use Rattle.sheets.specs.Utf8.{isUtf8}
 use Rattle.sheets.specs.Kind
 

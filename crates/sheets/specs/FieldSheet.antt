@@ -3,16 +3,15 @@ use mathlib.Core.Bool.{Bool, true, false, _&&_, cond}
 use mathlib.Core.List.{List, [], _∷_, _++_}
 use mathlib.Core.List.{map as mapList}
 use mathlib.Core.Option.{Option, none, some}
-use Prim.Native.Nat.{ℕ, zero, suc, _+_, _^_}
-use lib.Dec.{eqb, leb, ltb}
-use lib.IntN.{ℤ, pos, negsuc}
-use Rattle.sheets.specs.Refusal.{Refusal, badLines, tooDeep}
+use Prim.Native.Nat.{ℕ, zero, suc, _+_}
+use lib.Dec.{eqb, leb}
+use Rattle.sheets.specs.Refusal.{badLines, tooDeep}
 use Rattle.sheets.specs.Bytes.{Bytes, comma, equals, ascii, split, join, same}
-use Rattle.sheets.specs.Rule.{Rule, is, _and_}
+use Rattle.sheets.specs.Rule.{is}
 use Rattle.sheets.specs.Answer.{Answer, refused, given, _>>=_, when, readEach}
 use Rattle.sheets.specs.Number.{decimal, readNumber, readSigned, writeSigned}
 use Rattle.sheets.specs.Text.{hex, unhex, writeText, readText}
-use Rattle.sheets.specs.Codec.{Codec, Row, number, raw, done, _▸_, line}
+use Rattle.sheets.specs.Codec.{Codec, number, raw, done, _▸_, line}
 use Rattle.sheets.specs.Sheet.{levelLimit, readSheet, writeSheet, single}
 use Rattle.sheets.specs.Kind
 use Rattle.sheets.specs.Field.{Pair, Info, TimeUnit, unitPlace, second, millisecond, microsecond, nanosecond, Width, bits128, bits32, bits64, bits256, Scalar, leaf, timestamp, fixedSizeBinary, decimalType, Nesting, list, largeList, fixedSizeList, map, Grouping, struct, union, ArrowDataType, scalar, nested, grouped, dictionary, extension, Fields, nil, add, Field, countFields, isLeaf, fieldRule, fieldLevels}

@@ -1,6 +1,6 @@
 -- Document 01, 'Schema sheet': "The flag bits 1, 2 and 4 belong to the schema line and bear names there: ordered dictionary, nullable, sorted
 -- map keys." Assumes nothing.
-use mathlib.Core.Bool.{Bool, true, false, not}
+use mathlib.Core.Bool.{Bool, not}
 use Prim.Native.Nat.{ℕ, _/_, _%_}
 use lib.Dec.{eqb}
 use lib.IntN.{ℤ, pos, negsuc, natAbs}

@@ -4,12 +4,12 @@ use mathlib.Core.Bool.{Bool, true, false, _&&_, cond}
 use mathlib.Core.List.{List, [], _∷_, _++_}
 use mathlib.Core.List.{map as mapList}
 use mathlib.Core.Option.{Option, none, some}
-use Prim.Native.Nat.{ℕ, zero, suc, _+_, _^_, pred}
+use Prim.Native.Nat.{ℕ, zero, suc, _+_, _^_}
 use lib.Dec.{eqb, leb, ltb}
 use lib.IntN.{ℤ, pos, negsuc}
-use Rattle.sheets.specs.Refusal.{Refusal, unsupportedFormat, badNumber, badDecimal, badIndex, noFormat, noUnionIds}
+use Rattle.sheets.specs.Refusal.{unsupportedFormat, badNumber, badDecimal, badIndex, noFormat, noUnionIds}
 use Rattle.sheets.specs.Bytes.{Bytes, comma, colon, plusSign, minusSign, ascii, same, split, join, all}
-use Rattle.sheets.specs.Rule.{Rule, is, _and_}
+use Rattle.sheets.specs.Rule.{is}
 use Rattle.sheets.specs.Answer.{Answer, refused, given, _>>=_, when, found, readEach}
 use Rattle.sheets.specs.Number.{decimal, valueFrom, isDigit, writeSigned}
 use Rattle.sheets.specs.Field.{TimeUnit, unitPlace, second, millisecond, microsecond, nanosecond, Width, bits128, bits32, bits64, bits256, Scalar, leaf, timestamp, fixedSizeBinary, decimalType, Nesting, list, largeList, fixedSizeList, map, Grouping, struct, union, ArrowDataType, scalar, nested, grouped, dictionary, extension, countFields, UnionMode, upFrom}

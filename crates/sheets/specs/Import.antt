@@ -1,18 +1,16 @@
 -- Import: `to_field` and `to_dtype`, a field from a schema. "A field is read through its type, and a type through its fields." Assumes nothing.
-use mathlib.Core.Bool.{Bool, true, false, not, cond}
-use mathlib.Core.List.{List, [], _∷_, _++_}
+use mathlib.Core.List.{List, [], _∷_}
 use mathlib.Core.Option.{Option, none, some}
-use Prim.Native.Nat.{ℕ, zero, suc, _+_, _*_, _/_, _%_}
-use lib.Dec.{eqb, leb, ltb}
-use lib.IntN.{ℤ, pos, negsuc, natAbs}
-use Rattle.sheets.specs.Refusal.{Refusal, nullFormat, notUtf8, noChild}
+use Prim.Native.Nat.{zero, suc}
+use lib.IntN.{ℤ}
+use Rattle.sheets.specs.Refusal.{nullFormat, notUtf8, noChild}
 use Rattle.sheets.specs.Bytes.{Bytes}
-use Rattle.sheets.specs.Rule.{Rule, is, _and_}
-use Rattle.sheets.specs.Answer.{Answer, refused, given, _>>=_, when, found}
+use Rattle.sheets.specs.Rule.{is}
+use Rattle.sheets.specs.Answer.{Answer, refused, given, _>>=_, when}
 use Rattle.sheets.specs.Flags.{isOrdered, isSorted, nullable}
 use Rattle.sheets.specs.Utf8.{isUtf8}
 use Rattle.sheets.specs.Schema.{Node, Schema, schema, Schemas, end, _&_, Dictionary, absent, present}
-use Rattle.sheets.specs.Field.{Info, ArrowDataType, scalar, nested, grouped, dictionary, extension, Fields, nil, add, Field}
+use Rattle.sheets.specs.Field.{ArrowDataType, scalar, nested, grouped, dictionary, extension, Fields, nil, add, Field}
 use Rattle.sheets.specs.Format.{Format, ofScalar, ofNesting, ofGrouping, readFormat, toIntegerType}
 use Rattle.sheets.specs.Metadata.{Extension, metadataFromBytes}
 

@@ -1,12 +1,12 @@
 -- Document 01, 'Mappings': what the source's methods of `ArrowDataType` answer; where they have no answer, 15. Assumes nothing.
-use mathlib.Core.Bool.{Bool, true, false, _&&_, _||_, cond}
+use mathlib.Core.Bool.{Bool, true, false, _||_, cond}
 use mathlib.Core.List.{List, [], _∷_}
 use mathlib.Core.Option.{Option, none, some}
 use Prim.Native.Nat.{ℕ, zero, suc, _+_, _-_}
 use lib.Dec.{eqb, leb, ltb}
-use Rattle.sheets.specs.Refusal.{Refusal, undefinedMapping}
+use Rattle.sheets.specs.Refusal.{undefinedMapping}
 use Rattle.sheets.specs.Answer.{Answer, refused, given, _>>=_, found}
-use Rattle.sheets.specs.Field.{Info, Width, bits128, bits32, bits64, bits256, Scalar, leaf, timestamp, fixedSizeBinary, decimalType, Nesting, list, largeList, fixedSizeList, map, Grouping, struct, union, ArrowDataType, scalar, nested, grouped, dictionary, extension, Fields, nil, add, Field}
+use Rattle.sheets.specs.Field.{bits128, bits32, bits64, bits256, Scalar, leaf, timestamp, fixedSizeBinary, decimalType, Nesting, list, largeList, fixedSizeList, map, Grouping, struct, union, ArrowDataType, scalar, nested, grouped, dictionary, extension, Fields, nil, add, Field}
 use Rattle.sheets.specs.Plain.{indexType}
 use Rattle.sheets.specs.Kind
 use Rattle.sheets.specs.IntegerType

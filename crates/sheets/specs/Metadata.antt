@@ -1,13 +1,13 @@
 -- Document 01, 'Metadata block': "a signed 32-bit count, then length, key, length, value. Our lengths are little-endian". Assumes nothing.
-use mathlib.Core.Bool.{Bool, true, false, _&&_, _||_, not, cond}
+use mathlib.Core.Bool.{Bool, true, _||_, cond}
 use mathlib.Core.List.{List, [], _∷_, _++_}
 use mathlib.Core.Option.{Option, none, some}
 use Prim.Native.Nat.{ℕ, zero, suc, _+_, _*_, _/_, _%_, _^_}
-use lib.Dec.{eqb, leb, ltb}
+use lib.Dec.{ltb}
 use lib.ListN.{length}
-use Rattle.sheets.specs.Refusal.{Refusal, notUtf8, badMetadata}
+use Rattle.sheets.specs.Refusal.{notUtf8, badMetadata}
 use Rattle.sheets.specs.Bytes.{Bytes, ascii, same}
-use Rattle.sheets.specs.Rule.{Rule, is, _and_}
+use Rattle.sheets.specs.Rule.{is}
 use Rattle.sheets.specs.Answer.{Answer, refused, given, _>>=_, when}
 use Rattle.sheets.specs.Utf8.{isUtf8}
 use Rattle.sheets.specs.Field.{Pair, before}

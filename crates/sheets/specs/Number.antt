@@ -1,12 +1,12 @@
 -- Document 01, 'Schema sheet': "Numbers are decimal without plus, spare zeros or `-0`". It holds for both sheets. Assumes nothing.
-use mathlib.Core.Bool.{Bool, true, false, _&&_, _||_, not, cond}
-use mathlib.Core.List.{List, [], _∷_}
+use mathlib.Core.Bool.{Bool, true, false, _&&_, not, cond}
+use mathlib.Core.List.{[], _∷_}
 use Prim.Native.Nat.{ℕ, zero, suc, _+_, _*_, _-_, _/_, _%_}
 use lib.Dec.{eqb, leb, ltb}
 use lib.IntN.{ℤ, pos, negsuc}
-use Rattle.sheets.specs.Refusal.{Refusal, badLines}
+use Rattle.sheets.specs.Refusal.{badLines}
 use Rattle.sheets.specs.Bytes.{Bytes, minusSign, all}
-use Rattle.sheets.specs.Rule.{Rule, is, _and_}
+use Rattle.sheets.specs.Rule.{is, _and_}
 use Rattle.sheets.specs.Answer.{Answer, refused, given, _>>=_, when}
 
 -- `0` to `9`

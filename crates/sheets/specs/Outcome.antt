@@ -1,7 +1,7 @@
 -- What each public call answers (document 01, 'Who is turned back', 'Agreement on the contracts'): its number, its length, and every byte of the
 -- buffer that was lent. Assumes nothing.
-use mathlib.Core.Bool.{Bool, true, false, cond}
-use mathlib.Core.List.{List, [], _∷_, _++_}
+use mathlib.Core.Bool.{Bool, cond}
+use mathlib.Core.List.{_++_}
 use Prim.Native.Nat.{ℕ}
 use lib.Dec.{leb}
 use lib.ListN.{length, drop, replicate}
@@ -11,12 +11,12 @@ use Rattle.sheets.specs.Answer.{Answer, refused, given, _>>=_}
 use Rattle.sheets.specs.Number.{decimal}
 use Rattle.sheets.specs.Format.{rows}
 use Rattle.sheets.specs.Schema.{readSchemaSheet, writeSchemaSheet}
-use Rattle.sheets.specs.Field.{Field, ArrowDataType}
+use Rattle.sheets.specs.Field.{ArrowDataType}
 use Rattle.sheets.specs.FieldSheet.{readFieldSheet, writeFieldSheet, writeBareSheet, toNat}
 use Rattle.sheets.specs.Import.{toField}
 use Rattle.sheets.specs.Export.{schemaNew}
 use Rattle.sheets.specs.Plain.{plain}
-use Rattle.sheets.specs.Mappings.{PhysicalType, leafRows, withDtype, toPhysicalType, underlyingPhysicalType, toStorage, toStorageRecursive, innerDtype, getChild, isNested, containsDictionary, fromIntegerType, fromPrimitiveType}
+use Rattle.sheets.specs.Mappings.{PhysicalType, withDtype, toPhysicalType, underlyingPhysicalType, toStorage, toStorageRecursive, innerDtype, getChild, isNested, containsDictionary, fromIntegerType, fromPrimitiveType}
 
 -- ── the sheet that is answered, or the refusal
 

@@ -5,7 +5,7 @@ use mathlib.Core.List.{List, [], _∷_}
 use mathlib.Core.Option.{Option, none, some}
 use Prim.Native.Nat.{ℕ, zero, suc, _+_}
 use Rattle.sheets.specs.Bytes.{Bytes}
-use Rattle.sheets.specs.Field.{Pair, Info, Scalar, leaf, timestamp, fixedSizeBinary, decimalType, Nesting, Grouping, struct, union, ArrowDataType, Fields, scalar, nested, grouped, dictionary, extension, nil, add, Field, countFields, upFrom}
+use Rattle.sheets.specs.Field.{Pair, Info, Scalar, leaf, timestamp, fixedSizeBinary, decimalType, Grouping, struct, union, ArrowDataType, Fields, scalar, nested, grouped, dictionary, extension, nil, add, Field, countFields, upFrom}
 use Rattle.sheets.specs.Kind
 
 -- "Timezone Some-empty becomes None"

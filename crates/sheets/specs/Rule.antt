@@ -1,6 +1,6 @@
 -- Rules: conjunctions of tests, read as a test that computes (`passes`) and as facts to prove or to use (`Meets`). Assumes nothing.
 use mathlib.Core.Path.{_≡_}
-use mathlib.Core.Bool.{Bool, true, false, _&&_}
+use mathlib.Core.Bool.{Bool, true, _&&_}
 use mathlib.Core.List.{List, [], _∷_}
 
 infixr 40 _and_

@@ -1,16 +1,16 @@
 -- Document 01, 'Schema sheet': the tree of the Arrow C data interface's `struct ArrowSchema`, its lines, and reading them. Assumes nothing.
-use mathlib.Core.Bool.{Bool, true, false, _&&_, cond}
+use mathlib.Core.Bool.{true}
 use mathlib.Core.List.{List, [], _∷_, _++_}
 use mathlib.Core.Option.{Option, none, some}
 use Prim.Native.Nat.{ℕ, zero, suc, _^_, max}
-use lib.Dec.{eqb, leb, ltb}
-use lib.IntN.{ℤ, pos, negsuc}
+use lib.Dec.{leb, ltb}
+use lib.IntN.{ℤ}
 use lib.Signed.{mag}
-use Rattle.sheets.specs.Refusal.{Refusal, badLines, tooDeep}
-use Rattle.sheets.specs.Bytes.{Bytes, ascii, split, join, lacks}
+use Rattle.sheets.specs.Refusal.{badLines, tooDeep}
+use Rattle.sheets.specs.Bytes.{Bytes, ascii, lacks}
 use Rattle.sheets.specs.Rule.{Rule, is, _and_}
 use Rattle.sheets.specs.Answer.{Answer, refused, given, _>>=_, when}
-use Rattle.sheets.specs.Codec.{Codec, Row, number, signed, text, done, _▸_, line}
+use Rattle.sheets.specs.Codec.{Codec, number, signed, text, done, _▸_, line}
 use Rattle.sheets.specs.Sheet.{levelLimit, readSheet, writeSheet, single}
 
 -- what a node says of itself; a text that is none is a null pointer, and `flags` is signed 64-bit

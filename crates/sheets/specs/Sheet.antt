@@ -1,14 +1,12 @@
 -- Document 01: what the two sheets share. "A sheet is the heading, compared byte for byte, then one line per node, the heading and every line
 -- ended by byte 10." Assumes nothing.
-use mathlib.Core.Bool.{Bool, true, false}
 use mathlib.Core.List.{List, [], _∷_, _++_}
-use mathlib.Core.Option.{Option, none, some}
 use Prim.Native.Nat.{ℕ}
 use lib.Dec.{leb}
 use lib.ListN.{length}
-use Rattle.sheets.specs.Refusal.{Refusal, notSheet, badLines}
+use Rattle.sheets.specs.Refusal.{notSheet, badLines}
 use Rattle.sheets.specs.Bytes.{Bytes, lineEnd, split, after}
-use Rattle.sheets.specs.Rule.{Rule, is}
+use Rattle.sheets.specs.Rule.{is}
 use Rattle.sheets.specs.Answer.{Answer, refused, given, _>>=_, when, found}
 
 -- "Sheets handed in have at most 65,535 bytes"

@@ -1,11 +1,11 @@
 -- Document 01, 'Schema sheet': "Texts are lowercase hexadecimal pairs; `-` is empty, `~` is a null pointer". It holds for both sheets, where `~`
 -- is none. Assumes nothing.
-use mathlib.Core.Bool.{Bool, true, false, _&&_, cond}
-use mathlib.Core.List.{List, [], _∷_}
+use mathlib.Core.Bool.{_&&_, cond}
+use mathlib.Core.List.{[], _∷_}
 use mathlib.Core.Option.{Option, none, some}
 use Prim.Native.Nat.{ℕ, zero, suc, _+_, _*_, _-_, _/_, _%_}
-use lib.Dec.{eqb, leb, ltb}
-use Rattle.sheets.specs.Refusal.{Refusal, badLines}
+use lib.Dec.{leb, ltb}
+use Rattle.sheets.specs.Refusal.{badLines}
 use Rattle.sheets.specs.Bytes.{Bytes, ascii, same}
 use Rattle.sheets.specs.Answer.{Answer, refused, given, _>>=_}
 

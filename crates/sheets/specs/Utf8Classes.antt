@@ -1,7 +1,7 @@
 -- UTF-8 "by one class for each of the 256 byte values" (document 01, 'Metadata block'): the classes, and the state that a byte's class
 -- leads to. That they decide Table 3-7 is the law `utf8-by-classes` in proofs/Utf8Laws. Assumes nothing.
-use mathlib.Core.Bool.{Bool, true, false, cond, _||_}
-use mathlib.Core.List.{List, [], _∷_}
+use mathlib.Core.Bool.{Bool, cond, _||_}
+use mathlib.Core.List.{[], _∷_}
 use Prim.Native.Nat.{ℕ}
 use lib.Dec.{leb, eqb}
 use Rattle.sheets.specs.Bytes.{Bytes}

@@ -1,6 +1,6 @@
 -- For each enumeration: a case stands at its own place; a case that is found at a place has it; where nothing is found the place is past the
 -- last, so no case has it. Assumes nothing.
-use mathlib.Core.Path.{_≡_, refl, sym, ap, _∙_}
+use mathlib.Core.Path.{_≡_, refl}
 use mathlib.Core.Option.{Option, none, some}
 use Prim.Native.Nat.{ℕ, _≤_}
 use native.Mathlib.Omega.{arith}
@@ -10,15 +10,12 @@ use Rattle.units.specs.At.{timeUnits, timeUnitOf, timeUnitAt, intervalUn
 use Rattle.units.proofs.AtLaws.{found-place, has, past}
 use Rattle.units.specs.declared.TimeUnit.{TimeUnit}
 use Rattle.units.specs.declared.TimeUnit.the-variants as TimeUnits
-use Rattle.units.specs.declared.TimeUnitAt.{TimeUnitAt}
 use Rattle.units.specs.declared.TimeUnitAt.the-variants as TimeUnitIs
 use Rattle.units.specs.declared.IntervalUnit.{IntervalUnit}
 use Rattle.units.specs.declared.IntervalUnit.the-variants as IntervalUnits
-use Rattle.units.specs.declared.IntervalUnitAt.{IntervalUnitAt}
 use Rattle.units.specs.declared.IntervalUnitAt.the-variants as IntervalUnitIs
 use Rattle.units.specs.declared.UnionMode.{UnionMode}
 use Rattle.units.specs.declared.UnionMode.the-variants as UnionModes
-use Rattle.units.specs.declared.UnionModeAt.{UnionModeAt}
 use Rattle.units.specs.declared.UnionModeAt.the-variants as UnionModeIs
 
 -- ── `TimeUnit`

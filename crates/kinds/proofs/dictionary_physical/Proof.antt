@@ -1,5 +1,5 @@
 -- The index type at the place, or none: `index-given` and `index-refused` say what follows.
-use mathlib.Core.Path.{sym, ap, _∙_}
+use mathlib.Core.Path.{sym, _∙_}
 use Rattle.kinds.proofs.PhysicalLaws.{index-given, index-refused}
 use borrow.Author.Needs.{needs}
 use Rattle.kinds.proofs.dictionary_physical.Statement.{statement}
