@@ -1,5 +1,2 @@
-pub mod TextLaws
-pub mod ByteLaws
-pub mod PartLaws
 pub mod NumbersLaws
 pub mod RecordLaws

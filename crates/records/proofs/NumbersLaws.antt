@@ -18,9 +18,10 @@ use Rattle.columns.specs.Columns.{part, FindsNumber}
 use Rattle.columns.specs.declared.NumberColumn.the-variants as Column
 use Rattle.columns.proofs.ColumnLaws.{column-of, column-part}
 use Rattle.records.specs.Text.{stopBefore, numbersText}
-use Rattle.records.specs.Reading.{Stands, Missing, isWord}
-use Rattle.records.proofs.TextLaws.{same-head, same-tail}
-use Rattle.records.proofs.PartLaws.{all-at}
+use Rattle.record_text.specs.Reading.{Stands, Missing}
+use Rattle.records.specs.Reading.{isWord}
+use Rattle.record_text.proofs.TextLaws.{same-head, same-tail}
+use Rattle.record_text.proofs.PartLaws.{all-at}
 
 -- the numbers of a line before its last, a space after each
 unfoldable pub spacedText : List ℕ → Bytes

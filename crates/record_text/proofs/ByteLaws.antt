@@ -14,9 +14,9 @@ use Rattle.sheets.proofs.TextLaws.{isByte}
 use Rattle.hex.specs.Hex.{isHex, bytesOf}
 use Rattle.hex.proofs.HexLaws.{twice-length, bytes-below}
 use Rattle.hex.proofs.PartLaws.{bytes-hex, is-hex-hex, hex-bytes}
-use Rattle.records.specs.Text.{isPlain, byteText}
-use Rattle.records.specs.Reading.{Stands, Missing}
-use Rattle.records.proofs.TextLaws.{same-head, same-tail, plain-text, other-text}
+use Rattle.record_text.specs.Text.{isPlain, byteText}
+use Rattle.record_text.specs.Reading.{Stands, Missing}
+use Rattle.record_text.proofs.TextLaws.{same-head, same-tail, plain-text, other-text}
 
 -- the two bytes after the first
 abbrev pub pairAt : Bytes → ℕ → Bytes

@@ -10,7 +10,7 @@ use lib.ListN.{length, getD, drop}
 use borrow.Author.Tests.{ltb-true, ltb-false}
 use Rattle.sheets.specs.Bytes.{Bytes}
 use Rattle.sheets.specs.Text.{hexDigit, hex}
-use Rattle.records.specs.Text.{isPlain, byteText, bytesText, partText}
+use Rattle.record_text.specs.Text.{isPlain, byteText, bytesText, partText}
 
 pub same-head : {x y : ℕ} {a b : Bytes} → x ∷ a ≡ y ∷ b → x ≡ y
 same-head e = ap (λ (l : Bytes). getD l 0 0) e

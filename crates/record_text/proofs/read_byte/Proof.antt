@@ -1,4 +1,4 @@
--- `records::read_byte` meets its contract: a byte for itself, or a backslash and two digits that say a byte which does not stand for itself
+-- `record_text::read_byte` meets its contract: a byte for itself, or a backslash and two digits that say a byte which does not stand for itself
 -- (`ByteLaws`). Assumes nothing.
 use mathlib.Core.Path.{_≡_, sym, ap, subst, _∙_}
 use mathlib.Core.Bool.{true}
@@ -8,11 +8,11 @@ use lib.ListN.{getD}
 use borrow.Author.Tests.{lt-ltb, not-true, not-false}
 use borrow.Author.Needs.{needs}
 use Rattle.sheets.proofs.TextLaws.{isByte}
-use Rattle.records.specs.Text.{isPlain, byteText}
-use Rattle.records.specs.Reading.{Stands}
-use Rattle.records.proofs.ByteLaws.{nothing-there, itself, no-backslash, cut-off, no-digits, plain-escaped, pair-length, by-digits}
-use Rattle.records.proofs.read_byte.Statement.{statement}
-use Rattle.records.proofs.read_byte.Tie as tie
+use Rattle.record_text.specs.Text.{isPlain, byteText}
+use Rattle.record_text.specs.Reading.{Stands}
+use Rattle.record_text.proofs.ByteLaws.{nothing-there, itself, no-backslash, cut-off, no-digits, plain-escaped, pair-length, by-digits}
+use Rattle.record_text.proofs.read_byte.Statement.{statement}
+use Rattle.record_text.proofs.read_byte.Tie as tie
 
 returns : tie.Need-returns
 returns c =

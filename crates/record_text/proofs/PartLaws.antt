@@ -12,9 +12,9 @@ use lib.Seq.{drop-cons, take-suc-set, length-take-le}
 use Rattle.sheets.specs.Rule.{Meets}
 use Rattle.sheets.specs.Bytes.{Bytes, all}
 use Rattle.sheets.proofs.TextLaws.{isByte}
-use Rattle.records.specs.Text.{byteText, bytesText, partText}
-use Rattle.records.specs.Reading.{Stands, Missing}
-use Rattle.records.proofs.TextLaws.{same-head, bytes-append, bytes-same}
+use Rattle.record_text.specs.Text.{byteText, bytesText, partText}
+use Rattle.record_text.specs.Reading.{Stands, Missing}
+use Rattle.record_text.proofs.TextLaws.{same-head, bytes-append, bytes-same}
 
 one-text : (b : ℕ) → bytesText (b ∷ []) ≡ byteText b
 unfolding bytesText

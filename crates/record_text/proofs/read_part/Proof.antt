@@ -1,15 +1,15 @@
--- `records::read_part` meets its contract. The loop's invariant: the first k bytes are read, and the text goes on at i; the measure is what is left
+-- `record_text::read_part` meets its contract. The loop's invariant: the first k bytes are read, and the text goes on at i; the measure is what is left
 -- of the bytes. A part that stood there would go on as the text does (`PartLaws`). Assumes nothing.
 use mathlib.Core.Path.{_≡_, refl, subst}
 use Prim.Native.Nat.{ℕ, _+_, _≤_, _-_}
 use native.Mathlib.Omega.{arith}
 use lib.ListN.{length, take}
 use borrow.Author.Needs.{needs}
-use Rattle.records.specs.Reading.{ReadsByte, Stands}
-use Rattle.records.specs.Text.{partText}
-use Rattle.records.proofs.PartLaws.{ReadTo, none-yet, one-more, whole, stuck, ends-early, no-end}
-use Rattle.records.proofs.read_part.Statement.{statement}
-use Rattle.records.proofs.read_part.Tie as tie
+use Rattle.record_text.specs.Reading.{ReadsByte, Stands}
+use Rattle.record_text.specs.Text.{partText}
+use Rattle.record_text.proofs.PartLaws.{ReadTo, none-yet, one-more, whole, stuck, ends-early, no-end}
+use Rattle.record_text.proofs.read_part.Statement.{statement}
+use Rattle.record_text.proofs.read_part.Tie as tie
 
 abbrev Inv-loop : tie.InvT-loop
 Inv-loop s at count out₀ n i₀ k₀ out i k = (k ≤ n) × (n ≡ count) × (n ≤ length out₀) × (length out ≡ length out₀) × ReadTo s at out k i

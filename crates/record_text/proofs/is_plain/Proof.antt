@@ -1,8 +1,8 @@
--- `records::is_plain` meets its contract: the tests of the definition, in its order. Assumes nothing.
+-- `record_text::is_plain` meets its contract: the tests of the definition, in its order. Assumes nothing.
 use mathlib.Core.Path.{sym}
 use borrow.Author.Tests.{eq-eqb, ne-eqb, le-leb, lt-leb}
-use Rattle.records.proofs.is_plain.Statement.{statement}
-use Rattle.records.proofs.is_plain.Tie as tie
+use Rattle.record_text.proofs.is_plain.Statement.{statement}
+use Rattle.record_text.proofs.is_plain.Tie as tie
 
 returns : tie.Need-returns
 returns c = sym (rw (eq-eqb (c .before .args .b) 10 (c .if1 .taken)))
