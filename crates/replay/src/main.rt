@@ -1,16 +1,14 @@
 // Replays the recorded list of answers (differential/ANSWERS.md) that stands on standard input. Prints for each call how many records were
 // replayed and how many differ, and in full the first that does; or at which record the list is malformed. Records are counted from 0.
-mod judge;
-mod print;
-mod window;
-
 ghost use mathlib.Core.Path.{_≡_};
 ghost use mathlib.Core.Bool.{true};
 ghost use Prim.Native.Nat.{_≤_};
 ghost use lib.ListN.{length};
-ghost use Rattle.replay.specs.Judging.{JudgesCall};
-ghost use Rattle.replay.specs.Reading.{Within, Goes};
-use judge::Replayed;
+ghost use Rattle.sheets.specs.Outcome.{importOutcome};
+ghost use Rattle.judge_answer.specs.Judging.{filled, recorded, Judges, JudgesCall};
+ghost use Rattle.window.specs.Moving.{Within};
+ghost use Rattle.replay.specs.Reading.{Goes};
+use judge_answer::Replayed;
 use records::FirstLine;
 use records::FirstLineRead;
 use records::Header;
@@ -23,13 +21,22 @@ enum Turn {
     Bad,
 }
 
+// Import replayed on a filled buffer.
+fn replay_import(h: Header, input: &[u8], output: &[u8], lent: &mut [u8]) -> Replayed
+    ensures { λ r. ⌜ Judges (importOutcome (now (input .entry)) (filled (length (now (lent .entry))))) (recorded h (now (output .entry)) (length (now (lent .entry)))) r ⌝ }
+{
+    judge_answer::fill(lent, judge_answer::FILLER);
+    let a = import_sheet::import(input, lent);
+    judge_answer::judge(a.number as u64, a.length as u64, h, output, lent)
+}
+
 // A call that is replayed is one case here.
 fn replay(h: Header, input: &[u8], output: &[u8], lent: &mut [u8]) -> Replayed
     ensures { λ r. ⌜ JudgesCall (h .call) h (now (input .entry)) (now (output .entry)) (length (now (lent .entry))) r ⌝ }
 {
     let call = h.call;
     match call {
-        0 => judge::replay_import(h, input, output, lent),
+        0 => replay_import(h, input, output, lent),
         _ => Replayed::NotYet,
     }
 }
@@ -47,7 +54,7 @@ fn replay_record(
 {
     let r = replay(h, input, output, lent);
     if !told {
-        print::difference(place, h, output, r, lent);
+        print_replay::difference(place, h, output, r, lent);
     }
     r
 }
@@ -142,7 +149,7 @@ fn replay_records(
     while place < records {
         match replay_next(place, told, w, text, input, output, lent) {
             Turn::Bad => {
-                print::bad_list(place);
+                print_replay::bad_list(place);
                 return;
             }
             Turn::Done(next, call, r) => {
@@ -154,10 +161,10 @@ fn replay_records(
     }
     let last = window::refill(text, w);
     if last.at != last.end {
-        print::bad_list(place);
+        print_replay::bad_list(place);
         return;
     }
-    print::counts(&replayed, &differ, passed);
+    print_replay::counts(&replayed, &differ, passed);
 }
 
 // Whether there are records, and the buffers hold the longest input and the longest output.
@@ -185,13 +192,13 @@ fn replay_list(text: &mut [u8], input: &mut [u8], output: &mut [u8], lent: &mut 
     );
     let end = w.end;
     let FirstLineRead::Read(line, next) = records::read_first_line(&text[..end]) else {
-        print::bad_list(0);
+        print_replay::bad_list(0);
         return;
     };
     let i = line.input as usize;
     let o = line.output as usize;
     if !fits(line, input.len(), output.len()) {
-        print::bad_list(0);
+        print_replay::bad_list(0);
         return;
     }
     let from = Window {

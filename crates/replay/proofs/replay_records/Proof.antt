@@ -5,7 +5,8 @@ use Prim.Native.Nat.{_≤_, _-_}
 use native.Mathlib.Omega.{arith}
 use lib.ListN.{length}
 use borrow.Author.Needs.{needs}
-use Rattle.replay.specs.Reading.{Within, Goes}
+use Rattle.window.specs.Moving.{Within}
+use Rattle.replay.specs.Reading.{Goes}
 use Rattle.replay.proofs.replay_records.Statement.{statement}
 use Rattle.replay.proofs.replay_records.Tie as tie
 
