@@ -1,7 +1,38 @@
-// What the program `replay` prints: the counts, the first difference, where the list is malformed.
+// What the program `replay` counts and prints: the counts, the first difference, where the list is malformed.
+ghost use Prim.Native.Nat.{_≤_};
 use judge_answer::Replayed;
 use libc::STDOUT_FILENO;
 use records::Header;
+
+// Counts one more for the call, among the counts from place from on. No count comes near 2^64.
+fn count(kept: &mut [u64; 27], from: usize, call: u64)
+    requires { ⌜ from ≤ 13 ⌝ }
+{
+    if call < 13 {
+        let c = from + call as usize;
+        kept[c] = std::num::wrapping_add_u64(kept[c], 1);
+    }
+}
+
+// Counts a record by what was told of it: the replayed records of each call, from place 13 on those that differ, and last the records that were
+// passed over. Whether it differs.
+pub fn tally(r: Replayed, call: u64, kept: &mut [u64; 27]) -> bool {
+    match r {
+        Replayed::Agrees => {
+            count(kept, 0, call);
+            false
+        }
+        Replayed::Differs(_, _) => {
+            count(kept, 0, call);
+            count(kept, 13, call);
+            true
+        }
+        Replayed::NotYet => {
+            kept[26] = std::num::wrapping_add_u64(kept[26], 1);
+            false
+        }
+    }
+}
 
 fn put(text: &[u8]) {
     io::write_all(STDOUT_FILENO, text);
@@ -111,9 +142,10 @@ fn passed_over(records: u64) {
     put(b" passed over\n");
 }
 
-pub fn counts(replayed: &[u64; 13], differ: &[u64; 13], passed: u64) {
+// The counts of each call and of what was passed over, as `tally` keeps them.
+pub fn counts(kept: &[u64; 27]) {
     for c in 0..13 {
-        call_counts(c as u64, replayed[c], differ[c]);
+        call_counts(c as u64, kept[c], kept[13 + c]);
     }
-    passed_over(passed);
+    passed_over(kept[26]);
 }

@@ -1,18 +1,14 @@
 // Replays the recorded list of answers (differential/ANSWERS.md) that stands on standard input. Prints for each call how many records were
 // replayed and how many differ, and in full the first that does; or at which record the list is malformed. Records are counted from 0.
-ghost use mathlib.Core.Path.{_≡_};
-ghost use mathlib.Core.Bool.{true};
-ghost use Prim.Native.Nat.{_≤_};
 ghost use lib.ListN.{length};
 ghost use Rattle.sheets.specs.Outcome.{importOutcome};
 ghost use Rattle.judge_answer.specs.Judging.{filled, recorded, Judges, JudgesCall};
 ghost use Rattle.window.specs.Moving.{Within};
 ghost use Rattle.replay.specs.Reading.{Goes};
 use judge_answer::Replayed;
-use records::FirstLine;
-use records::FirstLineRead;
+use read_list::Next;
+use read_list::Start;
 use records::Header;
-use records::RecordRead;
 use window::Window;
 
 // What is still to be read after a record, its call, and what is told of it.
@@ -72,61 +68,18 @@ fn replay_next(
     requires { ⌜ Within before (length (now text)) ⌝ }
     ensures { λ r. ⌜ Goes (length (now (text .exit))) r ⌝ }
 {
-    let w = window::refill(text, before);
-    let end = w.end;
-    let RecordRead::Read(h, next) = records::read_record(&text[..end], w.at, input, output) else {
+    let Next::Read(h, rest) = read_list::next_record(text, before, input, output) else {
         return Turn::Bad;
     };
-    // The calls have the codes 0 to 12.
-    if 12 < h.call {
-        return Turn::Bad;
-    }
     let room = h.room as usize;
-    if lent.len() < room {
+    // The calls have the codes 0 to 12.
+    if 12 < h.call || lent.len() < room {
         return Turn::Bad;
     }
     let i = h.input as usize;
     let o = h.output as usize;
     let r = replay_record(place, told, h, &input[..i], &output[..o], &mut lent[..room]);
-    let rest = Window {
-        at: next,
-        end,
-        ended: w.ended,
-    };
     Turn::Done(rest, h.call, r)
-}
-
-// No count comes near 2^64.
-fn count(counts: &mut [u64; 13], call: u64) {
-    if call < 13 {
-        let c = call as usize;
-        counts[c] = std::num::wrapping_add_u64(counts[c], 1);
-    }
-}
-
-// Counts a record by what was told of it; whether it differs.
-fn tally(
-    r: Replayed,
-    call: u64,
-    replayed: &mut [u64; 13],
-    differ: &mut [u64; 13],
-    passed: &mut u64,
-) -> bool {
-    match r {
-        Replayed::Agrees => {
-            count(replayed, call);
-            false
-        }
-        Replayed::Differs(_, _) => {
-            count(replayed, call);
-            count(differ, call);
-            true
-        }
-        Replayed::NotYet => {
-            *passed = std::num::wrapping_add_u64(*passed, 1);
-            false
-        }
-    }
 }
 
 // Replays so many records, after which nothing may follow, and prints what is told of them.
@@ -140,9 +93,7 @@ fn replay_records(
 )
     requires { ⌜ Within from (length (now text)) ⌝ }
 {
-    let mut replayed = [0u64; 13];
-    let mut differ = [0u64; 13];
-    let mut passed: u64 = 0;
+    let mut counts = [0u64; 27];
     let mut told = false;
     let mut w = from;
     let mut place = 0;
@@ -154,7 +105,7 @@ fn replay_records(
             }
             Turn::Done(next, call, r) => {
                 w = next;
-                told = told | tally(r, call, &mut replayed, &mut differ, &mut passed);
+                told = told | print_replay::tally(r, call, &mut counts);
             }
         }
         place += 1;
@@ -164,48 +115,17 @@ fn replay_records(
         print_replay::bad_list(place);
         return;
     }
-    print_replay::counts(&replayed, &differ, passed);
-}
-
-// Whether there are records, and the buffers hold the longest input and the longest output.
-fn fits(line: FirstLine, input: usize, output: usize) -> bool
-    ensures { λ r. ⌜ (r ≡ true → (line .input ≤ input) × (line .output ≤ output)) ⌝ }
-{
-    if line.records == 0 {
-        return false;
-    }
-    if input < line.input as usize {
-        return false;
-    }
-    line.output as usize <= output
+    print_replay::counts(&counts);
 }
 
 // Reads the first line, which says how many records there are, and replays them.
 fn replay_list(text: &mut [u8], input: &mut [u8], output: &mut [u8], lent: &mut [u8]) {
-    let w = window::refill(
-        text,
-        Window {
-            at: 0,
-            end: 0,
-            ended: false,
-        },
-    );
-    let end = w.end;
-    let FirstLineRead::Read(line, next) = records::read_first_line(&text[..end]) else {
+    let Start::Read(line, from) = read_list::first_line(text, input.len(), output.len()) else {
         print_replay::bad_list(0);
         return;
     };
     let i = line.input as usize;
     let o = line.output as usize;
-    if !fits(line, input.len(), output.len()) {
-        print_replay::bad_list(0);
-        return;
-    }
-    let from = Window {
-        at: next,
-        end,
-        ended: w.ended,
-    };
     replay_records(
         line.records,
         from,

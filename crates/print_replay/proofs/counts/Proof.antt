@@ -5,10 +5,10 @@ use Rattle.print_replay.proofs.counts.Statement.{statement}
 use Rattle.print_replay.proofs.counts.Tie as tie
 
 abbrev Inv-loop : tie.InvT-loop
-Inv-loop replayed differ passed c₀ c = c ≤ 13
+Inv-loop kept c₀ c = c ≤ 13
 
 abbrev μ-loop : tie.MeasureT-loop
-μ-loop replayed differ passed c₀ c = 13 - c
+μ-loop kept c₀ c = 13 - c
 
 loop-holds : tie.Need-loop-holds Inv-loop μ-loop
 loop-holds c = search needs
@@ -18,6 +18,9 @@ mul-call-counts c = search needs
 
 element-copy-out-call-counts : tie.Need-element-copy-out-call-counts Inv-loop μ-loop
 element-copy-out-call-counts c = search needs
+
+add-call-counts : tie.Need-add-call-counts Inv-loop μ-loop
+add-call-counts c = search needs
 
 mul-call-counts-2 : tie.Need-mul-call-counts-2 Inv-loop μ-loop
 mul-call-counts-2 c = search needs
@@ -37,6 +40,9 @@ loop-less c = search needs
 loop-again : tie.Need-loop-again Inv-loop μ-loop
 loop-again c = search needs
 
+element-copy-out-passed-over : tie.Need-element-copy-out-passed-over Inv-loop μ-loop
+element-copy-out-passed-over c = search needs
+
 passed-over-requires : tie.Need-passed-over-requires Inv-loop μ-loop
 passed-over-requires c κs = search needs
 
@@ -52,11 +58,13 @@ counts-spec =
     loop-holds
     mul-call-counts
     element-copy-out-call-counts
+    add-call-counts
     mul-call-counts-2
     element-copy-out-call-counts-2
     call-counts-requires
     add-c
     loop-less
     loop-again
+    element-copy-out-passed-over
     passed-over-requires
     returns)

@@ -1,9 +1,9 @@
--- `replay::fits` meets its contract: it answers true only after both tests. Assumes nothing.
+-- `read_list::fits` meets its contract: it answers true only after both tests. Assumes nothing.
 use mathlib.Core.Path.{sym}
 use mathlib.Core.Bool.{true≢false}
 use borrow.Author.Tests.{leb-true}
-use Rattle.replay.proofs.fits.Statement.{statement}
-use Rattle.replay.proofs.fits.Tie as tie
+use Rattle.read_list.proofs.fits.Statement.{statement}
+use Rattle.read_list.proofs.fits.Tie as tie
 
 returns : tie.Need-returns
 returns c = λ e. absurd (true≢false (sym e))
