@@ -62,7 +62,7 @@ fn mapping(call: u64) {
     }
 }
 
-// A question about a data type, or the data type of a name.
+// A question about a data type, or the data type of an integer or a primitive type.
 fn question(call: u64) {
     match call {
         8 => put(b"get_child"),

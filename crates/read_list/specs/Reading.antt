@@ -1,7 +1,9 @@
 -- What is told of the list at the front of its window: the first line, or the next record of a window that was refilled, and what is still to be
--- read after it. Assumes nothing.
+-- read after it; or that nothing is left. Assumes nothing.
 use mathlib.Core.Path.{_≡_}
+use mathlib.Core.Bool.{Bool}
 use Prim.Native.Nat.{ℕ, _≤_}
+use lib.Dec.{eqb}
 use lib.ListN.{length, take}
 use Rattle.sheets.specs.Bytes.{Bytes}
 use Rattle.records.specs.Reading.{ReadsFirstLine, ReadsRecord}
@@ -44,3 +46,9 @@ pub record NextMissing (before : Bytes) (w : Window) (after ins outs : Bytes) : 
 abbrev pub ReadsNext : Bytes → Window → Bytes → Bytes → Bytes → Next → Type 0
 ReadsNext before w after ins outs (Next.Read h rest) = NextStands before w after ins outs h rest
 ReadsNext before w after ins outs Next.Bad = NextMissing before w after ins outs
+
+-- whether nothing stands in the refilled window
+pub record ReadsEnd (before : Bytes) (w : Window) (after : Bytes) (r : Bool) : Type 0 where
+  pub from : Window
+  pub refilled : Refilled before w after from
+  pub told : r ≡ eqb (from .at) (from .end)

@@ -1,10 +1,10 @@
-// The recorded list of answers read through the window: its first line, and then a record at a time.
+// The recorded list of answers read through the window: its first line, then a record at a time, and whether it is read to its end.
 ghost use mathlib.Core.Path.{_≡_};
 ghost use mathlib.Core.Bool.{true};
 ghost use Prim.Native.Nat.{_≤_};
 ghost use lib.ListN.{length};
 ghost use Rattle.window.specs.Moving.{Within};
-ghost use Rattle.read_list.specs.Reading.{ReadsStart, ReadsNext};
+ghost use Rattle.read_list.specs.Reading.{ReadsStart, ReadsNext, ReadsEnd};
 use records::FirstLine;
 use records::FirstLineRead;
 use records::Header;
@@ -83,4 +83,13 @@ pub fn next_record(text: &mut [u8], before: Window, input: &mut [u8], output: &m
             ended: w.ended,
         },
     )
+}
+
+// Whether nothing is left of the list.
+pub fn is_read(text: &mut [u8], before: Window) -> bool
+    requires { ⌜ Within before (length (now text)) ⌝ }
+    ensures { λ r. ⌜ ReadsEnd (now (text .entry)) before (now (text .exit)) r ⌝ }
+{
+    let w = window::refill(text, before);
+    w.at == w.end
 }

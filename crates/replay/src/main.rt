@@ -110,8 +110,7 @@ fn replay_records(
         }
         place += 1;
     }
-    let last = window::refill(text, w);
-    if last.at != last.end {
+    if !read_list::is_read(text, w) {
         print_replay::bad_list(place);
         return;
     }

@@ -62,8 +62,8 @@ loop-again c =
     let goes = subst (Goes (length (next .last .1 .1 .1 .0))) (c .before .before .before .next .given .1) (next .ensures) in
     (omega (arith, c .before .before .before .before .before .before .before .before .before .before .before .before .before .before .before .before .before .before .loop-test .taken), goes, next .kept .1 .1 .1 .0 ∙ l .2, next .kept .1 .1 .1 .1 .0 ∙ l .3, next .kept .1 .1 .1 .1 .1 .0 ∙ l .4, next .kept .1 .1 .1 .1 .1 .1 .0 ∙ l .5)
 
-refill-requires : tie.Need-refill-requires Inv-loop μ-loop
-refill-requires c κs = search needs
+is-read-requires : tie.Need-is-read-requires Inv-loop μ-loop
+is-read-requires c κs = search needs
 
 bad-list-requires-2 : tie.Need-bad-list-requires-2 Inv-loop μ-loop
 bad-list-requires-2 c κs = search needs
@@ -121,7 +121,7 @@ replay-records-spec =
     add-place
     loop-less
     loop-again
-    refill-requires
+    is-read-requires
     bad-list-requires-2
     same-length-5
     same-length-6
