@@ -1,2 +1,1 @@
-pub mod NumbersLaws
 pub mod RecordLaws

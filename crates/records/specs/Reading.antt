@@ -1,35 +1,20 @@
--- What the readers of the list tell: that a line or a record stands from a place on, and where it ends, or that none of its kind does. Assumes
--- nothing.
+-- What the readers of the list tell: that the first line or a record stands from a place on, and where it ends, or that none does. Assumes nothing.
 use mathlib.Core.Path.{_≡_}
-use mathlib.Core.Bool.{Bool}
-use mathlib.Core.List.{List}
-use Prim.Native.Nat.{ℕ, _^_, _≤_}
-use lib.Dec.{ltb}
+use Prim.Native.Nat.{ℕ, _≤_}
 use lib.ListN.{length, take}
 use Rattle.sheets.specs.Rule.{Meets}
 use Rattle.sheets.specs.Bytes.{Bytes, all}
 use Rattle.sheets.proofs.TextLaws.{isByte}
 use Rattle.record_text.specs.Reading.{Stands, Missing}
-use Rattle.record_text.specs.declared.Place.{Place}
-use Rattle.record_text.specs.declared.Place.the-variants as Place
-use Rattle.records.specs.Text.{numbersText, firstNumbers, headerNumbers, recordText}
+use Rattle.number_line.specs.Text.{numbersText}
+use Rattle.number_line.specs.Reading.{isWord}
+use Rattle.records.specs.Text.{firstNumbers, headerNumbers, recordText}
 use Rattle.records.specs.declared.FirstLine.{FirstLine}
 use Rattle.records.specs.declared.Header.{Header}
 use Rattle.records.specs.declared.FirstLineRead.{FirstLineRead}
 use Rattle.records.specs.declared.FirstLineRead.the-variants as First
 use Rattle.records.specs.declared.RecordRead.{RecordRead}
 use Rattle.records.specs.declared.RecordRead.the-variants as Record
-
--- a number of 64 bits
-abbrev pub isWord : ℕ → Bool
-isWord n = ltb n (2 ^ 64)
-
--- ── the readers
-
--- a line of as many numbers of 64 bits as the array holds
-abbrev pub ReadsNumbers : Bytes → ℕ → List ℕ → Place → Type 0
-ReadsNumbers s at out (Place.To next) = Stands s at (numbersText out) next
-ReadsNumbers s at out Place.Bad = (ns : List ℕ) → length ns ≡ length out → Meets (all isWord ns) → Missing s at (numbersText ns)
 
 -- the list's first line
 abbrev pub ReadsFirstLine : Bytes → FirstLineRead → Type 0

@@ -1,26 +1,11 @@
--- The recorded list's lines of numbers and its records as text, as differential/ANSWERS.md has it. Assumes nothing.
+-- The recorded list's first line and its records as text, as differential/ANSWERS.md has it. Assumes nothing.
 use mathlib.Core.List.{List, [], _∷_, _++_}
 use Prim.Native.Nat.{ℕ}
-use Rattle.sheets.specs.Bytes.{Bytes, lineEnd, space}
-use Rattle.sheets.specs.Number.{decimal}
+use Rattle.sheets.specs.Bytes.{Bytes}
 use Rattle.record_text.specs.Text.{partText}
+use Rattle.number_line.specs.Text.{numbersText}
 use Rattle.records.specs.declared.FirstLine.{FirstLine}
 use Rattle.records.specs.declared.Header.{Header}
-
--- ── lines of numbers
-
--- what stands before the numbers that are still to come
-abbrev pub stopBefore : List ℕ → ℕ
-stopBefore [] = lineEnd
-stopBefore (n ∷ ns) = space
-
--- "numbers split by one space", byte 10 after the last
-unfoldable pub numbersText : List ℕ → Bytes
-unfolding decimal
-numbersText [] = []
-numbersText (n ∷ ns) = decimal n ++ (stopBefore ns ∷ numbersText ns)
-
--- ── the list
 
 abbrev pub firstNumbers : FirstLine → List ℕ
 firstNumbers l = l .records ∷ l .input ∷ l .output ∷ []

@@ -1,8 +1,5 @@
 // The recorded list of answers (differential/ANSWERS.md): its first line and its records, read at a place of the list's text.
-ghost use Prim.Native.Nat.{_<_};
-ghost use lib.ListN.{length};
-ghost use Rattle.records.specs.Reading.{ReadsNumbers, ReadsFirstLine, ReadsHeader, ReadsRecord};
-use columns::NumberColumn;
+ghost use Rattle.records.specs.Reading.{ReadsFirstLine, ReadsHeader, ReadsRecord};
 use record_text::Place;
 
 // How many records there are, and how many bytes the longest input and the longest output have.
@@ -34,35 +31,12 @@ pub enum RecordRead {
     Bad,
 }
 
-// Reads a line of as many numbers as out holds.
-fn read_numbers(s: &[u8], at: usize, out: &mut [u64]) -> Place
-    requires { ⌜ 0 < length (now out) ⌝ }
-    ensures { λ r. ⌜ ReadsNumbers (now (s .entry)) at (now (out .exit)) r ⌝ }
-{
-    let last = out.len() - 1;
-    let mut i = at;
-    let mut k = 0;
-    while k < last {
-        let NumberColumn::At(n, end) = columns::number_column(s, i, b' ') else {
-            return Place::Bad;
-        };
-        out[k] = n;
-        i = end + 1;
-        k += 1;
-    }
-    let NumberColumn::At(n, end) = columns::number_column(s, i, b'\n') else {
-        return Place::Bad;
-    };
-    out[last] = n;
-    Place::To(end + 1)
-}
-
 // The list's first line.
 pub fn read_first_line(s: &[u8]) -> FirstLineRead
     ensures { λ r. ⌜ ReadsFirstLine (now (s .entry)) r ⌝ }
 {
     let mut n = [0u64; 3];
-    let Place::To(next) = read_numbers(s, 0, &mut n) else {
+    let Place::To(next) = number_line::read_numbers(s, 0, &mut n) else {
         return FirstLineRead::Bad;
     };
     FirstLineRead::Read(
@@ -80,7 +54,7 @@ fn read_header(s: &[u8], at: usize) -> RecordRead
     ensures { λ r. ⌜ ReadsHeader (now (s .entry)) at r ⌝ }
 {
     let mut n = [0u64; 8];
-    let Place::To(next) = read_numbers(s, at, &mut n) else {
+    let Place::To(next) = number_line::read_numbers(s, at, &mut n) else {
         return RecordRead::Bad;
     };
     RecordRead::Read(

@@ -17,9 +17,9 @@ use Rattle.sheets.proofs.InverseLaws.{number-read}
 use Rattle.columns.specs.Columns.{part, FindsNumber}
 use Rattle.columns.specs.declared.NumberColumn.the-variants as Column
 use Rattle.columns.proofs.ColumnLaws.{column-of, column-part}
-use Rattle.records.specs.Text.{stopBefore, numbersText}
+use Rattle.number_line.specs.Text.{stopBefore, numbersText}
 use Rattle.record_text.specs.Reading.{Stands, Missing}
-use Rattle.records.specs.Reading.{isWord}
+use Rattle.number_line.specs.Reading.{isWord}
 use Rattle.record_text.proofs.TextLaws.{same-head, same-tail}
 use Rattle.record_text.proofs.PartLaws.{all-at}
 

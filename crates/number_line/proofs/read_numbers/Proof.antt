@@ -1,4 +1,4 @@
--- `records::read_numbers` meets its contract. The loop's invariant: the first k numbers are read, a space after each, and the text goes on at i; the
+-- `number_line::read_numbers` meets its contract. The loop's invariant: the first k numbers are read, a space after each, and the text goes on at i; the
 -- measure is what is left of the numbers before the last. A line that stood there would go on as the text does (`NumbersLaws`). Assumes nothing.
 use mathlib.Core.Path.{_≡_, refl, subst}
 use Prim.Native.Nat.{ℕ, _+_, _-_, _≤_}
@@ -6,9 +6,9 @@ use native.Mathlib.Omega.{arith}
 use lib.ListN.{length}
 use borrow.Author.Needs.{needs}
 use Rattle.columns.specs.Columns.{FindsNumber}
-use Rattle.records.proofs.NumbersLaws.{SpacedTo, no-number-yet, next-number, last-number, no-number, no-last-number}
-use Rattle.records.proofs.read_numbers.Statement.{statement}
-use Rattle.records.proofs.read_numbers.Tie as tie
+use Rattle.number_line.proofs.NumbersLaws.{SpacedTo, no-number-yet, next-number, last-number, no-number, no-last-number}
+use Rattle.number_line.proofs.read_numbers.Statement.{statement}
+use Rattle.number_line.proofs.read_numbers.Tie as tie
 
 abbrev Inv-loop : tie.InvT-loop
 Inv-loop s at out₀ last i₀ k₀ out i k = (k ≤ last) × (last + 1 ≡ length out₀) × (length out ≡ length out₀) × SpacedTo s at out k i
