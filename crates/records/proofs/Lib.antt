@@ -1,5 +1,1 @@
-pub mod TextLaws
-pub mod ByteLaws
-pub mod PartLaws
-pub mod NumbersLaws
 pub mod RecordLaws

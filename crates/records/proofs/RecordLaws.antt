@@ -7,13 +7,16 @@ use native.Mathlib.Omega.{arith}
 use lib.ListN.{length, getD, take, drop}
 use lib.Seq.{length-take-le}
 use Rattle.sheets.specs.Bytes.{Bytes}
-use Rattle.records.specs.Text.{numbersText, partText, headerNumbers, recordText}
-use Rattle.records.specs.Reading.{Stands, Missing, IsRecord, ReadsPart, ReadsHeader}
+use Rattle.number_line.specs.Text.{numbersText}
+use Rattle.records.specs.Text.{headerNumbers, recordText}
+use Rattle.record_text.specs.Text.{partText}
+use Rattle.record_text.specs.Reading.{Stands, Missing, ReadsPart}
+use Rattle.records.specs.Reading.{IsRecord, ReadsHeader}
 use Rattle.records.specs.declared.Header.{Header}
-use Rattle.records.specs.declared.Place.the-variants as Place
+use Rattle.record_text.specs.declared.Place.the-variants as Place
 use Rattle.records.specs.declared.RecordRead.the-variants as Record
-use Rattle.records.proofs.TextLaws.{part-same}
-use Rattle.records.proofs.NumbersLaws.{numbers-same}
+use Rattle.record_text.proofs.TextLaws.{part-same}
+use Rattle.number_line.proofs.NumbersLaws.{numbers-same}
 
 -- ── the numbers by their places
 

@@ -1,54 +1,20 @@
--- What the readers of the list tell: that a text stands from a place on, and where it ends, or that none of its kind does. Assumes nothing.
+-- What the readers of the list tell: that the first line or a record stands from a place on, and where it ends, or that none does. Assumes nothing.
 use mathlib.Core.Path.{_≡_}
-use mathlib.Core.Bool.{Bool, true}
-use mathlib.Core.List.{List, _++_}
-use Prim.Native.Nat.{ℕ, _^_, _≤_}
-use lib.Dec.{ltb}
-use lib.ListN.{length, take, drop}
+use Prim.Native.Nat.{ℕ, _≤_}
+use lib.ListN.{length, take}
 use Rattle.sheets.specs.Rule.{Meets}
 use Rattle.sheets.specs.Bytes.{Bytes, all}
 use Rattle.sheets.proofs.TextLaws.{isByte}
-use Rattle.records.specs.Text.{byteText, partText, numbersText, firstNumbers, headerNumbers, recordText}
-use Rattle.records.specs.declared.Place.{Place}
-use Rattle.records.specs.declared.Place.the-variants as Place
-use Rattle.records.specs.declared.ByteRead.{ByteRead}
-use Rattle.records.specs.declared.ByteRead.the-variants as Byte
+use Rattle.record_text.specs.Reading.{Stands, Missing}
+use Rattle.number_line.specs.Text.{numbersText}
+use Rattle.number_line.specs.Reading.{isWord}
+use Rattle.records.specs.Text.{firstNumbers, headerNumbers, recordText}
 use Rattle.records.specs.declared.FirstLine.{FirstLine}
 use Rattle.records.specs.declared.Header.{Header}
 use Rattle.records.specs.declared.FirstLineRead.{FirstLineRead}
 use Rattle.records.specs.declared.FirstLineRead.the-variants as First
 use Rattle.records.specs.declared.RecordRead.{RecordRead}
 use Rattle.records.specs.declared.RecordRead.the-variants as Record
-
--- the text t stands from place at to next
-pub record Stands (s : Bytes) (at : ℕ) (t : Bytes) (next : ℕ) : Type 0 where
-  pub is : drop at s ≡ t ++ drop next s
-  pub within : next ≤ length s
-
--- the text t does not stand from place at on
-abbrev pub Missing : Bytes → ℕ → Bytes → Type 0
-Missing s at t = (rest : Bytes) → drop at s ≡ t ++ rest → ⊥
-
--- a number of 64 bits
-abbrev pub isWord : ℕ → Bool
-isWord n = ltb n (2 ^ 64)
-
--- ── the readers
-
--- a byte's text
-abbrev pub ReadsByte : Bytes → ℕ → ByteRead → Type 0
-ReadsByte s at (Byte.Byte b next) = (isByte b ≡ true) × Stands s at (byteText b) next
-ReadsByte s at Byte.Bad = (b : ℕ) → isByte b ≡ true → Missing s at (byteText b)
-
--- a part of so many bytes, if the buffer holds so many, in its first bytes
-abbrev pub ReadsPart : Bytes → ℕ → ℕ → Bytes → Place → Type 0
-ReadsPart s at count out (Place.To next) = (count ≤ length out) × Stands s at (partText (take count out)) next
-ReadsPart s at count out Place.Bad = (x : Bytes) → length x ≡ count → count ≤ length out → Meets (all isByte x) → Missing s at (partText x)
-
--- a line of as many numbers of 64 bits as the array holds
-abbrev pub ReadsNumbers : Bytes → ℕ → List ℕ → Place → Type 0
-ReadsNumbers s at out (Place.To next) = Stands s at (numbersText out) next
-ReadsNumbers s at out Place.Bad = (ns : List ℕ) → length ns ≡ length out → Meets (all isWord ns) → Missing s at (numbersText ns)
 
 -- the list's first line
 abbrev pub ReadsFirstLine : Bytes → FirstLineRead → Type 0

@@ -3,8 +3,10 @@ use mathlib.Core.Path.{sym, subst}
 use mathlib.Core.List.{List}
 use Prim.Native.Nat.{ℕ}
 use borrow.Author.Needs.{needs}
-use Rattle.records.specs.Text.{numbersText, firstNumbers}
-use Rattle.records.specs.Reading.{Stands, ReadsNumbers}
+use Rattle.number_line.specs.Text.{numbersText}
+use Rattle.records.specs.Text.{firstNumbers}
+use Rattle.record_text.specs.Reading.{Stands}
+use Rattle.number_line.specs.Reading.{ReadsNumbers}
 use Rattle.records.proofs.RecordLaws.{three}
 use Rattle.records.proofs.read_first_line.Statement.{statement}
 use Rattle.records.proofs.read_first_line.Tie as tie

@@ -3,8 +3,10 @@ use mathlib.Core.Path.{sym, subst}
 use mathlib.Core.List.{List}
 use Prim.Native.Nat.{ℕ}
 use borrow.Author.Needs.{needs}
-use Rattle.records.specs.Text.{numbersText, headerNumbers}
-use Rattle.records.specs.Reading.{Stands, ReadsNumbers}
+use Rattle.number_line.specs.Text.{numbersText}
+use Rattle.records.specs.Text.{headerNumbers}
+use Rattle.record_text.specs.Reading.{Stands}
+use Rattle.number_line.specs.Reading.{ReadsNumbers}
 use Rattle.records.proofs.RecordLaws.{eight}
 use Rattle.records.proofs.read_header.Statement.{statement}
 use Rattle.records.proofs.read_header.Tie as tie

@@ -2,7 +2,8 @@
 -- nothing.
 use mathlib.Core.Path.{subst}
 use borrow.Author.Needs.{needs}
-use Rattle.records.specs.Reading.{ReadsHeader, ReadsPart}
+use Rattle.records.specs.Reading.{ReadsHeader}
+use Rattle.record_text.specs.Reading.{ReadsPart}
 use Rattle.records.proofs.RecordLaws.{no-header, no-input, no-output, whole-record}
 use Rattle.records.proofs.read_record.Statement.{statement}
 use Rattle.records.proofs.read_record.Tie as tie

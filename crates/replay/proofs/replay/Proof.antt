@@ -3,8 +3,8 @@ use mathlib.Core.Path.{sym, subst}
 use Prim.Native.Nat.{ℕ}
 use lib.ListN.{length}
 use borrow.Author.Needs.{needs}
-use Rattle.replay.proofs.JudgingLaws.{not-yet}
-use Rattle.replay.specs.Judging.{JudgesCall}
+use Rattle.judge_answer.proofs.JudgingLaws.{not-yet}
+use Rattle.judge_answer.specs.Judging.{JudgesCall}
 use Rattle.replay.proofs.replay.Statement.{statement}
 use Rattle.replay.proofs.replay.Tie as tie
 

@@ -5,15 +5,16 @@ use Prim.Native.Nat.{_≤_, _-_}
 use native.Mathlib.Omega.{arith}
 use lib.ListN.{length}
 use borrow.Author.Needs.{needs}
-use Rattle.replay.specs.Reading.{Within, Goes}
+use Rattle.window.specs.Moving.{Within}
+use Rattle.replay.specs.Reading.{Goes}
 use Rattle.replay.proofs.replay_records.Statement.{statement}
 use Rattle.replay.proofs.replay_records.Tie as tie
 
 abbrev Inv-loop : tie.InvT-loop
-Inv-loop records text₀ input₀ output₀ lent₀ replayed₀ differ₀ passed₀ told₀ w₀ place₀ text input output lent replayed differ passed told w place = (place ≤ records) × Within w (length text) × (length text ≡ length text₀) × (length input ≡ length input₀) × (length output ≡ length output₀) × (length lent ≡ length lent₀)
+Inv-loop records text₀ input₀ output₀ lent₀ counts₀ told₀ w₀ place₀ text input output lent counts told w place = (place ≤ records) × Within w (length text) × (length text ≡ length text₀) × (length input ≡ length input₀) × (length output ≡ length output₀) × (length lent ≡ length lent₀)
 
 abbrev μ-loop : tie.MeasureT-loop
-μ-loop records text₀ input₀ output₀ lent₀ replayed₀ differ₀ passed₀ told₀ w₀ place₀ text input output lent replayed differ passed told w place = records - place
+μ-loop records text₀ input₀ output₀ lent₀ counts₀ told₀ w₀ place₀ text input output lent counts told w place = records - place
 
 loop-holds : tie.Need-loop-holds Inv-loop μ-loop
 loop-holds c = search needs
@@ -56,13 +57,13 @@ loop-less c = search needs
 
 loop-again : tie.Need-loop-again Inv-loop μ-loop
 loop-again c =
-    let l = c .before .before .before .before .before .before .before .before .before .before .before .before .before .before .before .before .before .before .before .before .before .loop .inv in
-    let next = c .before .before .before .before .before .before .before .before .before .before .before .before .before .before .before .replay-next in
-    let goes = subst (Goes (length (next .last .1 .1 .1 .0))) (c .before .before .before .before .before .next .given .1) (next .ensures) in
-    (omega (arith, c .before .before .before .before .before .before .before .before .before .before .before .before .before .before .before .before .before .before .before .before .loop-test .taken), goes, next .kept .1 .1 .1 .0 ∙ l .2, next .kept .1 .1 .1 .1 .0 ∙ l .3, next .kept .1 .1 .1 .1 .1 .0 ∙ l .4, next .kept .1 .1 .1 .1 .1 .1 .0 ∙ l .5)
+    let l = c .before .before .before .before .before .before .before .before .before .before .before .before .before .before .before .before .before .before .before .loop .inv in
+    let next = c .before .before .before .before .before .before .before .before .before .before .before .before .before .replay-next in
+    let goes = subst (Goes (length (next .last .1 .1 .1 .0))) (c .before .before .before .next .given .1) (next .ensures) in
+    (omega (arith, c .before .before .before .before .before .before .before .before .before .before .before .before .before .before .before .before .before .before .loop-test .taken), goes, next .kept .1 .1 .1 .0 ∙ l .2, next .kept .1 .1 .1 .1 .0 ∙ l .3, next .kept .1 .1 .1 .1 .1 .0 ∙ l .4, next .kept .1 .1 .1 .1 .1 .1 .0 ∙ l .5)
 
-refill-requires : tie.Need-refill-requires Inv-loop μ-loop
-refill-requires c κs = search needs
+is-read-requires : tie.Need-is-read-requires Inv-loop μ-loop
+is-read-requires c κs = search needs
 
 bad-list-requires-2 : tie.Need-bad-list-requires-2 Inv-loop μ-loop
 bad-list-requires-2 c κs = search needs
@@ -120,7 +121,7 @@ replay-records-spec =
     add-place
     loop-less
     loop-again
-    refill-requires
+    is-read-requires
     bad-list-requires-2
     same-length-5
     same-length-6

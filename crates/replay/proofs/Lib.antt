@@ -1,2 +1,0 @@
-pub mod JudgingLaws
-pub mod WindowLaws

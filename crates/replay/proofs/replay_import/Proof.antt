@@ -1,0 +1,40 @@
+-- `replay::replay_import` meets its contract: the answer with its buffer is the definition's outcome for the filled buffer, since import is
+-- proved to have it. Assumes nothing.
+use mathlib.Core.Path.{_≡_, ap, subst, _∙_}
+use Prim.Native.Nat.{ℕ}
+use lib.ListN.{length}
+use borrow.Author.Needs.{needs}
+use Rattle.sheets.specs.Outcome.{Outcome, importOutcome}
+use Rattle.judge_answer.specs.Judging.{filled, recorded, Judges}
+use Rattle.replay.proofs.replay_import.Statement.{statement}
+use Rattle.replay.proofs.replay_import.Tie as tie
+
+fill-requires : tie.Need-fill-requires
+fill-requires c κs = search needs
+
+import-requires : tie.Need-import-requires
+import-requires c κs = search needs
+
+cast-judge : tie.Need-cast-judge
+cast-judge c = search needs
+
+judge-requires : tie.Need-judge-requires
+judge-requires c κs = search needs
+
+same-length : tie.Need-same-length
+same-length c = search needs
+
+returns : tie.Need-returns
+returns c =
+    let a = c .before .before .before .before .before .before .before .before .before .before .before .before .before .before .args in
+    let room = length (a .lent .now) in
+    let after = c .before .before .before .before .before .import .last .1 .0 in
+    let size : length after ≡ room = c .before .before .before .before .before .import .kept .1 .0 ∙ c .before .before .before .before .before .before .before .before .before .fill .kept .0 in
+    let came = c .before .before .before .before .before .import .ensures ∙ ap (importOutcome (a .input .now)) (c .before .before .before .before .before .before .before .before .before .fill .ensures) in
+    subst (λ (n : ℕ). Judges (importOutcome (a .input .now) (filled room)) (recorded (a .h) (a .output .now) n) (c .judge .result)) size
+    (subst (λ (o : Outcome). Judges o (recorded (a .h) (a .output .now) (length after)) (c .judge .result)) came (c .judge .ensures))
+
+pub replay-import-spec : {M : Type 1} → statement M
+replay-import-spec =
+    tie.close
+    (tie.spec fill-requires import-requires cast-judge judge-requires same-length returns)
