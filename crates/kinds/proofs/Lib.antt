@@ -1,2 +1,1 @@
 pub mod DtypeLaws
-pub mod PhysicalLaws

@@ -1,2 +1,1 @@
 pub mod Dtypes
-pub mod Physical

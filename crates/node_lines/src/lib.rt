@@ -56,7 +56,7 @@ fn put_own(
     if bare {
         return field_line::put_bare(out, at);
     }
-    let a = field_line::put_name(out, at, name, nullable);
+    let a = put_name::put_name(out, at, name, nullable);
     let b = put_pairs::put_pairs(out, a, m, entries, count);
     buffer::put_byte(out, b, b' ')
 }

@@ -1,3 +1,1 @@
-pub mod WalkLaws
-pub mod ReadLaws
 pub mod SheetLaws

@@ -15,15 +15,15 @@ use Rattle.sheets.specs.Bytes.{Bytes, same, after}
 use Rattle.sheets.specs.Answer.{given, when}
 use Rattle.sheets.specs.Schema.{Schema, schemaLevels, schemaHeading, schemaRule, readSchemaSheet}
 use Rattle.sheets.proofs.FormLaws.{Row, Standing, sheet-formed, sheet-unformed, treesOf}
-use Rattle.schema_sheet.specs.Trees.{Forms}
+use Rattle.schema_trees.specs.Trees.{Forms}
 use Rattle.subtrees.specs.Subtrees.{Skips}
-use Rattle.schema_sheet.specs.Trees.{ReadsTree}
+use Rattle.schema_trees.specs.Trees.{ReadsTree}
 use Rattle.schema_sheet.specs.Sheets.{isSome, isHeaded, ReadsSheet}
 use Rattle.subtrees.specs.declared.Skipped.the-variants.{To}
-use Rattle.schema_sheet.specs.declared.TreeRead.{TreeRead}
-use Rattle.schema_sheet.specs.declared.TreeRead.the-variants as Read
+use Rattle.schema_trees.specs.declared.TreeRead.{TreeRead}
+use Rattle.schema_trees.specs.declared.TreeRead.the-variants as Read
 use Rattle.schema_sheet.specs.declared.SheetRead.the-variants.{Body, Refused}
-use Rattle.schema_sheet.proofs.WalkLaws.{walk-end}
+use Rattle.schema_trees.proofs.WalkLaws.{walk-end}
 
 -- ── the heading
 

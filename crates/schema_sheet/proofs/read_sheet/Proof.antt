@@ -1,6 +1,6 @@
 -- `schema_sheet::read_sheet` meets its contract: each way out has its law in `SheetLaws`. Assumes nothing.
 use mathlib.Core.Path.{sym, subst, _∙_}
-use Rattle.schema_sheet.specs.Trees.{Forms}
+use Rattle.schema_trees.specs.Trees.{Forms}
 use borrow.Author.Tests.{not-true, not-false}
 use Rattle.schema_sheet.proofs.SheetLaws.{sheet-long, sheet-headless, sheet-broken, sheet-bad, sheet-deep, sheet-whole, sheet-left}
 use borrow.Author.Needs.{needs}

@@ -1,0 +1,28 @@
+-- The index type at the place, or none: `index-given` and `index-refused` say what follows.
+use mathlib.Core.Path.{sym, _∙_}
+use Rattle.to_physical_type.proofs.PhysicalLaws.{index-given, index-refused}
+use borrow.Author.Needs.{needs}
+use Rattle.to_physical_type.proofs.dictionary_physical.Statement.{statement}
+use Rattle.to_physical_type.proofs.dictionary_physical.Tie as tie
+use Rattle.to_physical_type.proofs.dictionary_physical.Reads as reads
+use Rattle.to_physical_type.proofs.dictionary_physical.Lts as lts
+use Rattle.datatypes.proofs.IntegerType.at.Reads as at-reads
+
+at-requires : tie.Need-at-requires
+at-requires c κs = search needs
+
+enum-known-t : tie.Need-enum-known-t
+enum-known-t c = search needs
+
+enum-told : tie.Need-enum-told
+enum-told c = search needs
+
+returns : tie.Need-returns
+returns c = sym (index-refused (c .before .before .before .args .index) (sym (c .before .before .at .ensures) ∙ c .enum-told .given .1))
+
+returns-2 : tie.Need-returns-2
+returns-2 c = index-given (c .before .before .before .before .args .index) (c .before .t .given .0 .0) (sym (c .before .before .before .at .ensures) ∙ c .before .t .given .1)
+
+pub dictionary-physical-spec : {M : Type 1} → statement M
+dictionary-physical-spec =
+    tie.close (tie.spec at-requires enum-known-t enum-told returns returns-2)

@@ -1,0 +1,28 @@
+-- The answer of the call, whose two cases the two definitions number alike.
+use mathlib.Core.Path.{sym, ap, _∙_}
+use Rattle.to_physical_type.specs.Physical.{primitiveAnswer}
+use borrow.Author.Needs.{needs}
+use Rattle.to_physical_type.proofs.primitive_physical.Statement.{statement}
+use Rattle.to_physical_type.proofs.primitive_physical.Tie as tie
+use Rattle.to_physical_type.proofs.primitive_physical.Reads as reads
+use Rattle.to_physical_type.proofs.primitive_physical.Lts as lts
+use Rattle.to_physical_type.proofs.kind_primitive.Reads as kind-primitive-reads
+
+kind-primitive-requires : tie.Need-kind-primitive-requires
+kind-primitive-requires c κs = search needs
+
+enum-known-t : tie.Need-enum-known-t
+enum-known-t c = search needs
+
+enum-told : tie.Need-enum-told
+enum-told c = search needs
+
+returns : tie.Need-returns
+returns c = ap primitiveAnswer (sym (c .enum-told .given .1)) ∙ c .before .before .kind-primitive .ensures
+
+returns-2 : tie.Need-returns-2
+returns-2 c = ap primitiveAnswer (sym (c .before .t .given .1)) ∙ c .before .before .before .kind-primitive .ensures
+
+pub primitive-physical-spec : {M : Type 1} → statement M
+primitive-physical-spec =
+    tie.close (tie.spec kind-primitive-requires enum-known-t enum-told returns returns-2)
