@@ -16,7 +16,7 @@ use Rattle.sheets.proofs.Tests.{and-left, and-right}
 use Rattle.hex.specs.Hex.{isDigit, isHex}
 use Rattle.hex.proofs.DigitLaws.{low}
 use Rattle.hex.proofs.HexLaws.{allDigits, even-digits}
-use Rattle.columns.specs.Columns.{part, isStop, columnLength, Passes, ColumnAt}
+use Rattle.columns.specs.Columns.{part, isStop, columnLength, Passes, ColumnAt, OneByte}
 
 -- ── one byte
 
@@ -149,6 +149,22 @@ module _ (s : Bytes) (a : ℕ) (c r : Bytes) (stop : ℕ) (is : drop a s ≡ c +
         spaces = subst (λ (x : Bytes). Meets (lacks 32 x)) (sym column-part) h;
         ends = subst (λ (x : Bytes). Meets (lacks 10 x)) (sym column-part) k;
       }
+
+-- one byte before the byte that ends it
+module _ {s : Bytes} {a stop : ℕ} (h : OneByte s a stop) where
+  one-is : drop a s ≡ (getD s a 0 ∷ []) ++ (stop ∷ drop (suc (suc a)) s)
+  one-is =
+      let n : suc a ≡ a + 1 = omega arith in
+      drop-cons s a 0 (omega (arith, h .room))
+      ∙ ap (λ (b : Bytes). getD s a 0 ∷ b) (drop-cons s (suc a) 0 (omega (arith, h .room)) ∙ ap (λ (x : ℕ). x ∷ drop (suc (suc a)) s) (ap (λ (m : ℕ). getD s m 0) n ∙ h .stops))
+
+  pub one-part : part s a (a + 1) ≡ getD s a 0 ∷ []
+  one-part = column-part s a (getD s a 0 ∷ []) (drop (suc (suc a)) s) stop one-is
+
+  pub one-column : ColumnAt s a (a + 1) stop
+  one-column =
+      let other : (b : ℕ) → b ≤ 32 → not (eqb (getD s a 0) b) ≡ true = λ b l. ap not (ne-eqb (getD s a 0) b (λ e. omega (arith, h .past))) in
+      column-of s a (getD s a 0 ∷ []) (drop (suc (suc a)) s) stop one-is (other 32 (omega arith), refl) (other 10 (omega arith), refl)
 
 -- the first byte that ends a column ends the column from here on
 pub column-here : (s : Bytes) (a e stop : ℕ) → e ≡ a + columnLength (drop a s) → e < length s → getD s e 0 ≡ stop → ColumnAt s a e stop

@@ -4,7 +4,7 @@ use mathlib.Core.Bool.{Bool, true, _||_, cond}
 use mathlib.Core.List.{[], _∷_, _++_}
 use Prim.Native.Nat.{ℕ, suc, _+_, _-_, _≤_, _<_}
 use lib.Dec.{eqb}
-use lib.ListN.{length, take, drop}
+use lib.ListN.{length, getD, take, drop}
 use Rattle.sheets.specs.Rule.{Meets}
 use Rattle.sheets.specs.Bytes.{Bytes, lacks}
 use Rattle.columns.specs.declared.Place.{Place}
@@ -34,6 +34,12 @@ pub record ColumnAt (s : Bytes) (a e stop : ℕ) : Type 0 where
   pub is : drop a s ≡ part s a e ++ (stop ∷ drop (e + 1) s)
   pub spaces : Meets (lacks 32 (part s a e))
   pub ends : Meets (lacks 10 (part s a e))
+
+-- the column from a on is one byte, and the byte stop ends it
+pub record OneByte (s : Bytes) (a stop : ℕ) : Type 0 where
+  pub room : a + 1 < length s
+  pub past : 32 < getD s a 0
+  pub stops : getD s (a + 1) 0 ≡ stop
 
 -- ── what the readers tell
 

@@ -3,7 +3,7 @@ ghost use mathlib.Core.Path.{_≡_};
 ghost use mathlib.Core.Bool.{true};
 ghost use Prim.Native.Nat.{_+_, _<_, _≤_};
 ghost use lib.ListN.{length, drop};
-ghost use Rattle.columns.specs.Columns.{columnLength, Passes, isStop, anyBytes, Finds};
+ghost use Rattle.columns.specs.Columns.{columnLength, Passes, isStop, OneByte, anyBytes, Finds};
 
 pub enum Place {
     At(usize),
@@ -35,6 +35,22 @@ pub fn number_end(s: &[u8], at: usize) -> usize
         i += 1;
     }
     i
+}
+
+// Whether the column from place at on is one byte, and the byte stop ends it: so most columns of a sheet are.
+pub fn one_byte(s: &[u8], at: usize, stop: u8) -> bool
+    ensures { λ r. ⌜ (r ≡ true → OneByte (now (s .entry)) at stop) ⌝ }
+{
+    if s.len() <= at {
+        return false;
+    }
+    if s.len() - at < 2 {
+        return false;
+    }
+    if s[at + 1] != stop {
+        return false;
+    }
+    b' ' < s[at]
 }
 
 // A place after blocks of digits, in which no column ends: a block is tested by vector instructions.

@@ -1,2 +1,3 @@
 pub mod NumberAtLaws
 pub mod NumberFindLaws
+pub mod OneDigitLaws

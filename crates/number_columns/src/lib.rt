@@ -5,7 +5,7 @@ ghost use Prim.Native.Nat.{_+_, _<_};
 ghost use Rattle.sheets.specs.Answer.{given};
 ghost use Rattle.sheets.specs.Number.{readNumber, readSigned};
 ghost use Rattle.columns.specs.Columns.{isStop, part};
-ghost use Rattle.number_columns.specs.NumberColumns.{FindsNumber, FindsSigned, HasNumber, HasSigned};
+ghost use Rattle.number_columns.specs.NumberColumns.{FindsNumber, FindsSigned, OneDigit, HasNumber, HasSigned};
 use columns::Place;
 use decimal::Signed64;
 use decimal::Unsigned64;
@@ -20,7 +20,27 @@ pub enum SignedColumn {
     Bad,
 }
 
-pub fn signed_column(s: &[u8], at: usize) -> SignedColumn
+fn wide(b: u8) -> u64
+    ensures { λ r. ⌜ (r ≡ b) × (r < 256) ⌝ }
+{
+    b as u64
+}
+
+// Whether the column from place at on is one digit, and the byte stop ends it: so most numbers of a sheet are.
+fn one_digit(s: &[u8], at: usize, stop: u8) -> bool
+    ensures { λ r. ⌜ (r ≡ true → OneDigit (now (s .entry)) at stop) ⌝ }
+{
+    if !columns::one_byte(s, at, stop) {
+        return false;
+    }
+    if s[at] < b'0' {
+        return false;
+    }
+    s[at] <= b'9'
+}
+
+// The same as `signed_column`, for a number of any length.
+fn any_signed(s: &[u8], at: usize) -> SignedColumn
     ensures { λ r. ⌜ FindsSigned (now (s .entry)) at 32 r ⌝ }
 {
     let Place::At(e) = columns::column(s, at, columns::number_end(s, at), b' ') else {
@@ -32,7 +52,17 @@ pub fn signed_column(s: &[u8], at: usize) -> SignedColumn
     SignedColumn::At(z, e)
 }
 
-pub fn number_column(s: &[u8], at: usize, stop: u8) -> NumberColumn
+pub fn signed_column(s: &[u8], at: usize) -> SignedColumn
+    ensures { λ r. ⌜ FindsSigned (now (s .entry)) at 32 r ⌝ }
+{
+    if one_digit(s, at, b' ') {
+        return SignedColumn::At(wide(s[at] - b'0') as i64, at + 1);
+    }
+    any_signed(s, at)
+}
+
+// The same as `number_column`, for a number of any length.
+fn any_number(s: &[u8], at: usize, stop: u8) -> NumberColumn
     requires { ⌜ isStop stop ≡ true ⌝ }
     ensures { λ r. ⌜ FindsNumber (now (s .entry)) at stop r ⌝ }
 {
@@ -45,10 +75,14 @@ pub fn number_column(s: &[u8], at: usize, stop: u8) -> NumberColumn
     NumberColumn::At(n, e)
 }
 
-fn wide(b: u8) -> u64
-    ensures { λ r. ⌜ (r ≡ b) × (r < 256) ⌝ }
+pub fn number_column(s: &[u8], at: usize, stop: u8) -> NumberColumn
+    requires { ⌜ isStop stop ≡ true ⌝ }
+    ensures { λ r. ⌜ FindsNumber (now (s .entry)) at stop r ⌝ }
 {
-    b as u64
+    if one_digit(s, at, stop) {
+        return NumberColumn::At(wide(s[at] - b'0'), at + 1);
+    }
+    any_number(s, at, stop)
 }
 
 // The number whose digits stand from place at up to end.

@@ -19,7 +19,10 @@ use Rattle.sheets.proofs.Tests.{and-left, and-right}
 use Rattle.hex.specs.Hex.{gives, isDigit, valueOf, isHex, bytesOf}
 use Rattle.hex.proofs.DigitLaws.{digit-of-value}
 use Rattle.hex.proofs.HexLaws.{unhex-is, digit-at, byte-of-pair, length-bytes}
-use Rattle.text_columns.specs.TextColumns.{isMark, isZero, isText, lacksZeroIn, isCString}
+use Rattle.text_columns.specs.TextColumns.{isMark, isZero, isText, lacksZeroIn, isCString, OneMark}
+use Rattle.columns.specs.Columns.{Finds}
+use Rattle.columns.specs.declared.Place.the-variants.{At}
+use Rattle.columns.proofs.ColumnLaws.{one-part, one-column}
 
 -- ── which columns are texts
 
@@ -145,3 +148,7 @@ mark-c-string (c ∷ d ∷ s) h e = absurd (omega arith)
 pub pairs-c-string : (s : Bytes) → 2 ≤ length s → isHex s ≡ true → isCString s ≡ passes (lacks 0 (bytesOf s))
 unfolding isCString
 pairs-c-string s h e = ap lacksZeroIn (text-pairs s h ∙ ap (λ (a : Answer Bytes). a >>= λ bs. given (some bs)) (unhex-is s e))
+
+-- a mark alone is a text's column
+pub mark-there : (s : Bytes) (a : ℕ) → OneMark s a → Finds isText s a 32 (At (a + 1))
+mark-there s a (o, m) = (one-column o, ap isText (one-part o) ∙ text-one (getD s a 0 ∷ []) refl ∙ m)

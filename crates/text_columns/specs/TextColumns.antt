@@ -1,14 +1,17 @@
 -- What a text's column is. Assumes nothing.
-use mathlib.Core.Bool.{Bool, false, _&&_, _||_}
+use mathlib.Core.Path.{_≡_}
+use mathlib.Core.Bool.{Bool, true, false, _&&_, _||_}
 use mathlib.Core.Option.{Option}
 use Prim.Native.Nat.{ℕ}
 use lib.Dec.{eqb}
+use lib.ListN.{getD}
 use Rattle.sheets.specs.Rule.{passes}
 use Rattle.sheets.specs.Bytes.{Bytes}
 use Rattle.sheets.specs.Answer.{Answer, refused, given}
 use Rattle.sheets.specs.Text.{readText}
 use Rattle.sheets.specs.Schema.{lacksZero}
 use Rattle.hex.specs.Hex.{gives}
+use Rattle.columns.specs.Columns.{OneByte}
 
 -- a text of one byte: a null pointer, an empty text
 abbrev pub isMark : ℕ → Bool
@@ -29,3 +32,7 @@ lacksZeroIn (given t) = passes (lacksZero t)
 -- a text's column without byte 00, as the format and the name are C strings
 unfoldable pub isCString : Bytes → Bool
 isCString c = lacksZeroIn (readText c)
+
+-- the column from a on is a mark, and a space ends it
+abbrev pub OneMark : Bytes → ℕ → Type 0
+OneMark s a = OneByte s a 32 × (isMark (getD s a 0) ≡ true)

@@ -6,7 +6,7 @@ ghost use Rattle.sheets.specs.Rule.{passes};
 ghost use Rattle.sheets.specs.Bytes.{lacks};
 ghost use Rattle.hex.specs.Hex.{isHex, bytesOf};
 ghost use Rattle.columns.specs.Columns.{Finds};
-ghost use Rattle.text_columns.specs.TextColumns.{isMark, isText, isZero, isCString};
+ghost use Rattle.text_columns.specs.TextColumns.{isMark, isText, isZero, isCString, OneMark};
 use columns::Place;
 
 // `~` is a null pointer, `-` an empty text.
@@ -65,8 +65,18 @@ fn is_c_string(s: &[u8]) -> bool
     lacks_zero(s)
 }
 
-// The end of the text's column from place at on.
-pub fn text_column(s: &[u8], at: usize) -> Place
+// Whether the column from place at on is a mark, and a space ends it.
+fn one_mark(s: &[u8], at: usize) -> bool
+    ensures { λ r. ⌜ (r ≡ true → OneMark (now (s .entry)) at) ⌝ }
+{
+    if !columns::one_byte(s, at, b' ') {
+        return false;
+    }
+    is_mark(s[at])
+}
+
+// The same as `text_column`, for a text of any length.
+fn any_text(s: &[u8], at: usize) -> Place
     ensures { λ r. ⌜ Finds isText (now (s .entry)) at 32 r ⌝ }
 {
     let Place::At(e) = columns::column(s, at, columns::text_end(s, at), b' ') else {
@@ -76,6 +86,16 @@ pub fn text_column(s: &[u8], at: usize) -> Place
         return Place::At(e);
     }
     Place::Nowhere
+}
+
+// The end of the text's column from place at on. Most metadata are `~`.
+pub fn text_column(s: &[u8], at: usize) -> Place
+    ensures { λ r. ⌜ Finds isText (now (s .entry)) at 32 r ⌝ }
+{
+    if one_mark(s, at) {
+        return Place::At(at + 1);
+    }
+    any_text(s, at)
 }
 
 // The end of the column from place at on that is a text without byte 00.

@@ -1,4 +1,4 @@
--- `key_order::compare` meets its contract. The invariant: the comparison of the whole is that from `i` on; two words that differ decide it.
+-- `byte_order::compare` meets its contract. The invariant: the comparison of the whole is that from `i` on; two words that differ decide it.
 -- Assumes nothing.
 use mathlib.Core.Path.{_≡_, refl, sym, _∙_}
 use Prim.Native.Nat.{_-_, _≤_}

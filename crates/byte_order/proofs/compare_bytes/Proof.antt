@@ -1,4 +1,4 @@
--- `key_order::compare_bytes` meets its contract. The invariant: the comparison from `from` on is that from `i` on; each way out is decided by the
+-- `byte_order::compare_bytes` meets its contract. The invariant: the comparison from `from` on is that from `i` on; each way out is decided by the
 -- bytes at `i`, or by one string's end. Assumes nothing.
 use mathlib.Core.Path.{_≡_, refl, sym, _∙_}
 use Prim.Native.Nat.{_-_}

@@ -1,4 +1,4 @@
--- `key_order::is_before` meets its contract: the first comes before the second exactly if the comparison says Less. Assumes nothing.
+-- `byte_order::is_before` meets its contract: the first comes before the second exactly if the comparison says Less. Assumes nothing.
 use mathlib.Core.Path.{sym}
 use Rattle.byte_order.proofs.CompareLaws.{is-less, not-less, not-less-either}
 use borrow.Author.Needs.{needs}

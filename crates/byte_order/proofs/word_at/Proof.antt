@@ -1,4 +1,4 @@
--- `key_order::word_at` meets its contract: the value is the sum of the four bytes at their places, and each is below 256, so that nothing wraps.
+-- `byte_order::word_at` meets its contract: the value is the sum of the four bytes at their places, and each is below 256, so that nothing wraps.
 -- Assumes nothing.
 use native.Mathlib.Omega.{arith}
 use borrow.Author.Needs.{needs}

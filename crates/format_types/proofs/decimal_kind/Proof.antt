@@ -1,4 +1,4 @@
--- `format::decimal_kind` meets its contract: by cases of the width. Assumes nothing.
+-- `format_types::decimal_kind` meets its contract: by cases of the width. Assumes nothing.
 use mathlib.Core.Path.{sym, ap}
 use Prim.Native.Nat.{ℕ}
 use Rattle.sheets.specs.FieldSheet.{decimalKind}

@@ -1,4 +1,4 @@
--- `format::decimal_of` meets its contract: the precision is read, then the scale. Assumes nothing.
+-- `format_types::decimal_of` meets its contract: the precision is read, then the scale. Assumes nothing.
 use mathlib.Core.Path.{sym, _∙_, ap, ap₂}
 use Prim.Native.Nat.{_+_}
 use Rattle.sheets.specs.Format.{readSize}

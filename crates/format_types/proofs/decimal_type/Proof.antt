@@ -1,4 +1,4 @@
--- `format::decimal_type` meets its contract: two parts or three. Assumes nothing.
+-- `format_types::decimal_type` meets its contract: two parts or three. Assumes nothing.
 use mathlib.Core.Path.{refl, _∙_, ap}
 use mathlib.Core.List.{List, _∷_}
 use Prim.Native.Nat.{_+_}

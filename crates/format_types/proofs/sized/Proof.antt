@@ -1,4 +1,4 @@
--- `format::sized` meets its contract: the rest of the format is the number. Assumes nothing.
+-- `format_types::sized` meets its contract: the rest of the format is the number. Assumes nothing.
 use mathlib.Core.Path.{sym, _∙_, ap}
 use Prim.Native.Nat.{_/_}
 use native.Mathlib.Omega.{arith}

@@ -1,4 +1,4 @@
--- `format::union_of` meets its contract: by the laws of a union's ids. Assumes nothing.
+-- `format_types::union_of` meets its contract: by the laws of a union's ids. Assumes nothing.
 use mathlib.Core.Path.{sym, _∙_}
 use native.Mathlib.Omega.{arith}
 use lib.ListN.{drop}

@@ -1,4 +1,4 @@
--- `format::wide_decimal` meets its contract: a third part that is the last is the width. Assumes nothing.
+-- `format_types::wide_decimal` meets its contract: a third part that is the last is the width. Assumes nothing.
 use mathlib.Core.Path.{refl, sym, _∙_, ap}
 use mathlib.Core.List.{List, _∷_}
 use Prim.Native.Nat.{ℕ, _+_}

@@ -1,4 +1,4 @@
--- `format::zoned` meets its contract: an empty rest is no zone. Assumes nothing.
+-- `format_types::zoned` meets its contract: an empty rest is no zone. Assumes nothing.
 use mathlib.Core.Logic.{_≢_}
 use native.Mathlib.Omega.{arith}
 use lib.ListN.{length}

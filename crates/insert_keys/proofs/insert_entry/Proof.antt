@@ -1,4 +1,4 @@
--- `key_order::insert_entry` meets its contract. The invariant: the list with p put in is its first `j` entries, and then the others with p put in.
+-- `insert_keys::insert_entry` meets its contract. The invariant: the list with p put in is its first `j` entries, and then the others with p put in.
 -- Assumes nothing.
 use mathlib.Core.List.{_++_}
 use mathlib.Core.Path.{_≡_, refl, sym, ap, _∙_}

@@ -1,4 +1,4 @@
--- `key_order::open_at` meets its contract: the part from j to n + 1 comes back shifted by one. Assumes nothing.
+-- `insert_keys::open_at` meets its contract: the part from j to n + 1 comes back shifted by one. Assumes nothing.
 use mathlib.Core.Path.{refl}
 use Rattle.insert_keys.proofs.InsertLaws.{opened}
 use borrow.Author.Needs.{needs}

@@ -1,4 +1,4 @@
--- `key_order::shift_in` meets its contract. The invariant: the first `k` are those of v and then part, and `w` is the next of them. Assumes nothing.
+-- `insert_keys::shift_in` meets its contract. The invariant: the first `k` are those of v and then part, and `w` is the next of them. Assumes nothing.
 use mathlib.Core.Path.{_≡_, refl, _∙_}
 use mathlib.Core.List.{_∷_, _++_, append-nil}
 use Prim.Native.Nat.{_≤_, _<_, _-_}

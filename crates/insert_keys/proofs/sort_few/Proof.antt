@@ -1,4 +1,4 @@
--- `key_order::sort_few` meets its contract. The invariant: the first `r` of `to` are those of `from` from `k` on, in order. Assumes nothing.
+-- `insert_keys::sort_few` meets its contract. The invariant: the first `r` of `to` are those of `from` from `k` on, in order. Assumes nothing.
 use mathlib.Core.Path.{_≡_, refl, ap, _∙_}
 use Prim.Native.Nat.{_-_, _≤_}
 use native.Mathlib.Omega.{arith}

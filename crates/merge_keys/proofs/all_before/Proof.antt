@@ -1,4 +1,4 @@
--- `key_order::all_before` meets its contract: both lists ascend, so the last of a and the first of b tell. Assumes nothing.
+-- `merge_keys::all_before` meets its contract: both lists ascend, so the last of a and the first of b tell. Assumes nothing.
 use mathlib.Core.Bool.{true≢false}
 use mathlib.Core.Path.{sym, _∙_}
 use Rattle.key_order.specs.Order.{keyAt}

@@ -1,4 +1,4 @@
--- `key_order::join` meets its contract: where one list comes wholly before the other, merging appends. Assumes nothing.
+-- `merge_keys::join` meets its contract: where one list comes wholly before the other, merging appends. Assumes nothing.
 use mathlib.Core.Path.{_∙_, sym}
 use native.Mathlib.Omega.{arith}
 use Rattle.key_order.specs.Order.{keyAt}

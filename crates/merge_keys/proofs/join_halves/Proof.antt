@@ -1,4 +1,4 @@
--- `key_order::join_halves` meets its contract: the parts lent are those that `Halves` speaks of. Assumes nothing.
+-- `merge_keys::join_halves` meets its contract: the parts lent are those that `Halves` speaks of. Assumes nothing.
 use mathlib.Core.Path.{_≡_, sym, subst}
 use Prim.Native.Nat.{ℕ, _+_, _-_}
 use native.Mathlib.Omega.{arith}

@@ -1,4 +1,4 @@
--- `key_order::merge` meets its contract. The invariant: a and b merged are what is written, and then what is left of a merged with what is left of b.
+-- `merge_keys::merge` meets its contract. The invariant: a and b merged are what is written, and then what is left of a merged with what is left of b.
 -- The first entries that are left decide what is written next. Assumes nothing.
 use mathlib.Core.List.{_++_}
 use mathlib.Core.Path.{_≡_, refl, ap, _∙_}

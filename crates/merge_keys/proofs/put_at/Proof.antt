@@ -1,4 +1,4 @@
--- `key_order::put_at` meets its contract. The invariant: the first `i` of s are pasted over out from `at` on. Assumes nothing.
+-- `merge_keys::put_at` meets its contract. The invariant: the first `i` of s are pasted over out from `at` on. Assumes nothing.
 use mathlib.Core.List.{_++_}
 use mathlib.Core.Path.{_≡_, refl, ap, _∙_}
 use Prim.Native.Nat.{_-_, _+_, _≤_, _<_}

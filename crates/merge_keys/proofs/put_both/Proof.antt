@@ -1,4 +1,4 @@
--- `key_order::put_both` meets its contract: b is put where a ends. Assumes nothing.
+-- `merge_keys::put_both` meets its contract: b is put where a ends. Assumes nothing.
 use mathlib.Core.List.{_++_}
 use mathlib.Core.Path.{_∙_, ap}
 use native.Mathlib.Omega.{arith}

@@ -1,4 +1,4 @@
--- `columns::number_at` meets its contract. The loop's invariant: `v` is the value of the digits before `i`, and digits stand from `i` to the end.
+-- `number_columns::number_at` meets its contract. The loop's invariant: `v` is the value of the digits before `i`, and digits stand from `i` to the end.
 -- The measure is what is left of them. Assumes nothing.
 use mathlib.Core.Path.{sym, subst}
 use Prim.Native.Nat.{ℕ, _+_, _*_, _-_}

@@ -1,4 +1,4 @@
--- `columns::signed_at` meets its contract: what is known to stand is read. Assumes nothing.
+-- `number_columns::signed_at` meets its contract: what is known to stand is read. Assumes nothing.
 use mir.Facts.{toZ-ofZ}
 use mir.Syntax.{w64}
 use mir.Val.{SFits}

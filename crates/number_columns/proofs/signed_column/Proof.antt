@@ -1,80 +1,58 @@
--- `columns::signed_column` meets its contract: the column from here on reads as such a number or does not, and there is no other. Assumes nothing.
-use mathlib.Core.Path.{refl}
-use native.Mathlib.Omega.{arith}
-use Rattle.number_columns.proofs.NumberFindLaws.{signed-there, signed-not}
-use Rattle.columns.proofs.FindLaws.{none-there, column-there}
-use mir.Facts.{toZ-ofZ}
+-- `number_columns::signed_column` meets its contract: one digit is the number, and any other is read as before. Assumes nothing.
+use denote.Ref.{now}
+use mir.Facts.{toZ-pos}
 use mir.Syntax.{w64}
-use mir.Val.{SFits}
+use mathlib.Core.Path.{refl, sym, subst}
+use Prim.Native.Nat.{_+_, _^_, _<_}
+use lib.IntN.{ℤ}
+use native.Mathlib.Omega.{arith}
+use Rattle.number_columns.proofs.OneDigitLaws.{signed-digit-there}
 use borrow.Author.Needs.{needs}
+use Rattle.number_columns.specs.NumberColumns.{FindsSigned}
+use Rattle.number_columns.specs.declared.SignedColumn.the-variants as Signed
 use Rattle.number_columns.proofs.signed_column.Statement.{statement}
 use Rattle.number_columns.proofs.signed_column.Tie as tie
 
-number-end-requires : tie.Need-number-end-requires
-number-end-requires c κs = search needs
+one-digit-requires : tie.Need-one-digit-requires
+one-digit-requires c κs = search needs
 
-column-requires : tie.Need-column-requires
-column-requires c κs = (c .number-end .ensures, refl)
+shared-slice-read-wide : tie.Need-shared-slice-read-wide
+shared-slice-read-wide c = let d = c .before .before .one-digit .ensures (c .before .if1 .taken) in omega (arith, d .byte .room)
 
-enum-known-e : tie.Need-enum-known-e
-enum-known-e c = search needs
+sub-wide : tie.Need-sub-wide
+sub-wide c = let d = c .before .before .one-digit .ensures (c .before .if1 .taken) in omega (arith, d .low)
 
-enum-told : tie.Need-enum-told
-enum-told c = search needs
+wide-requires : tie.Need-wide-requires
+wide-requires c κs = search needs
+
+cast-t8 : tie.Need-cast-t8
+cast-t8 c = search needs
+
+add-t9 : tie.Need-add-t9
+add-t9 c = let d = c .before .before .before .one-digit .ensures (c .before .before .if1 .taken) in omega (arith, d .byte .room, c .before .before .before .before .before .fits)
 
 returns : tie.Need-returns
-returns c = λ e z k reads small. none-there (c .before .before .before .before .before .args .s .now) (c .before .before .before .before .before .args .at) 32 _ (c .before .before .column .ensures) (c .enum-told .given .1) e k
+returns c =
+    let a = c .before .before .before .before .before .args in
+    let l : c .wide .result < 2 ^ 63 = omega (arith, c .wide .ensures .1) in
+    subst (λ (z : ℤ). FindsSigned (now (a .s)) (a .at) 32 (Signed.At z (a .at + 1))) (sym (toZ-pos w64 l)) (signed-digit-there (c .before .before .before .one-digit .ensures (c .before .before .if1 .taken)) _ (c .wide .ensures .0) refl)
 
-sub-read-i64 : tie.Need-sub-read-i64
-sub-read-i64 c =
-    let k = column-there (c .before .before .before .before .before .before .args .s .now) (c .before .before .before .before .before .before .args .at) 32 _ (c .before .before .before .column .ensures) _ (c .before .e .given .1) in
-    omega (arith, k .low, k .high)
-
-part-read-i64-start : tie.Need-part-read-i64-start
-part-read-i64-start c =
-    let k = column-there (c .before .before .before .before .before .before .args .s .now) (c .before .before .before .before .before .before .args .at) 32 _ (c .before .before .before .column .ensures) _ (c .before .e .given .1) in
-    omega (arith, k .low, k .high)
-
-part-read-i64-end : tie.Need-part-read-i64-end
-part-read-i64-end c =
-    let k = column-there (c .before .before .before .before .before .before .args .s .now) (c .before .before .before .before .before .before .args .at) 32 _ (c .before .before .before .column .ensures) _ (c .before .e .given .1) in
-    omega (arith, k .low, k .high)
-
-read-i64-requires : tie.Need-read-i64-requires
-read-i64-requires c κs = search needs
-
-enum-known-z : tie.Need-enum-known-z
-enum-known-z c = search needs
-
-enum-told-2 : tie.Need-enum-told-2
-enum-told-2 c = search needs
+any-signed-requires : tie.Need-any-signed-requires
+any-signed-requires c κs = search needs
 
 returns-2 : tie.Need-returns-2
-returns-2 c =
-    let k = column-there (c .before .before .before .before .before .before .before .before .before .before .args .s .now) (c .before .before .before .before .before .before .before .before .before .before .args .at) 32 _ (c .before .before .before .before .before .before .before .column .ensures) _ (c .before .before .before .before .before .e .given .1) in
-    signed-not refl k _ (c .enum-told2 .given .1) (c .before .before .read-i64 .ensures)
-
-returns-3 : tie.Need-returns-3
-returns-3 c =
-    let k = column-there (c .before .before .before .before .before .before .before .before .before .before .before .args .s .now) (c .before .before .before .before .before .before .before .before .before .before .before .args .at) 32 _ (c .before .before .before .before .before .before .before .before .column .ensures) _ (c .before .before .before .before .before .before .e .given .1) in
-    let w = signed-there refl k _ _ (c .before .z .given .1) (c .before .before .before .read-i64 .ensures) in
-    let f : SFits w64 (c .before .z .given .0 .0) = record { sfits = w .2 } in
-    rw (toZ-ofZ f) w
+returns-2 c = search needs
 
 pub signed-column-spec : {M : Type 1} → statement M
 signed-column-spec =
     tie.close
     (tie.spec
-    number-end-requires
-    column-requires
-    enum-known-e
-    enum-told
+    one-digit-requires
+    shared-slice-read-wide
+    sub-wide
+    wide-requires
+    cast-t8
+    add-t9
     returns
-    sub-read-i64
-    part-read-i64-start
-    part-read-i64-end
-    read-i64-requires
-    enum-known-z
-    enum-told-2
-    returns-2
-    returns-3)
+    any-signed-requires
+    returns-2)

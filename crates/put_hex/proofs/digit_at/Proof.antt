@@ -1,4 +1,4 @@
--- `hex::digit_at` meets its contract: the even digits of the text are the high ones of their bytes. Assumes nothing.
+-- `put_hex::digit_at` meets its contract: the even digits of the text are the high ones of their bytes. Assumes nothing.
 use mathlib.Core.Path.{sym, _∙_}
 use Prim.Native.Nat.{_/_}
 use native.Mathlib.Omega.{arith}

@@ -1,4 +1,4 @@
--- `hex::digit_of` meets its contract, by `digit-by-tens`. Assumes nothing.
+-- `put_hex::digit_of` meets its contract, by `digit-by-tens`. Assumes nothing.
 use mathlib.Core.Path.{sym}
 use Rattle.hex.proofs.DigitLaws.{digit-by-tens}
 use borrow.Author.Needs.{needs}

@@ -1,4 +1,4 @@
--- `hex::put_digits` meets its contract. The loop's invariant: the first `j` digits are written. The measure is how many are left. Assumes nothing.
+-- `put_hex::put_digits` meets its contract. The loop's invariant: the first `j` digits are written. The measure is how many are left. Assumes nothing.
 use mathlib.Core.Path.{_≡_, refl, ap, ap₂, _∙_}
 use mathlib.Core.List.{List}
 use Prim.Native.Nat.{ℕ, _-_, _≤_, min}

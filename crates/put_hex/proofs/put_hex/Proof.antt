@@ -1,4 +1,4 @@
--- `hex::put_hex` meets its contract: what the lent part holds after `put_digits` is said of the whole by `overAt-lent`. Assumes nothing.
+-- `put_hex::put_hex` meets its contract: what the lent part holds after `put_digits` is said of the whole by `overAt-lent`. Assumes nothing.
 use mathlib.Core.Path.{sym}
 use native.Mathlib.Omega.{arith}
 use Rattle.sheets.specs.Text.{hex}

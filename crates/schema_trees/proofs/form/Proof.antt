@@ -1,4 +1,4 @@
--- `schema_sheet::form` meets its contract. The loop's invariant: one tree stands from `at` on exactly if a row of as many trees as are due stands
+-- `schema_trees::form` meets its contract. The loop's invariant: one tree stands from `at` on exactly if a row of as many trees as are due stands
 -- from `here` on. The measure is what is left of the bytes. Assumes nothing.
 use mathlib.Core.Path.{_≡_, refl, subst}
 use mathlib.Core.Logic.{_↔_}

@@ -1,4 +1,4 @@
--- `key_order::sort_into` meets its contract. The measure is the number of entries. Both halves come back sorted in `from`, and merging sorts the
+-- `sort_keys::sort_into` meets its contract. The measure is the number of entries. Both halves come back sorted in `from`, and merging sorts the
 -- whole (`HalvesLaws`). Assumes nothing.
 use mathlib.Core.List.{List}
 use mathlib.Core.Path.{_≡_, sym, ap, subst, _∙_}

@@ -1,4 +1,4 @@
--- `key_order::sort_keys` meets its contract: `spare` holds a copy of the entries, as `sort_into` asks. Assumes nothing.
+-- `sort_keys::sort_keys` meets its contract: `spare` holds a copy of the entries, as `sort_into` asks. Assumes nothing.
 use mathlib.Core.Path.{_≡_, sym, subst, _∙_}
 use Prim.Native.Nat.{ℕ}
 use native.Mathlib.Omega.{arith}

@@ -1,4 +1,4 @@
--- `columns::c_string_column` meets its contract: the column from here on is a text without byte 00 or is not, and there is no other. Assumes nothing.
+-- `text_columns::c_string_column` meets its contract: the column from here on is a text without byte 00 or is not, and there is no other. Assumes nothing.
 use mathlib.Core.Path.{refl, sym, _∙_}
 use native.Mathlib.Omega.{arith}
 use Rattle.text_columns.specs.TextColumns.{isCString}

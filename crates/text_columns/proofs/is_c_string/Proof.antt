@@ -1,4 +1,4 @@
--- `columns::is_c_string` meets its contract: a mark says no byte, and in pairs byte 00 is the pair 00. Assumes nothing.
+-- `text_columns::is_c_string` meets its contract: a mark says no byte, and in pairs byte 00 is the pair 00. Assumes nothing.
 use mathlib.Core.Path.{_≡_, sym, _∙_}
 use mathlib.Core.Bool.{true}
 use Prim.Native.Nat.{_≤_}

@@ -1,4 +1,4 @@
--- `columns::is_mark` meets its contract. Assumes nothing.
+-- `text_columns::is_mark` meets its contract. Assumes nothing.
 use Rattle.text_columns.proofs.TextLaws.{mark-null, mark-other}
 use Rattle.text_columns.proofs.is_mark.Statement.{statement}
 use Rattle.text_columns.proofs.is_mark.Tie as tie

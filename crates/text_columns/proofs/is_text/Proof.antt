@@ -1,4 +1,4 @@
--- `columns::is_text` meets its contract: by the length of the column. Assumes nothing.
+-- `text_columns::is_text` meets its contract: by the length of the column. Assumes nothing.
 use mathlib.Core.Path.{sym, _∙_}
 use native.Mathlib.Omega.{arith}
 use Rattle.text_columns.proofs.TextLaws.{text-none, text-one, text-long}

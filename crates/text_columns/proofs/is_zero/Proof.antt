@@ -1,4 +1,4 @@
--- `columns::is_zero` meets its contract. Assumes nothing.
+-- `text_columns::is_zero` meets its contract. Assumes nothing.
 use Rattle.text_columns.proofs.TextLaws.{zero-first, zero-second}
 use Rattle.text_columns.proofs.is_zero.Statement.{statement}
 use Rattle.text_columns.proofs.is_zero.Tie as tie

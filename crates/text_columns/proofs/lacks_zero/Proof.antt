@@ -1,4 +1,4 @@
--- `columns::lacks_zero` meets its contract. The loop's invariant: the bytes lack byte 00 exactly if `ok` is true and those from byte `k` on do.
+-- `text_columns::lacks_zero` meets its contract. The loop's invariant: the bytes lack byte 00 exactly if `ok` is true and those from byte `k` on do.
 -- The measure is what is left of the pairs. Assumes nothing.
 use mathlib.Core.Path.{_≡_, refl, sym, ap, _∙_}
 use mathlib.Core.Bool.{Bool, _&&_, not}

@@ -1,68 +1,26 @@
--- `columns::text_column` meets its contract: the column from here on is a text or is not, and there is no other. Assumes nothing.
-use mathlib.Core.Path.{refl, sym, _∙_}
+-- `text_columns::text_column` meets its contract: a mark alone is a text, and any other is read as before. Assumes nothing.
+use denote.Ref.{now}
 use native.Mathlib.Omega.{arith}
-use Rattle.text_columns.specs.TextColumns.{isText}
-use Rattle.columns.proofs.FindLaws.{none-there, column-there, other-there}
+use Rattle.text_columns.proofs.TextLaws.{mark-there}
 use borrow.Author.Needs.{needs}
 use Rattle.text_columns.proofs.text_column.Statement.{statement}
 use Rattle.text_columns.proofs.text_column.Tie as tie
 
-text-end-requires : tie.Need-text-end-requires
-text-end-requires c κs = search needs
+one-mark-requires : tie.Need-one-mark-requires
+one-mark-requires c κs = search needs
 
-column-requires : tie.Need-column-requires
-column-requires c κs = (c .text-end .ensures, refl)
-
-enum-known-e : tie.Need-enum-known-e
-enum-known-e c = search needs
-
-enum-told : tie.Need-enum-told
-enum-told c = search needs
+add-t4 : tie.Need-add-t4
+add-t4 c = let o = c .before .one-mark .ensures (c .if1 .taken) in omega (arith, o .0 .room, c .before .before .before .fits)
 
 returns : tie.Need-returns
-returns c = λ e k h. none-there (c .before .before .before .before .before .args .s .now) (c .before .before .before .before .before .args .at) 32 _ (c .before .before .column .ensures) (c .enum-told .given .1) e k
+returns c = mark-there (now (c .before .before .before .args .s)) _ (c .before .one-mark .ensures (c .if1 .taken))
 
-sub-is-text : tie.Need-sub-is-text
-sub-is-text c =
-    let k = column-there (c .before .before .before .before .before .before .args .s .now) (c .before .before .before .before .before .before .args .at) 32 _ (c .before .before .before .column .ensures) _ (c .before .e .given .1) in
-    omega (arith, k .low, k .high)
-
-part-is-text-start : tie.Need-part-is-text-start
-part-is-text-start c =
-    let k = column-there (c .before .before .before .before .before .before .args .s .now) (c .before .before .before .before .before .before .args .at) 32 _ (c .before .before .before .column .ensures) _ (c .before .e .given .1) in
-    omega (arith, k .low, k .high)
-
-part-is-text-end : tie.Need-part-is-text-end
-part-is-text-end c =
-    let k = column-there (c .before .before .before .before .before .before .args .s .now) (c .before .before .before .before .before .before .args .at) 32 _ (c .before .before .before .column .ensures) _ (c .before .e .given .1) in
-    omega (arith, k .low, k .high)
-
-is-text-requires : tie.Need-is-text-requires
-is-text-requires c κs = search needs
+any-text-requires : tie.Need-any-text-requires
+any-text-requires c κs = search needs
 
 returns-2 : tie.Need-returns-2
-returns-2 c = (
-  column-there (c .before .before .before .before .before .before .before .before .before .args .s .now) (c .before .before .before .before .before .before .before .before .before .args .at) 32 _ (c .before .before .before .before .before .before .column .ensures) _ (c .before .before .before .before .e .given .1),
-  sym (c .before .is-text .ensures) ∙ c .if1 .taken,
-)
-
-returns-3 : tie.Need-returns-3
-returns-3 c =
-    let k = column-there (c .before .before .before .before .before .before .before .before .before .args .s .now) (c .before .before .before .before .before .before .before .before .before .args .at) 32 _ (c .before .before .before .before .before .before .column .ensures) _ (c .before .before .before .before .e .given .1) in
-    other-there refl k isText (sym (c .before .is-text .ensures) ∙ c .if1 .left)
+returns-2 c = search needs
 
 pub text-column-spec : {M : Type 1} → statement M
 text-column-spec =
-    tie.close
-    (tie.spec
-    text-end-requires
-    column-requires
-    enum-known-e
-    enum-told
-    returns
-    sub-is-text
-    part-is-text-start
-    part-is-text-end
-    is-text-requires
-    returns-2
-    returns-3)
+    tie.close (tie.spec one-mark-requires add-t4 returns any-text-requires returns-2)
