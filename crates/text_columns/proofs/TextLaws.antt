@@ -3,13 +3,13 @@ use mathlib.Core.Path.{_≡_, refl, sym, ap, ap₂, _∙_}
 use mathlib.Core.Bool.{Bool, true, false, _&&_, _||_, not, cond, true≢false}
 use mathlib.Core.List.{[], _∷_}
 use mathlib.Core.Option.{Option, none, some}
-use Prim.Native.Nat.{ℕ, suc, _+_, _*_, _/_, _≤_, _<_}
+use Prim.Native.Nat.{ℕ, zero, suc, _+_, _-_, _*_, _/_, _≤_, _<_}
 use native.Mathlib.Numerals.{add-one}
 use native.Mathlib.Omega.{arith}
-use lib.Dec.{eqb}
+use lib.Dec.{eqb, ltb}
 use lib.ListN.{length, getD, drop, drop-of-length-le}
 use lib.Seq.{drop-cons}
-use borrow.Author.Tests.{eq-eqb, ne-eqb, eqb-true}
+use borrow.Author.Tests.{eq-eqb, ne-eqb, eqb-true, ltb-true, ltb-false}
 use Rattle.sheets.specs.Refusal.{badLines}
 use Rattle.sheets.specs.Rule.{passes}
 use Rattle.sheets.specs.Bytes.{Bytes, lacks}
@@ -19,7 +19,7 @@ use Rattle.sheets.proofs.Tests.{and-left, and-right}
 use Rattle.hex.specs.Hex.{gives, isDigit, valueOf, isHex, bytesOf}
 use Rattle.hex.proofs.DigitLaws.{digit-of-value}
 use Rattle.hex.proofs.HexLaws.{unhex-is, digit-at, byte-of-pair, length-bytes}
-use Rattle.text_columns.specs.TextColumns.{isMark, isZero, isText, lacksZeroIn, isCString, OneMark}
+use Rattle.text_columns.specs.TextColumns.{isMark, isZero, ZerosApart, isText, lacksZeroIn, isCString, OneMark}
 use Rattle.columns.specs.Columns.{Finds}
 use Rattle.columns.specs.declared.Place.the-variants.{At}
 use Rattle.columns.proofs.ColumnLaws.{one-part, one-column}
@@ -128,6 +128,31 @@ module _ (s : Bytes) (h : isHex s ≡ true) (k : ℕ) where
   pub zero-end : (ok : Bool) → length s / 2 ≤ k → (ok && passes (lacks 0 (drop k (bytesOf s)))) ≡ ok
   zero-end false l = refl
   zero-end true l = rw (drop-of-length-le (bytesOf s) {i = k} (omega (arith, length-bytes s h)))
+
+-- where no two zeros adjoin, no pair is 00
+pub apart-lacks : (s : Bytes) → isHex s ≡ true → ZerosApart s (length s) → true ≡ passes (lacks 0 (bytesOf s))
+apart-lacks s h z = sym (go (length s / 2) 0 (omega arith))
+  where
+    go : (n k : ℕ) → n + k ≡ length s / 2 → passes (lacks 0 (drop k (bytesOf s))) ≡ true
+    go zero k e = zero-end s h k true (omega arith)
+    go (suc n) k e =
+        let l : 2 * k + 1 < length s = omega arith in
+        zero-next s h k true l
+        ∙ ap (λ (t : Bool). not t && passes (lacks 0 (drop (k + 1) (bytesOf s)))) (z (2 * k) l)
+        ∙ go n (k + 1) (omega arith)
+
+-- one byte more
+module _ (s : Bytes) (k : ℕ) (z : ZerosApart s k) where
+  pub apart-more : 0 < k → isZero (getD s (k - 1) 0) (getD s k 0) ≡ false → ZerosApart s (k + 1)
+  apart-more l e i h = pick (ltb (i + 1) k) refl
+    where
+      pick : (t : Bool) → ltb (i + 1) k ≡ t → isZero (getD s i 0) (getD s (i + 1) 0) ≡ false
+      pick true m = z i (ltb-true (i + 1) k m)
+      pick false m =
+          let n : k ≤ i + 1 = ltb-false (i + 1) k m in
+          let p : i ≡ k - 1 = omega arith in
+          let q : i + 1 ≡ k = omega arith in
+          ap₂ (λ (x y : ℕ). isZero (getD s x 0) (getD s y 0)) p q ∙ e
 
 -- ── C strings
 

@@ -2,7 +2,7 @@
 use mathlib.Core.Path.{_≡_}
 use mathlib.Core.Bool.{Bool, true, false, _&&_, _||_}
 use mathlib.Core.Option.{Option}
-use Prim.Native.Nat.{ℕ}
+use Prim.Native.Nat.{ℕ, _+_, _<_}
 use lib.Dec.{eqb}
 use lib.ListN.{getD}
 use Rattle.sheets.specs.Rule.{passes}
@@ -20,6 +20,10 @@ isMark b = eqb b 126 || eqb b 45
 -- the digits of byte 00
 abbrev pub isZero : ℕ → ℕ → Bool
 isZero a b = eqb a 48 && eqb b 48
+
+-- no two zeros adjoin in the first n bytes
+abbrev pub ZerosApart : Bytes → ℕ → Type 0
+ZerosApart s n = (i : ℕ) → i + 1 < n → isZero (getD s i 0) (getD s (i + 1) 0) ≡ false
 
 -- a text's column
 unfoldable pub isText : Bytes → Bool

@@ -1,12 +1,12 @@
 // The texts in the columns of a line: found and tested.
 ghost use mathlib.Core.Path.{_≡_};
 ghost use mathlib.Core.Bool.{true};
-ghost use Prim.Native.Nat.{_+_};
+ghost use lib.ListN.{length};
 ghost use Rattle.sheets.specs.Rule.{passes};
 ghost use Rattle.sheets.specs.Bytes.{lacks};
 ghost use Rattle.hex.specs.Hex.{isHex, bytesOf};
 ghost use Rattle.columns.specs.Columns.{Finds};
-ghost use Rattle.text_columns.specs.TextColumns.{isMark, isText, isZero, isCString, OneMark};
+ghost use Rattle.text_columns.specs.TextColumns.{isMark, isText, isZero, ZerosApart, isCString, OneMark};
 use columns::Place;
 
 // `~` is a null pointer, `-` an empty text.
@@ -41,8 +41,19 @@ fn is_zero(a: u8, b: u8) -> bool
     b == b'0'
 }
 
-// Whether no pair of s is 00. Nothing leaves the loop early, so that it compiles to vector instructions.
-fn lacks_zero(s: &[u8]) -> bool
+// Whether no two zeros adjoin in s: then no pair is 00. This compiles to good vector instructions; the test of each pair by itself does not.
+fn zeros_apart(s: &[u8]) -> bool
+    ensures { λ r. ⌜ (r ≡ true → ZerosApart (now (s .entry)) (length (now (s .entry)))) ⌝ }
+{
+    let mut ok = true;
+    for k in 1..s.len() {
+        ok = ok & !is_zero(s[k - 1], s[k]);
+    }
+    ok
+}
+
+// Whether no pair of s is 00, each pair tested.
+fn pairs_lack_zero(s: &[u8]) -> bool
     requires { ⌜ isHex (now s) ≡ true ⌝ }
     ensures { λ r. ⌜ r ≡ passes (lacks 0 (bytesOf (now (s .entry)))) ⌝ }
 {
@@ -51,6 +62,17 @@ fn lacks_zero(s: &[u8]) -> bool
         ok = ok & !is_zero(s[2 * k], s[2 * k + 1]);
     }
     ok
+}
+
+// Whether no pair of s is 00.
+fn lacks_zero(s: &[u8]) -> bool
+    requires { ⌜ isHex (now s) ≡ true ⌝ }
+    ensures { λ r. ⌜ r ≡ passes (lacks 0 (bytesOf (now (s .entry)))) ⌝ }
+{
+    if zeros_apart(s) {
+        return true;
+    }
+    pairs_lack_zero(s)
 }
 
 fn is_c_string(s: &[u8]) -> bool
