@@ -1,5 +1,5 @@
 -- Digits written from the last to the first, as `sheets` defines them: one digit more, the first digit, and how many there are. Assumes nothing.
-use mathlib.Core.Path.{_≡_, refl, sym, ap, subst, _∙_}
+use mathlib.Core.Path.{_≡_, refl, sym, ap, ap₂, subst, _∙_}
 use mathlib.Core.Bool.{Bool, true, false}
 use mathlib.Core.List.{[], _∷_}
 use Prim.Native.Nat.{ℕ, zero, suc, _+_, _-_, _/_, _%_, _^_, _≤_, _<_}
@@ -12,6 +12,8 @@ use lib.ListN.{length, set, drop}
 use borrow.Author.Tests.{lt-ltb, le-ltb, ltb-false}
 use Rattle.sheets.specs.Bytes.{Bytes}
 use Rattle.sheets.specs.Number.{digits, decimal, writeSigned}
+use Rattle.buffer.specs.Over.{overAt}
+use Rattle.buffer.proofs.OverLaws.{overAt-append}
 
 -- any bound above the number gives the same digits
 digits-bound : (k j n : ℕ) (rest : Bytes) → n < k → n < j → digits k n rest ≡ digits j n rest
@@ -55,6 +57,15 @@ module _ (l : Bytes) (i m : ℕ) (h : 0 < i) (k : i ≤ length l) where
 
   pub all-written : m < 10 → before m (drop i l) ≡ drop (i - 1) (set l (i - 1) (48 + m))
   all-written t = first-digit m (drop i l) t ∙ sym (stored l i (48 + m) h k)
+
+-- two bytes written one after the other
+pub two-bytes : (at m n x y : ℕ) (a b c : Bytes) → m ≡ at + 1 → b ≡ overAt at (x ∷ []) a → n ≡ m + 1 → c ≡ overAt m (y ∷ []) b
+    → (n ≡ at + 2) × (c ≡ overAt at (x ∷ y ∷ []) a)
+two-bytes at m n x y a b c p q r s = (omega arith, s ∙ ap₂ (λ (i : ℕ) (o : Bytes). overAt i (y ∷ []) o) p q ∙ sym (overAt-append at (x ∷ []) (y ∷ []) a))
+
+-- a number of two digits
+pub two-digits : (n : ℕ) → 10 ≤ n → n < 100 → decimal n ≡ (48 + n / 10) ∷ (48 + n % 10) ∷ []
+two-digits n l h = decimal-start n ∙ last-digit n [] l ∙ first-digit (n / 10) ((48 + n % 10) ∷ []) (omega arith)
 
 -- a number of at most i digits, which has two or more
 pub room : (i m : ℕ) → m < 10 ^ i → 10 ≤ m → 1 < i

@@ -1,6 +1,6 @@
 // Numbers written in decimal digits.
 ghost use mathlib.Core.Path.{_≡_};
-ghost use Prim.Native.Nat.{_+_, _≤_};
+ghost use Prim.Native.Nat.{_+_, _≤_, _<_};
 ghost use lib.IntN.{natAbs};
 ghost use lib.ListN.{drop, length};
 ghost use Rattle.sheets.specs.Number.{decimal, writeSigned};
@@ -39,6 +39,15 @@ fn put_digits(out: &mut [u8], at: usize, n: u64) -> usize
     buffer::put_at(out, at, &bytes[start..])
 }
 
+// The same for a number of two digits, as most kinds are.
+fn put_two(out: &mut [u8], at: usize, n: u64) -> usize
+    requires { ⌜ IsUsize (at + 20) × (10 ≤ n) × (n < 100) ⌝ }
+    ensures { λ r. ⌜ (r ≡ at + length (decimal n)) × (now (out .exit) ≡ overAt at (decimal n) (now (out .entry))) × (r ≤ at + 20) ⌝ }
+{
+    let second = buffer::put_byte(out, at, b'0' + (n / 10) as u8);
+    buffer::put_byte(out, second, b'0' + (n % 10) as u8)
+}
+
 // Writes n from place at on, as much as fits; the place after it. Most numbers of a sheet have one digit.
 pub fn put_u64(out: &mut [u8], at: usize, n: u64) -> usize
     requires { ⌜ IsUsize (at + 20) ⌝ }
@@ -46,6 +55,9 @@ pub fn put_u64(out: &mut [u8], at: usize, n: u64) -> usize
 {
     if n < 10 {
         return buffer::put_byte(out, at, b'0' + n as u8);
+    }
+    if n < 100 {
+        return put_two(out, at, n);
     }
     put_digits(out, at, n)
 }

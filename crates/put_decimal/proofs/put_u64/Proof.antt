@@ -1,4 +1,4 @@
--- `put_u64` meets its contract: a number below 10 is one digit; the others are `put_digits`'. Assumes nothing.
+-- `put_u64` meets its contract: a number below 10 is one digit, one below 100 is two; the others are `put_digits`'. Assumes nothing.
 use mathlib.Core.Path.{_≡_, _∙_}
 use mathlib.Core.List.{[], _∷_}
 use Prim.Native.Nat.{_+_}
@@ -28,14 +28,23 @@ returns c =
     let w = c .before .before .put-byte in
     rw e (w .ensures .0, w .ensures .1, omega (arith, w .ensures .0))
 
-put-digits-requires : tie.Need-put-digits-requires
-put-digits-requires c κs = search needs
+put-two-requires : tie.Need-put-two-requires
+put-two-requires c κs = (c .before .before .before .before .pre, c .before .before .if1 .left, c .before .if2 .taken)
 
 same-length-2 : tie.Need-same-length-2
 same-length-2 c = search needs
 
 returns-2 : tie.Need-returns-2
 returns-2 c = search needs
+
+put-digits-requires : tie.Need-put-digits-requires
+put-digits-requires c κs = search needs
+
+same-length-3 : tie.Need-same-length-3
+same-length-3 c = search needs
+
+returns-3 : tie.Need-returns-3
+returns-3 c = search needs
 
 pub put-u64-spec : {M : Type 1} → statement M
 put-u64-spec =
@@ -46,6 +55,9 @@ put-u64-spec =
     put-byte-requires
     same-length
     returns
-    put-digits-requires
+    put-two-requires
     same-length-2
-    returns-2)
+    returns-2
+    put-digits-requires
+    same-length-3
+    returns-3)
