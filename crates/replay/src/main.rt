@@ -105,7 +105,7 @@ fn replay_records(
             }
             Turn::Done(next, call, r) => {
                 w = next;
-                told = told | print_replay::tally(r, call, &mut counts);
+                told = told | tally::tally(r, call, &mut counts);
             }
         }
         place += 1;
