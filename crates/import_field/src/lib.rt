@@ -3,6 +3,7 @@ ghost use Prim.Native.Nat.{suc};
 ghost use Rattle.node_metadata.specs.NodeMetadata.{HasRoom};
 ghost use Rattle.import_field.specs.Contracts.{HasField, HasFields, HasLeft};
 ghost use Rattle.import_field.specs.Contracts.{FieldBegins, FieldEnds, FieldWrote, FieldsWrote};
+use put_leaf::LeafPut;
 use put_node::NodeRead;
 use put_node::Visit;
 use subtrees::Skipped;
@@ -120,7 +121,7 @@ fn to_dtype(
     let mut i = 0;
     while i < count {
         let w = buffer::within(sum, out.len());
-        match to_field(s, here, most, bare, &mut out[w..], entries, spare) {
+        match next_field(s, here, most, bare, &mut out[w..], entries, spare) {
             Step::Refused(n) => {
                 return Step::Refused(n);
             }
@@ -135,4 +136,39 @@ fn to_dtype(
         next: here,
         len: sum,
     }
+}
+
+// The same as `to_field`; the line of a leaf is written at once, where it fits.
+fn next_field(
+    s: &[u8],
+    at: usize,
+    most: usize,
+    bare: bool,
+    out: &mut [u8],
+    entries: &mut [u32],
+    spare: &mut [u32],
+) -> Step
+    requires { ⌜ HasField (now s) at most × HasRoom (now s) (now entries) (now spare) ⌝ }
+    ensures { λ r. ⌜ FieldWrote (now (s .entry)) at most bare (now (out .entry)) (now (out .exit)) r ⌝ }
+{
+    match put_leaf::put_leaf(s, at, bare, out) {
+        LeafPut::Put(next, len) => Step::Done { next, len },
+        LeafPut::Other => to_field(s, at, most, bare, out, entries, spare),
+    }
+}
+
+// The same as `to_field`, by a row of one field: so a sheet that is one leaf is written at once too.
+pub fn to_first_field(
+    s: &[u8],
+    at: usize,
+    most: usize,
+    bare: bool,
+    out: &mut [u8],
+    entries: &mut [u32],
+    spare: &mut [u32],
+) -> Step
+    requires { ⌜ HasField (now s) at most × HasRoom (now s) (now entries) (now spare) ⌝ }
+    ensures { λ r. ⌜ FieldWrote (now (s .entry)) at most bare (now (out .entry)) (now (out .exit)) r ⌝ }
+{
+    to_dtype(s, at, 1, most, bare, out, entries, spare)
 }

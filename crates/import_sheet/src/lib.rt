@@ -18,7 +18,7 @@ fn put_sheet(s: &[u8], at: usize, out: &mut [u8], entries: &mut [u32], spare: &m
 {
     let head = buffer::put_at(out, 0, b"kind p q text more name nullable pairs children\n");
     let w = buffer::within(head, out.len());
-    match import_field::to_field(s, at, 32, false, &mut out[w..], entries, spare) {
+    match import_field::to_first_field(s, at, 32, false, &mut out[w..], entries, spare) {
         Step::Refused(n) => Step::Refused(n),
         Step::Done { next, len } => Step::Done {
             next,

@@ -2,6 +2,7 @@
 ghost use Prim.Native.Nat.{_≤_};
 ghost use lib.ListN.{length};
 ghost use Rattle.schema_trees.specs.Trees.{Forms, ReadsTree, ReadsRow};
+use leaf_line::Leaf;
 use read_line::LineRead;
 
 // The end of a tree whose lines were tested; that it has too many levels; that there is none.
@@ -62,7 +63,7 @@ fn read_row(s: &[u8], at: usize, count: u64, levels: usize) -> TreeRead
     let mut here = at;
     let mut due = count;
     while due != 0 {
-        match read_tree(s, here, levels) {
+        match next_tree(s, here, levels) {
             TreeRead::Deep => return TreeRead::Deep,
             TreeRead::Bad => return TreeRead::Bad,
             TreeRead::To(end) => {
@@ -72,4 +73,30 @@ fn read_row(s: &[u8], at: usize, count: u64, levels: usize) -> TreeRead
         }
     }
     TreeRead::To(here)
+}
+
+// The same as `read_tree`; a leaf's line is recognised at once.
+fn next_tree(s: &[u8], at: usize, levels: usize) -> TreeRead
+    ensures { λ r. ⌜ ReadsTree (now (s .entry)) at levels r ⌝ }
+{
+    if levels == 0 {
+        return TreeRead::Deep;
+    }
+    if let Leaf::Line(_, e, _) = leaf_line::leaf_at(s, at) {
+        return TreeRead::To(e + 9);
+    }
+    read_tree(s, at, levels)
+}
+
+// The same, where no row of trees is read: so `next_tree` has one caller, and its code stands in that caller's loop.
+pub fn first_tree(s: &[u8], at: usize, levels: usize) -> TreeRead
+    ensures { λ r. ⌜ ReadsTree (now (s .entry)) at levels r ⌝ }
+{
+    if levels == 0 {
+        return TreeRead::Deep;
+    }
+    if let Leaf::Line(_, e, _) = leaf_line::leaf_at(s, at) {
+        return TreeRead::To(e + 9);
+    }
+    read_tree(s, at, levels)
 }

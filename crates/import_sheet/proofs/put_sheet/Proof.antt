@@ -16,17 +16,17 @@ put-at-requires c κs = search needs
 within-requires : tie.Need-within-requires
 within-requires c κs = search needs
 
-sub-to-field : tie.Need-sub-to-field
-sub-to-field c = search needs
+sub-to-first-field : tie.Need-sub-to-first-field
+sub-to-first-field c = search needs
 
-part-to-field-start : tie.Need-part-to-field-start
-part-to-field-start c = search needs
+part-to-first-field-start : tie.Need-part-to-first-field-start
+part-to-first-field-start c = search needs
 
-part-to-field-end : tie.Need-part-to-field-end
-part-to-field-end c = search needs
+part-to-first-field-end : tie.Need-part-to-first-field-end
+part-to-first-field-end c = search needs
 
-to-field-requires : tie.Need-to-field-requires
-to-field-requires c κs = search needs
+to-first-field-requires : tie.Need-to-first-field-requires
+to-first-field-requires c κs = search needs
 
 enum-known-n : tie.Need-enum-known-n
 enum-known-n c = search needs
@@ -37,7 +37,7 @@ enum-known-next c = search needs
 add-t26 : tie.Need-add-t26
 add-t26 c =
     let h = c .before .before .before .before .before .before .before .before .before .before .before .before .before .before .before .before .before .before .before .before .before .before .before .pre .0 in
-    let r = c .before .before .before .before .before .before .before .before .before .to-field in
+    let r = c .before .before .before .before .before .before .before .before .before .to-first-field in
     omega (arith, lines-long _ _ _ _ (h .2) _ (r .last .1 .1 .1 .1 .0) _ _ _ (c .before .next .given .1) (r .ensures), c .before .before .before .before .before .before .before .before .before .before .before .before .before .before .before .before .put-at .ensures .0)
 
 same-length : tie.Need-same-length
@@ -51,7 +51,7 @@ same-length-3 c = search needs
 
 returns : tie.Need-returns
 returns c =
-    let r = c .before .before .before .before .before .before .before .before .before .to-field in
+    let r = c .before .before .before .before .before .before .before .before .before .to-first-field in
     λ t ts f. sheet-refused _ _ t ts f _ (r .last .1 .1 .1 .1 .0) _ _ (c .before .n .given .1) (r .ensures)
 
 same-length-4 : tie.Need-same-length-4
@@ -65,7 +65,7 @@ same-length-6 c = search needs
 
 returns-2 : tie.Need-returns-2
 returns-2 c =
-    let r = c .before .before .before .before .before .before .before .before .before .to-field in
+    let r = c .before .before .before .before .before .before .before .before .before .to-first-field in
     let w = c .before .before .before .before .before .before .before .before .before .before .before .before .before .within in
     let h = c .before .before .before .before .before .before .before .before .before .before .before .before .before .before .before .before .put-at in
     λ t ts f. sheet-done _ _ t ts f _ (r .last .1 .1 .1 .1 .0) _ _ _ (c .before .next .given .1) (r .ensures)
@@ -78,10 +78,10 @@ put-sheet-spec =
     slice-aggregate-put-at
     put-at-requires
     within-requires
-    sub-to-field
-    part-to-field-start
-    part-to-field-end
-    to-field-requires
+    sub-to-first-field
+    part-to-first-field-start
+    part-to-first-field-end
+    to-first-field-requires
     enum-known-n
     enum-known-next
     add-t26

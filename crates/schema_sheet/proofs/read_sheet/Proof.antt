@@ -16,8 +16,8 @@ has-heading-requires c κs = search needs
 returns-2 : tie.Need-returns-2
 returns-2 c = sheet-headless (c .before .before .before .before .args .s .now) (c .before .before .if1 .left) (sym (c .before .has-heading .ensures) ∙ not-true _ (c .if2 .taken))
 
-read-tree-requires : tie.Need-read-tree-requires
-read-tree-requires c κs = search needs
+first-tree-requires : tie.Need-first-tree-requires
+first-tree-requires c κs = search needs
 
 enum-told : tie.Need-enum-told
 enum-told c = search needs
@@ -29,22 +29,22 @@ form-requires : tie.Need-form-requires
 form-requires c κs = search needs
 
 returns-3 : tie.Need-returns-3
-returns-3 c = sheet-deep (c .before .before .before .before .before .before .before .before .before .args .s .now) (c .before .before .before .before .before .before .before .if1 .left) (sym (c .before .before .before .before .before .before .has-heading .ensures) ∙ not-false _ (c .before .before .before .before .before .if2 .left)) (subst (Forms (c .before .before .before .before .before .before .before .before .before .args .s .now) 47) (c .if3 .taken) (c .before .form .ensures)) _ (c .before .before .enum-told2 .given .1) (c .before .before .before .before .read-tree .ensures)
+returns-3 c = sheet-deep (c .before .before .before .before .before .before .before .before .before .args .s .now) (c .before .before .before .before .before .before .before .if1 .left) (sym (c .before .before .before .before .before .before .has-heading .ensures) ∙ not-false _ (c .before .before .before .before .before .if2 .left)) (subst (Forms (c .before .before .before .before .before .before .before .before .before .args .s .now) 47) (c .if3 .taken) (c .before .form .ensures)) _ (c .before .before .enum-told2 .given .1) (c .before .before .before .before .first-tree .ensures)
 
 enum-known-end : tie.Need-enum-known-end
 enum-known-end c = search needs
 
 returns-4 : tie.Need-returns-4
-returns-4 c = sheet-left (c .before .before .before .before .before .before .before .before .before .args .s .now) (c .before .before .before .before .before .before .before .if1 .left) (sym (c .before .before .before .before .before .before .has-heading .ensures) ∙ not-false _ (c .before .before .before .before .before .if2 .left)) (c .before .before .before .before .read-tree .result) _ (c .before .before .end .given .1) (c .before .before .before .before .read-tree .ensures) (c .if4 .taken)
+returns-4 c = sheet-left (c .before .before .before .before .before .before .before .before .before .args .s .now) (c .before .before .before .before .before .before .before .if1 .left) (sym (c .before .before .before .before .before .before .has-heading .ensures) ∙ not-false _ (c .before .before .before .before .before .if2 .left)) (c .before .before .before .before .first-tree .result) _ (c .before .before .end .given .1) (c .before .before .before .before .first-tree .ensures) (c .if4 .taken)
 
 returns-5 : tie.Need-returns-5
-returns-5 c = sheet-bad (c .before .before .before .before .before .before .before .args .s .now) (c .before .before .before .before .before .if1 .left) (sym (c .before .before .before .before .has-heading .ensures) ∙ not-false _ (c .before .before .before .if2 .left)) _ (c .enum-told .given .1) (c .before .before .read-tree .ensures)
+returns-5 c = sheet-bad (c .before .before .before .before .before .before .before .args .s .now) (c .before .before .before .before .before .if1 .left) (sym (c .before .before .before .before .has-heading .ensures) ∙ not-false _ (c .before .before .before .if2 .left)) _ (c .enum-told .given .1) (c .before .before .first-tree .ensures)
 
 returns-6 : tie.Need-returns-6
 returns-6 c = sheet-broken (c .before .before .before .before .before .before .before .before .before .args .s .now) (c .before .before .before .before .before .before .before .if1 .left) (sym (c .before .before .before .before .before .before .has-heading .ensures) ∙ not-false _ (c .before .before .before .before .before .if2 .left)) _ (c .if3 .left) (c .before .form .ensures)
 
 returns-7 : tie.Need-returns-7
-returns-7 c = sheet-whole (c .before .before .before .before .before .before .before .before .before .args .s .now) (c .before .before .before .before .before .before .before .if1 .left) (sym (c .before .before .before .before .before .before .has-heading .ensures) ∙ not-false _ (c .before .before .before .before .before .if2 .left)) (c .before .before .before .before .read-tree .result) _ (c .before .before .end .given .1) (c .before .before .before .before .read-tree .ensures) (c .if4 .left)
+returns-7 c = sheet-whole (c .before .before .before .before .before .before .before .before .before .args .s .now) (c .before .before .before .before .before .before .before .if1 .left) (sym (c .before .before .before .before .before .before .has-heading .ensures) ∙ not-false _ (c .before .before .before .before .before .if2 .left)) (c .before .before .before .before .first-tree .result) _ (c .before .before .end .given .1) (c .before .before .before .before .first-tree .ensures) (c .if4 .left)
 
 pub read-sheet-spec : {M : Type 1} → statement M
 read-sheet-spec =
@@ -53,7 +53,7 @@ read-sheet-spec =
     returns
     has-heading-requires
     returns-2
-    read-tree-requires
+    first-tree-requires
     enum-told
     enum-told-2
     form-requires

@@ -1,6 +1,7 @@
--- The proof of the cycle of calls {to_dtype, to_field}. `to_field` calls `to_dtype` at one level less and `to_dtype` calls `to_field` at the same
--- number of levels, so `to_dtype`'s measure lies between: twice the levels for `to_field`, and one more for `to_dtype`. The laws are in `FieldLaws`
--- and `FieldsLaws`. Assumes nothing.
+-- The proof of the cycle of calls {next_field, to_dtype, to_field}. `to_field` calls `to_dtype` at one level less, `to_dtype` calls `next_field` and that calls
+-- `to_field` at the same number of levels: three times the levels for `to_field`, one more for `next_field`, two more for `to_dtype`. The laws are in
+-- `FieldLaws`, `FieldsLaws` and `LeafLaws`. Assumes nothing.
+use Rattle.import_field.proofs.LeafLaws.{leaf-done, leaf-other}
 use mathlib.Core.Path.{_≡_, refl, _∙_}
 use mathlib.Core.List.{List, _++_}
 use native.Mathlib.Omega.{arith}
@@ -15,23 +16,38 @@ use Rattle.import_field.proofs.FieldLaws.{room-kept, level-below, some-
 use Prim.Native.Nat.{ℕ, _+_, _-_, _<_, _≤_}
 use borrow.Fn.Kinds.{In}
 use borrow.Fn.PlainCycle.{Measures, is, falls, and}
+use Rattle.import_field.proofs.next_field.Reads as next-field
+use Rattle.import_field.proofs.next_field.Kinds as next-field-kinds
+use Rattle.import_field.proofs.+next_field+to_dtype+to_field.Lts-next_field as next-field-lts
 use Rattle.import_field.proofs.to_dtype.Reads as to-dtype
 use Rattle.import_field.proofs.to_dtype.Kinds as to-dtype-kinds
-use Rattle.import_field.proofs.+to_dtype+to_field.Lts-to_dtype as to-dtype-lts
+use Rattle.import_field.proofs.+next_field+to_dtype+to_field.Lts-to_dtype as to-dtype-lts
 use Rattle.import_field.proofs.to_field.Reads as to-field
 use Rattle.import_field.proofs.to_field.Kinds as to-field-kinds
-use Rattle.import_field.proofs.+to_dtype+to_field.Lts-to_field as to-field-lts
+use Rattle.import_field.proofs.+next_field+to_dtype+to_field.Lts-to_field as to-field-lts
 use Rattle.buffer.proofs.within.Reads as within-reads
 use Rattle.import_field.proofs.begin_field.Reads as begin-field-reads
 use Rattle.import_field.proofs.end_field.Reads as end-field-reads
-use Rattle.import_field.proofs.+to_dtype+to_field.{statement}
-use Rattle.import_field.proofs.+to_dtype+to_field.Tie.{close}
+use Rattle.put_leaf.proofs.put_leaf.Reads as put-leaf-reads
+use Rattle.import_field.proofs.+next_field+to_dtype+to_field.{statement}
+use Rattle.import_field.proofs.+next_field+to_dtype+to_field.Tie.{close}
+
+abbrev μ-next-field : Measures 4 next-field-kinds.ps ℕ
+μ-next-field κs a = a .1 .1 .0 + a .1 .1 .0 + a .1 .1 .0 + 1
 
 abbrev μ-to-dtype : Measures 4 to-dtype-kinds.ps ℕ
-μ-to-dtype κs a = a .1 .1 .1 .0 + a .1 .1 .1 .0 + 1
+μ-to-dtype κs a = a .1 .1 .1 .0 + a .1 .1 .1 .0 + a .1 .1 .1 .0 + 2
 
 abbrev μ-to-field : Measures 4 to-field-kinds.ps ℕ
-μ-to-field κs a = a .1 .1 .0 + a .1 .1 .0
+μ-to-field κs a = a .1 .1 .0 + a .1 .1 .0 + a .1 .1 .0
+
+abbrev next-field-at : ℕ → In 4 next-field-kinds.ps
+next-field-at t =
+    and 4 next-field-kinds.ps (is 4 next-field-kinds.ps μ-next-field t) next-field.Pre
+
+abbrev next-field-below : ℕ → In 4 next-field-kinds.ps
+next-field-below t =
+    and 4 next-field-kinds.ps (falls 4 next-field-kinds.ps _<_ μ-next-field t) next-field.Pre
 
 abbrev to-dtype-at : ℕ → In 4 to-dtype-kinds.ps
 to-dtype-at t = and 4 to-dtype-kinds.ps (is 4 to-dtype-kinds.ps μ-to-dtype t) to-dtype.Pre
@@ -47,11 +63,49 @@ abbrev to-field-below : ℕ → In 4 to-field-kinds.ps
 to-field-below t =
     and 4 to-field-kinds.ps (falls 4 to-field-kinds.ps _<_ μ-to-field t) to-field.Pre
 
+abbrev next-field-calls : ℕ → next-field-lts.Claims
+next-field-calls t = (put-leaf-reads.Asked, put-leaf-reads.Learnt, to-field-below t, to-field.Post)
+
 abbrev to-dtype-calls : ℕ → to-dtype-lts.Claims
-to-dtype-calls t = (within-reads.Asked, within-reads.Learnt, to-field-below t, to-field.Post)
+to-dtype-calls t = (within-reads.Asked, within-reads.Learnt, next-field-below t, next-field.Post)
 
 abbrev to-field-calls : ℕ → to-field-lts.Claims
 to-field-calls t = (begin-field-reads.Asked, begin-field-reads.Learnt, within-reads.Asked, within-reads.Learnt, to-dtype-below t, to-dtype.Post, end-field-reads.Asked, end-field-reads.Learnt)
+
+next-field-put-leaf-requires : (t : ℕ) → next-field-lts.Need-put-leaf-requires (next-field-calls t) (next-field-at t) next-field.Post
+next-field-put-leaf-requires t c κs = search needs
+
+next-field-enum-known-next : (t : ℕ) → next-field-lts.Need-enum-known-next (next-field-calls t) (next-field-at t) next-field.Post
+next-field-enum-known-next t c = search needs
+
+next-field-enum-told : (t : ℕ) → next-field-lts.Need-enum-told (next-field-calls t) (next-field-at t) next-field.Post
+next-field-enum-told t c = search needs
+
+next-field-to-field-requires : (t : ℕ) → next-field-lts.Need-to-field-requires (next-field-calls t) (next-field-at t) next-field.Post
+next-field-to-field-requires t c κs = let start = c .before .before .before .before .before .before .before .before .before .before .before .before .before in (omega (arith, start .pre .0), start .pre .1)
+
+next-field-same-length : (t : ℕ) → next-field-lts.Need-same-length (next-field-calls t) (next-field-at t) next-field.Post
+next-field-same-length t c = c .before .before .before .before .before .put-leaf .kept .1 .1 .1 .0
+
+next-field-returns : (t : ℕ) → next-field-lts.Need-returns (next-field-calls t) (next-field-at t) next-field.Post
+next-field-returns t c =
+    let r = c .before .before .before .before .before .put-leaf in
+    leaf-done _ _ _ _ _ (r .last .1 .1 .1 .0) (r .result) (r .ensures) _ _ (c .before .next .given .1)
+
+next-field-same-length-2 : (t : ℕ) → next-field-lts.Need-same-length-2 (next-field-calls t) (next-field-at t) next-field.Post
+next-field-same-length-2 t c = c .before .before .before .before .before .before .to-field .kept .1 .1 .1 .1 .0 ∙ c .before .before .before .before .before .before .before .before .before .before .before .before .before .before .put-leaf .kept .1 .1 .1 .0
+
+next-field-same-length-3 : (t : ℕ) → next-field-lts.Need-same-length-3 (next-field-calls t) (next-field-at t) next-field.Post
+next-field-same-length-3 t c = c .before .before .before .before .before .before .to-field .kept .1 .1 .1 .1 .1 .0
+
+next-field-same-length-4 : (t : ℕ) → next-field-lts.Need-same-length-4 (next-field-calls t) (next-field-at t) next-field.Post
+next-field-same-length-4 t c = c .before .before .before .before .before .before .to-field .kept .1 .1 .1 .1 .1 .1 .0
+
+next-field-returns-2 : (t : ℕ) → next-field-lts.Need-returns-2 (next-field-calls t) (next-field-at t) next-field.Post
+next-field-returns-2 t c =
+    let r = c .before .before .before .before .before .before .before .before .before .before .before .before .before .before .put-leaf in
+    let f = c .before .before .before .before .before .before .to-field in
+    leaf-other _ _ _ _ _ (r .last .1 .1 .1 .0) (r .result) (r .ensures) (c .before .before .before .before .before .before .before .before .before .before .enum-told .given .1) (f .last .1 .1 .1 .1 .0) (f .result) (f .ensures)
 
 abbrev to-dtype-Inv-loop : to-dtype-lts.InvT-loop
 to-dtype-Inv-loop s at count most bare out₀ entries₀ spare₀ here₀ sum₀ i₀ out entries spare here sum i =
@@ -79,7 +133,7 @@ gone : (t : ℕ) (c : to-dtype-lts.After-known-told2 (to-dtype-calls t) (to-dtyp
     let a = turn .before .before .before .before .before .before .args in
     let l = turn .before .loop in
     let w = c .before .before .before .before .before .before .before .before .before .before .before .before .before .within .result in
-    let r = c .before .before .before .before .before .before .before .before .before .to-field in
+    let r = c .before .before .before .before .before .before .before .before .before .next-field in
     (us : Schemas) (ts : List Schema) → FieldsAt (now (a .s)) (a .at) (a .count) (a .most) us ts
     → Going (now (a .s)) (a .at) (a .count) (a .most) (a .bare) (now (a .out))
     (take w (l .out) ++ (r .last .1 .1 .1 .1 .0 ++ drop (length (l .out) - w) (drop w (l .out))))
@@ -87,7 +141,7 @@ gone : (t : ℕ) (c : to-dtype-lts.After-known-told2 (to-dtype-calls t) (to-dtyp
 gone t c us ts h =
     let turn = c .before .before .before .before .before .before .before .before .before .before .before .before .before .before in
     let w = c .before .before .before .before .before .before .before .before .before .before .before .before .before .within in
-    let r = c .before .before .before .before .before .before .before .before .before .to-field in
+    let r = c .before .before .before .before .before .before .before .before .before .next-field in
     going-more _ _ _ _ _ _ _ _ _ _ _ _ (turn .before .loop .inv .4 us ts h) (turn .loop-test .taken)
     (w .result) (w .ensures) (r .last .1 .1 .1 .1 .0) _ _ _ (c .before .next .given .1) (r .ensures)
 
@@ -97,17 +151,17 @@ to-dtype-loop-holds t c = (search needs, refl, refl, refl, λ us ts h. going-non
 to-dtype-within-requires : (t : ℕ) → to-dtype-lts.Need-within-requires (to-dtype-calls t) (to-dtype-at t) to-dtype.Post to-dtype-Inv-loop to-dtype-μ-loop
 to-dtype-within-requires t c κs = search needs
 
-to-dtype-sub-to-field : (t : ℕ) → to-dtype-lts.Need-sub-to-field (to-dtype-calls t) (to-dtype-at t) to-dtype.Post to-dtype-Inv-loop to-dtype-μ-loop
-to-dtype-sub-to-field t c = omega arith
+to-dtype-sub-next-field : (t : ℕ) → to-dtype-lts.Need-sub-next-field (to-dtype-calls t) (to-dtype-at t) to-dtype.Post to-dtype-Inv-loop to-dtype-μ-loop
+to-dtype-sub-next-field t c = omega arith
 
-to-dtype-part-to-field-start : (t : ℕ) → to-dtype-lts.Need-part-to-field-start (to-dtype-calls t) (to-dtype-at t) to-dtype.Post to-dtype-Inv-loop to-dtype-μ-loop
-to-dtype-part-to-field-start t c = omega arith
+to-dtype-part-next-field-start : (t : ℕ) → to-dtype-lts.Need-part-next-field-start (to-dtype-calls t) (to-dtype-at t) to-dtype.Post to-dtype-Inv-loop to-dtype-μ-loop
+to-dtype-part-next-field-start t c = omega arith
 
-to-dtype-part-to-field-end : (t : ℕ) → to-dtype-lts.Need-part-to-field-end (to-dtype-calls t) (to-dtype-at t) to-dtype.Post to-dtype-Inv-loop to-dtype-μ-loop
-to-dtype-part-to-field-end t c = omega arith
+to-dtype-part-next-field-end : (t : ℕ) → to-dtype-lts.Need-part-next-field-end (to-dtype-calls t) (to-dtype-at t) to-dtype.Post to-dtype-Inv-loop to-dtype-μ-loop
+to-dtype-part-next-field-end t c = omega arith
 
-to-dtype-to-field-requires : (t : ℕ) → to-dtype-lts.Need-to-field-requires (to-dtype-calls t) (to-dtype-at t) to-dtype.Post to-dtype-Inv-loop to-dtype-μ-loop
-to-dtype-to-field-requires t c κs =
+to-dtype-next-field-requires : (t : ℕ) → to-dtype-lts.Need-next-field-requires (to-dtype-calls t) (to-dtype-at t) to-dtype.Post to-dtype-Inv-loop to-dtype-μ-loop
+to-dtype-next-field-requires t c κs =
     let turn = c .before .before .before .before in
     let start = turn .before .before .before .before .before .before in
     let inv = turn .before .loop .inv in (
@@ -121,20 +175,20 @@ to-dtype-enum-known-n t c = search needs
 to-dtype-same-length : (t : ℕ) → to-dtype-lts.Need-same-length (to-dtype-calls t) (to-dtype-at t) to-dtype.Post to-dtype-Inv-loop to-dtype-μ-loop
 to-dtype-same-length t c =
     let turn = c .before .before .before .before .before .before .before .before .before .before .before .before .before .before in
-    let called = c .before .before .before .before .before .before .before .before .before .to-field in
+    let called = c .before .before .before .before .before .before .before .before .before .next-field in
     let w = c .before .before .before .before .before .before .before .before .before .before .before .before .before .within .result in
     length-lent w (turn .before .loop .out) (called .last .1 .1 .1 .1 .0) (called .kept .1 .1 .1 .1 .0) ∙ turn .before .loop .inv .1
 
 to-dtype-same-length-2 : (t : ℕ) → to-dtype-lts.Need-same-length-2 (to-dtype-calls t) (to-dtype-at t) to-dtype.Post to-dtype-Inv-loop to-dtype-μ-loop
-to-dtype-same-length-2 t c = c .before .before .before .before .before .before .before .before .before .to-field .kept .1 .1 .1 .1 .1 .0 ∙ c .before .before .before .before .before .before .before .before .before .before .before .before .before .before .before .loop .inv .2
+to-dtype-same-length-2 t c = c .before .before .before .before .before .before .before .before .before .next-field .kept .1 .1 .1 .1 .1 .0 ∙ c .before .before .before .before .before .before .before .before .before .before .before .before .before .before .before .loop .inv .2
 
 to-dtype-same-length-3 : (t : ℕ) → to-dtype-lts.Need-same-length-3 (to-dtype-calls t) (to-dtype-at t) to-dtype.Post to-dtype-Inv-loop to-dtype-μ-loop
-to-dtype-same-length-3 t c = c .before .before .before .before .before .before .before .before .before .to-field .kept .1 .1 .1 .1 .1 .1 .0 ∙ c .before .before .before .before .before .before .before .before .before .before .before .before .before .before .before .loop .inv .3
+to-dtype-same-length-3 t c = c .before .before .before .before .before .before .before .before .before .next-field .kept .1 .1 .1 .1 .1 .1 .0 ∙ c .before .before .before .before .before .before .before .before .before .before .before .before .before .before .before .loop .inv .3
 
 to-dtype-returns : (t : ℕ) → to-dtype-lts.Need-returns (to-dtype-calls t) (to-dtype-at t) to-dtype.Post to-dtype-Inv-loop to-dtype-μ-loop
 to-dtype-returns t c =
     let turn = c .before .before .before .before .before .before .before .before .before .before .before .before .before .before in
-    let called = c .before .before .before .before .before .before .before .before .before .to-field in
+    let called = c .before .before .before .before .before .before .before .before .before .next-field in
     λ us ts h. going-refused _ _ _ _ _ _ _ _ _ _ _ _ (turn .before .loop .inv .4 us ts h) (turn .loop-test .taken)
     _ (called .last .1 .1 .1 .1 .0) _ _ (c .before .n .given .1) (called .ensures)
 
@@ -156,7 +210,7 @@ to-dtype-loop-less t c = omega arith
 to-dtype-loop-again : (t : ℕ) → to-dtype-lts.Need-loop-again (to-dtype-calls t) (to-dtype-at t) to-dtype.Post to-dtype-Inv-loop to-dtype-μ-loop
 to-dtype-loop-again t c =
     let turn = c .before .before .before .before .before .before .before .before .before .before .before .before .before .before in
-    let called = c .before .before .before .before .before .before .before .before .before .to-field in
+    let called = c .before .before .before .before .before .before .before .before .before .next-field in
     let w = c .before .before .before .before .before .before .before .before .before .before .before .before .before .within .result in
     let inv = turn .before .loop .inv in (
       omega arith,
@@ -301,17 +355,30 @@ to-field-returns-3 t c =
     λ tr ts h. field-ended _ _ _ _ _ _ _ _ _ _ (begun t w tr ts h) _ (r .last .1 .1 .1 .1 .1 .0) _ _ _ e (r .ensures)
     (w .within .result) (w .within .ensures) refl (c .end-field .result) (c .end-field .ensures)
 
-pub +to-dtype+to-field-spec : {M : Type 1} → statement M
-+to-dtype+to-field-spec = close μ-to-dtype μ-to-field (λ t. to-dtype-lts.spec (to-dtype-calls t) (to-dtype-at t)
+pub +next-field+to-dtype+to-field-spec : {M : Type 1} → statement M
++next-field+to-dtype+to-field-spec =
+    close μ-next-field μ-to-dtype μ-to-field (λ t. next-field-lts.spec (next-field-calls t) (next-field-at t)
+    next-field.Post
+    (next-field-put-leaf-requires t)
+    (next-field-enum-known-next t)
+    (next-field-enum-told t)
+    (next-field-to-field-requires t)
+    (next-field-same-length t)
+    (next-field-returns t)
+    (next-field-same-length-2 t)
+    (next-field-same-length-3 t)
+    (next-field-same-length-4 t)
+    (next-field-returns-2 t))
+    (λ t. to-dtype-lts.spec (to-dtype-calls t) (to-dtype-at t)
     to-dtype.Post
     to-dtype-Inv-loop
     to-dtype-μ-loop
     (to-dtype-loop-holds t)
     (to-dtype-within-requires t)
-    (to-dtype-sub-to-field t)
-    (to-dtype-part-to-field-start t)
-    (to-dtype-part-to-field-end t)
-    (to-dtype-to-field-requires t)
+    (to-dtype-sub-next-field t)
+    (to-dtype-part-next-field-start t)
+    (to-dtype-part-next-field-end t)
+    (to-dtype-next-field-requires t)
     (to-dtype-enum-known-n t)
     (to-dtype-same-length t)
     (to-dtype-same-length-2 t)

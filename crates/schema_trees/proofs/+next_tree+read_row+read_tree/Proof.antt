@@ -1,29 +1,44 @@
--- The proof of the cycle of calls {read_tree, read_row}. The measure is the number of levels that are left, twice, and one more in `read_row`.
--- In the loop of `read_row`: the row is read as far as the trees that are due (`Reading`). Assumes nothing.
+-- The proof of the cycle of calls {next_tree, read_tree, read_row}. The measure is the number of levels that are left, three times, and one more in `next_tree`,
+-- two more in `read_row`. In the loop of `read_row`: the row is read as far as the trees that are due (`Reading`). Assumes nothing.
+use Rattle.leaf_line.specs.Leaf.{Leaves}
 use mathlib.Core.Path.{refl, subst}
 use native.Mathlib.Omega.{arith}
 use borrow.Author.Needs.{needs}
 use Prim.Native.Nat.{ℕ, _+_, _<_}
 use Rattle.read_line.specs.Lines.{ReadsLine}
 use Rattle.subtrees.proofs.SkipLaws.{levels-some}
-use Rattle.schema_trees.proofs.ReadLaws.{tree-many, tree-read, Reading, reading-none, reading-deep, reading-bad, reading-more, reading-all}
+use Rattle.schema_trees.proofs.ReadLaws.{tree-many, tree-read, Reading, reading-none, reading-deep, reading-bad, reading-more, reading-all, leaf-read}
 use borrow.Fn.Kinds.{In}
 use borrow.Fn.PlainCycle.{Measures, is, falls, and}
+use Rattle.schema_trees.proofs.next_tree.Reads as next-tree
+use Rattle.schema_trees.proofs.next_tree.Kinds as next-tree-kinds
+use Rattle.schema_trees.proofs.+next_tree+read_row+read_tree.Lts-next_tree as next-tree-lts
 use Rattle.schema_trees.proofs.read_row.Reads as read-row
 use Rattle.schema_trees.proofs.read_row.Kinds as read-row-kinds
-use Rattle.schema_trees.proofs.+read_row+read_tree.Lts-read_row as read-row-lts
+use Rattle.schema_trees.proofs.+next_tree+read_row+read_tree.Lts-read_row as read-row-lts
 use Rattle.schema_trees.proofs.read_tree.Reads as read-tree
 use Rattle.schema_trees.proofs.read_tree.Kinds as read-tree-kinds
-use Rattle.schema_trees.proofs.+read_row+read_tree.Lts-read_tree as read-tree-lts
+use Rattle.schema_trees.proofs.+next_tree+read_row+read_tree.Lts-read_tree as read-tree-lts
+use Rattle.leaf_line.proofs.leaf_at.Reads as leaf-at-reads
 use Rattle.read_line.proofs.read_line.Reads as read-line-reads
-use Rattle.schema_trees.proofs.+read_row+read_tree.{statement}
-use Rattle.schema_trees.proofs.+read_row+read_tree.Tie.{close}
+use Rattle.schema_trees.proofs.+next_tree+read_row+read_tree.{statement}
+use Rattle.schema_trees.proofs.+next_tree+read_row+read_tree.Tie.{close}
+
+abbrev μ-next-tree : Measures 1 next-tree-kinds.ps ℕ
+μ-next-tree κs a = a .1 .1 .0 + a .1 .1 .0 + a .1 .1 .0 + 1
 
 abbrev μ-read-row : Measures 1 read-row-kinds.ps ℕ
-μ-read-row κs a = a .1 .1 .1 .0 + a .1 .1 .1 .0 + 1
+μ-read-row κs a = a .1 .1 .1 .0 + a .1 .1 .1 .0 + a .1 .1 .1 .0 + 2
 
 abbrev μ-read-tree : Measures 1 read-tree-kinds.ps ℕ
-μ-read-tree κs a = a .1 .1 .0 + a .1 .1 .0
+μ-read-tree κs a = a .1 .1 .0 + a .1 .1 .0 + a .1 .1 .0
+
+abbrev next-tree-at : ℕ → In 1 next-tree-kinds.ps
+next-tree-at t = and 1 next-tree-kinds.ps (is 1 next-tree-kinds.ps μ-next-tree t) next-tree.Pre
+
+abbrev next-tree-below : ℕ → In 1 next-tree-kinds.ps
+next-tree-below t =
+    and 1 next-tree-kinds.ps (falls 1 next-tree-kinds.ps _<_ μ-next-tree t) next-tree.Pre
 
 abbrev read-row-at : ℕ → In 1 read-row-kinds.ps
 read-row-at t = and 1 read-row-kinds.ps (is 1 read-row-kinds.ps μ-read-row t) read-row.Pre
@@ -39,11 +54,40 @@ abbrev read-tree-below : ℕ → In 1 read-tree-kinds.ps
 read-tree-below t =
     and 1 read-tree-kinds.ps (falls 1 read-tree-kinds.ps _<_ μ-read-tree t) read-tree.Pre
 
+abbrev next-tree-calls : ℕ → next-tree-lts.Claims
+next-tree-calls t = (leaf-at-reads.Asked, leaf-at-reads.Learnt, read-tree-below t, read-tree.Post)
+
 abbrev read-row-calls : ℕ → read-row-lts.Claims
-read-row-calls t = (read-tree-below t, read-tree.Post)
+read-row-calls t = (next-tree-below t, next-tree.Post)
 
 abbrev read-tree-calls : ℕ → read-tree-lts.Claims
 read-tree-calls t = (read-line-reads.Asked, read-line-reads.Learnt, read-row-below t, read-row.Post)
+
+next-tree-returns : (t : ℕ) → next-tree-lts.Need-returns (next-tree-calls t) (next-tree-at t) next-tree.Post
+next-tree-returns t c = λ tr ts w. omega (arith, levels-some tr, c .if1 .taken)
+
+next-tree-leaf-at-requires : (t : ℕ) → next-tree-lts.Need-leaf-at-requires (next-tree-calls t) (next-tree-at t) next-tree.Post
+next-tree-leaf-at-requires t c κs = search needs
+
+next-tree-enum-known-e : (t : ℕ) → next-tree-lts.Need-enum-known-e (next-tree-calls t) (next-tree-at t) next-tree.Post
+next-tree-enum-known-e t c = search needs
+
+next-tree-add-t7 : (t : ℕ) → next-tree-lts.Need-add-t7 (next-tree-calls t) (next-tree-at t) next-tree.Post
+next-tree-add-t7 t c =
+    let k = subst (Leaves (c .before .before .before .before .before .before .args .s .now) (c .before .before .before .before .before .before .args .at)) (c .before .e .given .1) (c .before .before .before .leaf-at .ensures) in
+    omega (arith, k .high)
+
+next-tree-returns-2 : (t : ℕ) → next-tree-lts.Need-returns-2 (next-tree-calls t) (next-tree-at t) next-tree.Post
+next-tree-returns-2 t c = leaf-read (subst (Leaves (c .before .before .before .before .before .before .args .s .now) (c .before .before .before .before .before .before .args .at)) (c .before .e .given .1) (c .before .before .before .leaf-at .ensures)) (c .before .before .before .before .before .before .args .levels) (omega arith)
+
+next-tree-enum-told : (t : ℕ) → next-tree-lts.Need-enum-told (next-tree-calls t) (next-tree-at t) next-tree.Post
+next-tree-enum-told t c = search needs
+
+next-tree-read-tree-requires : (t : ℕ) → next-tree-lts.Need-read-tree-requires (next-tree-calls t) (next-tree-at t) next-tree.Post
+next-tree-read-tree-requires t c κs = omega (arith, c .before .before .before .before .before .pre .0)
+
+next-tree-returns-3 : (t : ℕ) → next-tree-lts.Need-returns-3 (next-tree-calls t) (next-tree-at t) next-tree.Post
+next-tree-returns-3 t c = c .read-tree .ensures
 
 abbrev read-row-Inv-loop : read-row-lts.InvT-loop
 read-row-Inv-loop s at count levels here₀ due₀ here due = Reading s at count levels here due
@@ -54,20 +98,20 @@ read-row-μ-loop s at count levels here₀ due₀ here due = due
 read-row-loop-holds : (t : ℕ) → read-row-lts.Need-loop-holds (read-row-calls t) (read-row-at t) read-row.Post read-row-Inv-loop read-row-μ-loop
 read-row-loop-holds t c = reading-none _ _ _ _ (c .before .pre .1)
 
-read-row-read-tree-requires : (t : ℕ) → read-row-lts.Need-read-tree-requires (read-row-calls t) (read-row-at t) read-row.Post read-row-Inv-loop read-row-μ-loop
-read-row-read-tree-requires t c κs = omega (arith, c .before .before .before .pre .0)
+read-row-next-tree-requires : (t : ℕ) → read-row-lts.Need-next-tree-requires (read-row-calls t) (read-row-at t) read-row.Post read-row-Inv-loop read-row-μ-loop
+read-row-next-tree-requires t c κs = omega (arith, c .before .before .before .pre .0)
 
 read-row-enum-told : (t : ℕ) → read-row-lts.Need-enum-told (read-row-calls t) (read-row-at t) read-row.Post read-row-Inv-loop read-row-μ-loop
 read-row-enum-told t c = search needs
 
 read-row-returns : (t : ℕ) → read-row-lts.Need-returns (read-row-calls t) (read-row-at t) read-row.Post read-row-Inv-loop read-row-μ-loop
-read-row-returns t c = reading-deep (c .before .before .before .before .loop .inv) (omega arith) _ (c .enum-told .given .1) (c .before .before .read-tree .ensures)
+read-row-returns t c = reading-deep (c .before .before .before .before .loop .inv) (omega arith) _ (c .enum-told .given .1) (c .before .before .next-tree .ensures)
 
 read-row-enum-told-2 : (t : ℕ) → read-row-lts.Need-enum-told-2 (read-row-calls t) (read-row-at t) read-row.Post read-row-Inv-loop read-row-μ-loop
 read-row-enum-told-2 t c = search needs
 
 read-row-returns-2 : (t : ℕ) → read-row-lts.Need-returns-2 (read-row-calls t) (read-row-at t) read-row.Post read-row-Inv-loop read-row-μ-loop
-read-row-returns-2 t c = reading-bad (c .before .before .before .before .loop .inv) (omega arith) _ (c .enum-told2 .given .1) (c .before .before .read-tree .ensures)
+read-row-returns-2 t c = reading-bad (c .before .before .before .before .loop .inv) (omega arith) _ (c .enum-told2 .given .1) (c .before .before .next-tree .ensures)
 
 read-row-enum-known-end : (t : ℕ) → read-row-lts.Need-enum-known-end (read-row-calls t) (read-row-at t) read-row.Post read-row-Inv-loop read-row-μ-loop
 read-row-enum-known-end t c = search needs
@@ -79,7 +123,7 @@ read-row-loop-less : (t : ℕ) → read-row-lts.Need-loop-less (read-row-calls t
 read-row-loop-less t c = omega arith
 
 read-row-loop-again : (t : ℕ) → read-row-lts.Need-loop-again (read-row-calls t) (read-row-at t) read-row.Post read-row-Inv-loop read-row-μ-loop
-read-row-loop-again t c = reading-more (c .before .before .before .before .before .loop .inv) (omega arith) _ _ (c .before .end .given .1) (c .before .before .before .read-tree .ensures)
+read-row-loop-again t c = reading-more (c .before .before .before .before .before .loop .inv) (omega arith) _ _ (c .before .end .given .1) (c .before .before .before .next-tree .ensures)
 
 read-row-returns-3 : (t : ℕ) → read-row-lts.Need-returns-3 (read-row-calls t) (read-row-at t) read-row.Post read-row-Inv-loop read-row-μ-loop
 read-row-returns-3 t c = reading-all (c .before .loop .inv) (omega arith)
@@ -119,13 +163,25 @@ read-tree-read-row-requires t c κs = (omega (arith, c .before .before .before .
 read-tree-returns-4 : (t : ℕ) → read-tree-lts.Need-returns-4 (read-tree-calls t) (read-tree-at t) read-tree.Post
 read-tree-returns-4 t c = tree-read _ (subst (ReadsLine (c .before .before .before .before .before .before .before .before .before .before .args .s .now) (c .before .before .before .before .before .before .before .before .before .before .args .at)) (c .before .before .before .before .before .l .given .1) (c .before .before .before .before .before .before .before .read-line .ensures)) (c .before .before .before .before .before .before .before .before .before .before .args .levels) (omega arith) _ refl (c .read-row .result) (c .read-row .ensures)
 
-pub +read-row+read-tree-spec : {M : Type 1} → statement M
-+read-row+read-tree-spec = close μ-read-row μ-read-tree (λ t. read-row-lts.spec (read-row-calls t) (read-row-at t)
+pub +next-tree+read-row+read-tree-spec : {M : Type 1} → statement M
++next-tree+read-row+read-tree-spec =
+    close μ-next-tree μ-read-row μ-read-tree (λ t. next-tree-lts.spec (next-tree-calls t) (next-tree-at t)
+    next-tree.Post
+    (next-tree-returns t)
+    (next-tree-leaf-at-requires t)
+    (next-tree-enum-known-e t)
+    (next-tree-add-t7 t)
+    (next-tree-returns-2 t)
+    (next-tree-enum-told t)
+    (next-tree-read-tree-requires t)
+    (next-tree-returns-3 t))
+    (λ t. read-row-lts.spec
+    (read-row-calls t) (read-row-at t)
     read-row.Post
     read-row-Inv-loop
     read-row-μ-loop
     (read-row-loop-holds t)
-    (read-row-read-tree-requires t)
+    (read-row-next-tree-requires t)
     (read-row-enum-told t)
     (read-row-returns t)
     (read-row-enum-told-2 t)

@@ -1,0 +1,126 @@
+-- The line of a leaf that was written at once is what import makes of the tree that stands there. Assumes nothing.
+use mathlib.Core.Path.{_≡_, refl, sym, ap, subst, _∙_}
+use mathlib.Core.Bool.{Bool, true, false}
+use mathlib.Core.List.{List, [], _∷_, _++_, append-assoc}
+use mathlib.Core.Option.{none, some}
+use Prim.Native.Nat.{ℕ, _+_, _*_, _-_, _/_, _%_, _≤_, _<_}
+use native.Mathlib.Omega.{arith}
+use lib.IntN.{pos}
+use lib.ListN.{length, drop, length-append, length-take, length-drop}
+use borrow.Author.Tests.{eqb-true, eqb-false, le-leb}
+use Rattle.sheets.specs.Bytes.{Bytes}
+use Rattle.sheets.specs.Answer.{given}
+use Rattle.sheets.specs.Sheet.{ended}
+use Rattle.sheets.specs.Text.{hex}
+use Rattle.sheets.specs.Number.{decimal}
+use Rattle.sheets.specs.Flags.{odd, isSorted, nullable}
+use Rattle.sheets.specs.Utf8.{isUtf8}
+use Rattle.sheets.specs.Field.{Info, leaf}
+use Rattle.sheets.specs.Format.{ofScalar, readFormat}
+use Rattle.sheets.specs.Schema.{Line, nodeOf, Schema, schema, Schemas, end, _&_, Dictionary, absent, present, countSchemas, countDictionary}
+use Rattle.sheets.specs.FieldSheet.{toNat, fieldLine, lineOf, ofScalar as scalarShape}
+use Rattle.sheets.proofs.SchemaLaws.{pushChildren, pushDictionary}
+use Rattle.sheets.proofs.FormLaws.{Standing, standing-on}
+use Rattle.sheets.proofs.ImportLaws.{written}
+use Rattle.sheets.proofs.Utf8Laws.{ascii-utf8}
+use Rattle.put_decimal.proofs.WriteLaws.{decimal-length}
+use Rattle.buffer.specs.Over.{over}
+use Rattle.columns.specs.Columns.{part}
+use Rattle.leaf_line.proofs.LeafLaws.{leaf-says, name-some}
+use Rattle.put_leaf.specs.LeafText.{headText, tailText, leafText, LeafWritten, LeafPuts}
+use Rattle.put_leaf.specs.declared.LeafPut.{LeafPut}
+use Rattle.put_leaf.specs.declared.LeafPut.the-variants.{Put, Other}
+use Rattle.import_field.specs.Contracts.{FieldWrote, Wrote}
+use Rattle.import_field.specs.declared.Step.{Step}
+use Rattle.import_field.specs.declared.Step.the-variants.{Done}
+
+-- the field that a leaf becomes
+abbrev info : Bytes → ℕ → Info
+info name flags = record { name = name; nullable = nullable (pos flags); pairs = none }
+
+abbrev fieldText : ℕ → Bytes → ℕ → Bytes
+fieldText kind name flags = fieldLine .write (lineOf (scalarShape (leaf kind 0)) (some (info name flags)) 0)
+
+-- what import makes of the node
+leaf-becomes : (f n : Bytes) (kind flags : ℕ) → isUtf8 f ≡ true → isUtf8 n ≡ true → ((sorted : Bool) → readFormat sorted f ≡ given (ofScalar (leaf kind 0)))
+    → written false (schema (record { format = some f; name = some n; flags = pos flags; metadata = none }) end absent) ≡ given (fieldText kind n flags ∷ [])
+leaf-becomes f n kind flags hf hn means = rw (hf, means (isSorted (pos flags)), hn)
+
+-- nullable, as a digit
+nullable-digit : (flags : ℕ) → toNat (nullable (pos flags)) ≡ flags / 2 % 2
+nullable-digit flags = pick (odd (flags / 2)) refl
+  where
+    pick : (t : Bool) → odd (flags / 2) ≡ t → toNat t ≡ flags / 2 % 2
+    pick true e = sym (eqb-true (flags / 2 % 2) 1 e)
+    pick false e = let d = eqb-false (flags / 2 % 2) 1 e in omega arith
+
+-- the line as it is written
+line-text : (kind : ℕ) (b : Bytes) (flags : ℕ) → 0 < length b → leafText kind (hex b) (flags / 2 % 2) ≡ ended (fieldText kind b flags ∷ [])
+unfolding headText tailText decimal
+line-text kind [] flags h = absurd (omega arith)
+line-text kind (x ∷ b) flags h = ap (leafText kind (hex (x ∷ b))) (sym (nullable-digit flags)) ∙ by-flag (nullable (pos flags))
+  where
+    by-flag : (t : Bool) → leafText kind (hex (x ∷ b)) (toNat t) ≡ ended (fieldLine .write (lineOf (scalarShape (leaf kind 0)) (some (record { name = x ∷ b; nullable = t; pairs = none })) 0) ∷ [])
+    by-flag true = simp append-assoc
+    by-flag false = simp append-assoc
+
+-- ── the tree that stands there
+
+module _ {s : Bytes} {at : ℕ} {out out' : Bytes} {next len : ℕ} (w : LeafWritten s at out out' next len) where
+  text : leafText (w .kind) (part s (at + 3) (w .e)) (w .flags / 2 % 2) ≡ ended (fieldText (w .kind) (w .leaf .bytes) (w .flags) ∷ [])
+  text =
+      ap (λ (b : Bytes). leafText (w .kind) b (w .flags / 2 % 2)) (w .leaf .name)
+      ∙ line-text (w .kind) (w .leaf .bytes) (w .flags) (name-some (w .leaf))
+
+  -- the line is not much longer than the schema's
+  text-short : len + 32 * at ≤ 32 * next
+  unfolding headText tailText
+  text-short =
+      let k = w .leaf in
+      let name = part s (at + 3) (w .e) in
+      let rest : Bytes = 32 ∷ 48 ∷ 32 ∷ 48 ∷ 32 ∷ 126 ∷ 32 ∷ 126 ∷ 32 ∷ [] in
+      let a : length (headText (w .kind)) ≡ length (decimal (w .kind)) + 9 = length-append (decimal (w .kind)) rest in
+      let b : length (decimal (w .kind)) ≤ 2 = decimal-length 2 (w .kind) (omega arith) (omega (arith, k .known)) in
+      let c : length name ≡ w .e - (at + 3) = length-take (w .e - (at + 3)) (drop (at + 3) s) ∙ omega (arith, length-drop (at + 3) s, k .high, k .some) in
+      omega (arith, w .long, w .after, k .some, length-append (headText (w .kind) ++ name) (tailText (w .flags / 2 % 2)), length-append (headText (w .kind)) name)
+
+  module _ (t : Schema) (ts : List Schema) where
+    abbrev node : Line → Schema
+    node x = schema (nodeOf x) end absent
+
+    opened : (cs : Schemas) (d : Dictionary) → countSchemas cs ≡ 0 → countDictionary d ≡ 0 → t ≡ schema (nodeOf (w .leaf .line .line)) cs d
+        → Standing (drop (w .e + 9) s) (pushChildren cs (pushDictionary d ts)) → Wrote s at ts (written false t) out out' (Done next len)
+    opened (c & cs) d n m e h = absurd (omega arith)
+    opened end (present c) n m e h = absurd (omega arith)
+    opened end absent n m e h =
+        let k = w .leaf in (
+          fieldText (w .kind) (k .bytes) (w .flags) ∷ [],
+          ap (written false) (e ∙ ap node (leaf-says k))
+              ∙ leaf-becomes (k .byte ∷ []) (k .bytes) (w .kind) (w .flags) (ascii-utf8 (k .byte ∷ []) (le-leb (k .byte) 127 (omega (arith, k .names .ascii)), refl)) (k .utf8) (k .names .means),
+          w .long ∙ ap length text,
+          w .laid ∙ ap (λ (b : Bytes). over b out) text,
+          subst (λ (i : ℕ). Standing (drop i s) ts) (sym (w .after)) h,
+          text-short,
+          omega (arith, w .after, k .high),
+        )
+
+  -- all that `to_field` tells
+  pub leaf-field : (most : ℕ) → FieldWrote s at most false out out' (Done next len)
+  leaf-field most t ts f =
+      let p = w .leaf .line in
+      let q = p .stands in
+      let o = standing-on (q .bytes) (drop (w .e + 9) s) (q .free) (p .line) (q .reads) t ts (subst (λ (b : Bytes). Standing b (t ∷ ts)) (q .is) (f .stands)) in
+      opened t ts (o .children) (o .dictionary) (o .counted ∙ sym (p .shows .children)) (o .one ∙ sym (p .shows .dictionary)) (o .isNode) (o .stands)
+
+-- ── at the places of `next_field`
+
+module _ (s : Bytes) (at most : ℕ) (bare : Bool) (out mid : Bytes) (r : LeafPut) (h : LeafPuts s at bare out mid r) where
+  pub leaf-done : (next len : ℕ) → r ≡ Put next len → FieldWrote s at most bare out mid (Done next len)
+  leaf-done next len e =
+      let p : (bare ≡ false) × LeafWritten s at out mid next len = subst (LeafPuts s at bare out mid) e h in
+      subst (λ (b : Bool). FieldWrote s at most b out mid (Done next len)) (sym (p .0)) (leaf-field (p .1) most)
+
+  pub leaf-other : r ≡ Other → (last : Bytes) (z : Step) → FieldWrote s at most bare mid last z → FieldWrote s at most bare out last z
+  leaf-other e last z f =
+      let p : mid ≡ out = subst (LeafPuts s at bare out mid) e h in
+      subst (λ (b : Bytes). FieldWrote s at most bare b last z) p f
