@@ -1,6 +1,6 @@
 /* A fuzzer's entry: any bytes are put to `juzontefa_import`. The sheet ends and the buffer ends where a page that cannot be touched begins, so
- * that a read or a write past either ends the run; the promises of the header are tested. Links with libFuzzer's main and a library
- * compiled with coverage counters. */
+ * that a read or a write past either ends the run; the promises of the header are tested. `host/fuzz` links it with libFuzzer's main and the
+ * library's code with coverage counters. */
 #define _DEFAULT_SOURCE
 #include <stdint.h>
 #include <stdlib.h>
@@ -46,7 +46,9 @@ int LLVMFuzzerTestOneInput(const uint8_t *data, size_t size) {
     if (size > SHEET) return 0;
     uint8_t *sheet = sheets + SHEET - size;
     memcpy(sheet, data, size);
-    struct juzontefa_answer all = call(sheet, size, rooms + ROOM, size < 2048 ? 65536 : ROOM);
+    /* An answer is never twice as long as its sheet. */
+    struct juzontefa_answer all = call(sheet, size, rooms + ROOM, 2 * size + 256 < ROOM ? 2 * size + 256 : ROOM);
+    require(all.number != 16);
     if (all.number == 0) {
         require(call(sheet, size, rooms + ROOM, all.length).length == all.length);
         require(call(sheet, size, rooms + ROOM, all.length - 1).number == 16);

@@ -99,10 +99,24 @@ static void broken(void)
     expect("33 levels", sheet, at, sizeof out, 3, NULL);
 }
 
+/* The longest answer that was found for 65,535 bytes. */
+static void longest(void)
+{
+    static char answer[98304];
+    size_t in = (size_t)sprintf((char *)sheet, HEADING "2b73 - 0 ~ 5036 0\n");
+    size_t to = (size_t)sprintf(answer, FIELD_HEADING "30 0 0 ~ ~ - 0 ~ 5036\n");
+    for (int leaf = 0; leaf < 5036; leaf++) {
+        in += (size_t)sprintf((char *)sheet + in, "67 - 0 ~ 0 0\n");
+        to += (size_t)sprintf(answer + to, "14 0 0 ~ ~ - 0 ~ 0\n");
+    }
+    expect("the longest answer", sheet, in, 95754, 0, answer);
+}
+
 int main(void)
 {
     structs();
     broken();
+    longest();
     printf("C host: %d tried, %d wrong\n", tried, wrong);
     return wrong == 0 ? EXIT_SUCCESS : EXIT_FAILURE;
 }

@@ -3,6 +3,7 @@
 
 use std::hint::black_box;
 use std::io::Write;
+use std::path::Path;
 use std::time::Duration;
 
 use crate::answer::Answer;
@@ -130,6 +131,16 @@ pub fn bench(rust: &Rust, rounds: u64, out: &mut dyn Write) -> Result<(), Failur
         writeln!(out, "{:<26} {}", row.name, columns(&row.whole, row.quarter.as_ref()))?;
     }
     writeln!(out, "growth: how many times longer than a quarter of the size takes; MB/s: of the sheet handed in")?;
+    Ok(())
+}
+
+/// Writes the schema sheet of each workload into the folder, as a file with the workload's place, from 0, and its name.
+pub fn workloads(folder: &str) -> Result<(), Failure> {
+    for (place, workload) in WORKLOADS.iter().enumerate() {
+        let path = Path::new(folder).join(format!("{place} {}", workload.name));
+        let sheet = join_lines(Kind::Schema, &(workload.lines)(workload.size));
+        std::fs::write(&path, sheet).map_err(|error| Failure::Wrong(format!("{}: {error}", path.display())))?;
+    }
     Ok(())
 }
 

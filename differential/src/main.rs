@@ -26,7 +26,7 @@ use model::Model;
 use oracle::Rust;
 
 const USAGE: &str = "usage: juzontefa-differential answer CALL [INDEX] | model CALL [INDEX] | compare N [SEED [CALL]] | \
-    demand3 N [SEED] | mutants [N [SEED]] | record SEED | check FILE | bench [ROUNDS]";
+    demand3 N [SEED] | mutants [N [SEED]] | record SEED | check FILE | bench [ROUNDS] | workloads FOLDER";
 
 /// Deep sheets are read by recursion in the plain reading, and dropped by recursion in the Rust.
 const STACK: usize = 256 << 20;
@@ -87,6 +87,7 @@ fn run(arguments: &[String]) -> Result<(), Failure> {
         }
         ["bench"] => bench::bench(&Rust::new(), 100, out),
         ["bench", rounds] => bench::bench(&Rust::new(), number("ROUNDS", rounds)?.max(1), out),
+        ["workloads", folder] => bench::workloads(folder),
         _ => Err(Failure::Wrong(USAGE.to_string())),
     }
 }

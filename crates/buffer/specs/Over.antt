@@ -1,7 +1,9 @@
 -- What a buffer holds after bytes were written into it, as much of them as fits. Both are total, so that a writer can go on counting after its
 -- buffer is full. Assumes nothing.
+use mathlib.Core.Path.{_≡_}
 use mathlib.Core.List.{[], _∷_}
-use Prim.Native.Nat.{ℕ, zero, suc, _^_, _<_}
+use Prim.Native.Nat.{ℕ, zero, suc, _+_, _^_, _<_}
+use lib.ListN.{length}
 use Rattle.sheets.specs.Bytes.{Bytes}
 
 -- the bytes written, then what the buffer held
@@ -16,6 +18,10 @@ unfolding over
 overAt zero s out = over s out
 overAt (suc at) s [] = []
 overAt (suc at) s (o ∷ out) = o ∷ overAt at s out
+
+-- what every writer tells: the text t stands over the buffer from place `at` on, as much of it as fits, and r is the place after it
+abbrev pub PutAt : ℕ → Bytes → ℕ → Bytes → Bytes → Type 0
+PutAt at t r out out' = (r ≡ at + length t) × (out' ≡ overAt at t out)
 
 -- a number that `usize` holds
 abbrev pub IsUsize : ℕ → Type 0

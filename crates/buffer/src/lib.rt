@@ -4,7 +4,7 @@ ghost use mathlib.Core.List.{[], _∷_};
 ghost use Prim.Native.Nat.{_+_, min};
 ghost use lib.ListN.{length, replicate};
 ghost use Rattle.sheets.specs.Bytes.{same};
-ghost use Rattle.buffer.specs.Over.{over, overAt, IsUsize};
+ghost use Rattle.buffer.specs.Over.{over, IsUsize, PutAt};
 
 // The place n, or the end where that comes first: a start for `&mut out[n..]` that is always in range.
 pub fn within(n: usize, end: usize) -> usize
@@ -26,7 +26,7 @@ pub fn put(out: &mut [u8], s: &[u8])
 // Writes s from place at on, as much as fits; the place after it.
 pub fn put_at(out: &mut [u8], at: usize, s: &[u8]) -> usize
     requires { ⌜ IsUsize (at + length (now s)) ⌝ }
-    ensures { λ r. ⌜ (r ≡ at + length (now (s .entry))) × (now (out .exit) ≡ overAt at (now (s .entry)) (now (out .entry))) ⌝ }
+    ensures { λ r. ⌜ PutAt at (now (s .entry)) r (now (out .entry)) (now (out .exit)) ⌝ }
 {
     let end = at + s.len();
     if at < out.len() {
@@ -38,7 +38,7 @@ pub fn put_at(out: &mut [u8], at: usize, s: &[u8]) -> usize
 // Writes one byte at place at, if that is within; the place after it.
 pub fn put_byte(out: &mut [u8], at: usize, b: u8) -> usize
     requires { ⌜ IsUsize (at + 1) ⌝ }
-    ensures { λ r. ⌜ (r ≡ at + 1) × (now (out .exit) ≡ overAt at (b ∷ []) (now (out .entry))) ⌝ }
+    ensures { λ r. ⌜ PutAt at (b ∷ []) r (now (out .entry)) (now (out .exit)) ⌝ }
 {
     let end = at + 1;
     if at < out.len() {

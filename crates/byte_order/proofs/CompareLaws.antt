@@ -1,7 +1,7 @@
 -- The comparison of two byte strings at a place that they agree up to: the bytes there decide, one at a time or, read as one number in
 -- big-endian order, four at a time. Assumes nothing.
 use mathlib.Core.Path.{_≡_, refl, sym, ap, _∙_}
-use mathlib.Core.Bool.{Bool, true, false, cond}
+use mathlib.Core.Bool.{Bool, true, false}
 use mathlib.Core.List.{_∷_}
 use mathlib.Core.Logic.{_⊎_, inl, inr, ⊎-elim}
 use Prim.Native.Nat.{ℕ, suc, _+_, _*_, _≤_, _<_}
@@ -15,90 +15,66 @@ use Rattle.sheets.specs.Bytes.{Bytes, same}
 use Rattle.sheets.specs.Field.{before}
 use Rattle.byte_order.specs.declared.Ordering.{Ordering}
 use Rattle.byte_order.specs.declared.Ordering.the-variants.{Less, Equal, Greater}
-use Rattle.byte_order.specs.Compare.{compared, Word}
-use Rattle.byte_order.proofs.OrderLaws.{connected}
+use Rattle.byte_order.specs.Compare.{ordering, orderingAnswer, Word}
+use Rattle.sheets.proofs.OrderLaws.{connected}
 
 -- ── what a comparison shows
 
-abbrev isLess : Ordering → Bool
-isLess Less = true
-isLess Equal = false
-isLess Greater = false
+module _ (a b : Bytes) (r : Ordering) (e : orderingAnswer r ≡ ordering a b) where
+  stand : (o : Ordering) → r ≡ o → (before a b, same a b) ≡ orderingAnswer o
+  unfolding ordering
+  stand o h = sym e ∙ ap orderingAnswer h
 
-less-before : (a b : Bytes) → isLess (compared a b) ≡ before a b
-unfolding compared
-less-before a b = go (before a b) (same a b)
-  where
-    go : (t u : Bool) → isLess (cond t Less (cond u Equal Greater)) ≡ t
-    go true u = refl
-    go false true = refl
-    go false false = refl
+  -- what a case says of the first
+  pub comes-before : (o : Ordering) → r ≡ o → before a b ≡ orderingAnswer o .0
+  comes-before o h = ap (λ (p : Bool × Bool). p .0) (stand o h)
 
-module _ (a b : Bytes) (r : Ordering) (e : r ≡ compared a b) where
   pub is-less : r ≡ Less → before a b ≡ true
-  is-less h = sym (less-before a b) ∙ ap isLess (sym e ∙ h)
+  is-less h = comes-before Less h
 
   pub is-equal : r ≡ Equal → same a b ≡ true
-  unfolding compared
-  is-equal h = go (before a b) (same a b) (sym e ∙ h)
-    where
-      go : (t u : Bool) → cond t Less (cond u Equal Greater) ≡ Equal → u ≡ true
-      go true u k = cc
-      go false true k = refl
-      go false false k = cc
+  is-equal h = ap (λ (p : Bool × Bool). p .1) (stand Equal h)
 
   pub is-greater : r ≡ Greater → before b a ≡ true
-  unfolding compared
-  is-greater h = go (before a b) (same a b) refl refl (sym e ∙ h)
-    where
-      go : (t u : Bool) → before a b ≡ t → same a b ≡ u → cond t Less (cond u Equal Greater) ≡ Greater → before b a ≡ true
-      go true u f g k = cc
-      go false true f g k = cc
-      go false false f g k = connected a b f g
-
-  pub not-less : r ≡ Equal → before a b ≡ false
-  not-less h = sym (less-before a b) ∙ ap isLess (sym e ∙ h)
-
-  pub not-less-either : r ≡ Greater → before a b ≡ false
-  not-less-either h = sym (less-before a b) ∙ ap isLess (sym e ∙ h)
+  is-greater h = connected a b (comes-before Greater h) (ap (λ (p : Bool × Bool). p .1) (stand Greater h))
 
 -- ── by first bytes
 
-cons-less : (x y : ℕ) (a b : Bytes) → x < y → compared (x ∷ a) (y ∷ b) ≡ Less
-unfolding compared
-cons-less x y a b h = rw (lt-ltb x y h)
+cons-less : (x y : ℕ) (a b : Bytes) → x < y → ordering (x ∷ a) (y ∷ b) ≡ orderingAnswer Less
+unfolding ordering
+cons-less x y a b h = rw (lt-ltb x y h, ne-eqb x y (λ e. omega arith))
 
-cons-greater : (x y : ℕ) (a b : Bytes) → y < x → compared (x ∷ a) (y ∷ b) ≡ Greater
-unfolding compared
+cons-greater : (x y : ℕ) (a b : Bytes) → y < x → ordering (x ∷ a) (y ∷ b) ≡ orderingAnswer Greater
+unfolding ordering
 cons-greater x y a b h = rw (le-ltb x y (omega arith), ne-eqb x y (λ e. omega arith))
 
-cons-same : (x y : ℕ) (a b : Bytes) → x ≡ y → compared (x ∷ a) (y ∷ b) ≡ compared a b
-unfolding compared
+cons-same : (x y : ℕ) (a b : Bytes) → x ≡ y → ordering (x ∷ a) (y ∷ b) ≡ ordering a b
+unfolding ordering
 cons-same x y a b e = rw (le-ltb x y (omega arith), eq-eqb x y e)
 
 -- ── at a place, byte by byte
 
 module _ (a b : Bytes) (i : ℕ) where
-  pub no-more-b : i < length a → length b ≤ i → compared (drop i a) (drop i b) ≡ Greater
-  unfolding compared
+  pub no-more-b : i < length a → length b ≤ i → ordering (drop i a) (drop i b) ≡ orderingAnswer Greater
+  unfolding ordering
   no-more-b h k = rw (drop-cons a i 0 h, drop-of-length-le b k)
 
-  pub no-more-a : length a ≤ i → i < length b → compared (drop i a) (drop i b) ≡ Less
-  unfolding compared
+  pub no-more-a : length a ≤ i → i < length b → ordering (drop i a) (drop i b) ≡ orderingAnswer Less
+  unfolding ordering
   no-more-a h k = rw (drop-of-length-le a h, drop-cons b i 0 k)
 
-  pub no-more : length a ≤ i → length b ≤ i → compared (drop i a) (drop i b) ≡ Equal
-  unfolding compared
+  pub no-more : length a ≤ i → length b ≤ i → ordering (drop i a) (drop i b) ≡ orderingAnswer Equal
+  unfolding ordering
   no-more h k = rw (drop-of-length-le a h, drop-of-length-le b k)
 
   module _ (h : i < length a) (k : i < length b) where
-    pub smaller : getD a i 0 < getD b i 0 → compared (drop i a) (drop i b) ≡ Less
+    pub smaller : getD a i 0 < getD b i 0 → ordering (drop i a) (drop i b) ≡ orderingAnswer Less
     smaller l = rw (drop-cons a i 0 h, drop-cons b i 0 k) (cons-less (getD a i 0) (getD b i 0) (drop (suc i) a) (drop (suc i) b) l)
 
-    pub greater : getD b i 0 < getD a i 0 → compared (drop i a) (drop i b) ≡ Greater
+    pub greater : getD b i 0 < getD a i 0 → ordering (drop i a) (drop i b) ≡ orderingAnswer Greater
     greater l = rw (drop-cons a i 0 h, drop-cons b i 0 k) (cons-greater (getD a i 0) (getD b i 0) (drop (suc i) a) (drop (suc i) b) l)
 
-    pub next : getD a i 0 ≤ getD b i 0 → getD b i 0 ≤ getD a i 0 → compared (drop i a) (drop i b) ≡ compared (drop (i + 1) a) (drop (i + 1) b)
+    pub next : getD a i 0 ≤ getD b i 0 → getD b i 0 ≤ getD a i 0 → ordering (drop i a) (drop i b) ≡ ordering (drop (i + 1) a) (drop (i + 1) b)
     next l m = rw (add-one, drop-cons a i 0 h, drop-cons b i 0 k) (cons-same (getD a i 0) (getD b i 0) (drop (suc i) a) (drop (suc i) b) (omega arith))
 
 -- ── four bytes at a time
@@ -115,7 +91,7 @@ value x y z w = x * 16777216 + y * 65536 + z * 256 + w
 
 module _ (x₀ x₁ x₂ x₃ y₀ y₁ y₂ y₃ : ℕ) (a b : Bytes) where
   module _ (b₁ : x₁ < 256) (b₂ : x₂ < 256) (b₃ : x₃ < 256) (c₁ : y₁ < 256) (c₂ : y₂ < 256) (c₃ : y₃ < 256) where
-    four-less : value x₀ x₁ x₂ x₃ < value y₀ y₁ y₂ y₃ → compared (x₀ ∷ x₁ ∷ x₂ ∷ x₃ ∷ a) (y₀ ∷ y₁ ∷ y₂ ∷ y₃ ∷ b) ≡ Less
+    four-less : value x₀ x₁ x₂ x₃ < value y₀ y₁ y₂ y₃ → ordering (x₀ ∷ x₁ ∷ x₂ ∷ x₃ ∷ a) (y₀ ∷ y₁ ∷ y₂ ∷ y₃ ∷ b) ≡ orderingAnswer Less
     four-less h =
         ⊎-elim (λ l. cons-less x₀ y₀ (x₁ ∷ x₂ ∷ x₃ ∷ a) (y₁ ∷ y₂ ∷ y₃ ∷ b) l)
         (λ e. cons-same x₀ y₀ (x₁ ∷ x₂ ∷ x₃ ∷ a) (y₁ ∷ y₂ ∷ y₃ ∷ b) e ∙ ⊎-elim (λ l. cons-less x₁ y₁ (x₂ ∷ x₃ ∷ a) (y₂ ∷ y₃ ∷ b) l)
@@ -125,7 +101,7 @@ module _ (x₀ x₁ x₂ x₃ y₀ y₁ y₂ y₃ : ℕ) (a b : Bytes) where
         (at-most x₁ y₁ (omega arith)))
         (at-most x₀ y₀ (omega arith))
 
-    four-greater : value y₀ y₁ y₂ y₃ < value x₀ x₁ x₂ x₃ → compared (x₀ ∷ x₁ ∷ x₂ ∷ x₃ ∷ a) (y₀ ∷ y₁ ∷ y₂ ∷ y₃ ∷ b) ≡ Greater
+    four-greater : value y₀ y₁ y₂ y₃ < value x₀ x₁ x₂ x₃ → ordering (x₀ ∷ x₁ ∷ x₂ ∷ x₃ ∷ a) (y₀ ∷ y₁ ∷ y₂ ∷ y₃ ∷ b) ≡ orderingAnswer Greater
     four-greater h =
         ⊎-elim (λ l. cons-greater x₀ y₀ (x₁ ∷ x₂ ∷ x₃ ∷ a) (y₁ ∷ y₂ ∷ y₃ ∷ b) l)
         (λ e. cons-same x₀ y₀ (x₁ ∷ x₂ ∷ x₃ ∷ a) (y₁ ∷ y₂ ∷ y₃ ∷ b) (sym e) ∙ ⊎-elim (λ l. cons-greater x₁ y₁ (x₂ ∷ x₃ ∷ a) (y₂ ∷ y₃ ∷ b) l)
@@ -135,7 +111,7 @@ module _ (x₀ x₁ x₂ x₃ y₀ y₁ y₂ y₃ : ℕ) (a b : Bytes) where
         (at-most y₁ x₁ (omega arith)))
         (at-most y₀ x₀ (omega arith))
 
-    four-same : value x₀ x₁ x₂ x₃ ≡ value y₀ y₁ y₂ y₃ → compared (x₀ ∷ x₁ ∷ x₂ ∷ x₃ ∷ a) (y₀ ∷ y₁ ∷ y₂ ∷ y₃ ∷ b) ≡ compared a b
+    four-same : value x₀ x₁ x₂ x₃ ≡ value y₀ y₁ y₂ y₃ → ordering (x₀ ∷ x₁ ∷ x₂ ∷ x₃ ∷ a) (y₀ ∷ y₁ ∷ y₂ ∷ y₃ ∷ b) ≡ ordering a b
     four-same h =
         cons-same x₀ y₀ (x₁ ∷ x₂ ∷ x₃ ∷ a) (y₁ ∷ y₂ ∷ y₃ ∷ b) (omega arith)
         ∙ cons-same x₁ y₁ (x₂ ∷ x₃ ∷ a) (y₂ ∷ y₃ ∷ b) (omega arith)
@@ -153,7 +129,7 @@ four s i h =
     one j k e l = rw (← e, add-one) (drop-cons s j 0 l)
 
 module _ (a b : Bytes) (i v w : ℕ) (h : i + 4 ≤ length a) (k : i + 4 ≤ length b) (p : Word a i v) (q : Word b i w) where
-  pub words-less : v < w → compared (drop i a) (drop i b) ≡ Less
+  pub words-less : v < w → ordering (drop i a) (drop i b) ≡ orderingAnswer Less
   words-less l =
       let e = p .value in
       let f = q .value in
@@ -161,7 +137,7 @@ module _ (a b : Bytes) (i v w : ℕ) (h : i + 4 ≤ length a) (k : i + 4 ≤ len
       (four-less (getD a i 0) (getD a (i + 1) 0) (getD a (i + 2) 0) (getD a (i + 3) 0) (getD b i 0) (getD b (i + 1) 0) (getD b (i + 2) 0) (getD b (i + 3) 0) (drop (i + 4) a) (drop (i + 4) b)
       (p .second) (p .third) (p .fourth) (q .second) (q .third) (q .fourth) (omega arith))
 
-  pub words-greater : w < v → compared (drop i a) (drop i b) ≡ Greater
+  pub words-greater : w < v → ordering (drop i a) (drop i b) ≡ orderingAnswer Greater
   words-greater l =
       let e = p .value in
       let f = q .value in
@@ -169,7 +145,7 @@ module _ (a b : Bytes) (i v w : ℕ) (h : i + 4 ≤ length a) (k : i + 4 ≤ len
       (four-greater (getD a i 0) (getD a (i + 1) 0) (getD a (i + 2) 0) (getD a (i + 3) 0) (getD b i 0) (getD b (i + 1) 0) (getD b (i + 2) 0) (getD b (i + 3) 0) (drop (i + 4) a) (drop (i + 4) b)
       (p .second) (p .third) (p .fourth) (q .second) (q .third) (q .fourth) (omega arith))
 
-  pub words-same : v ≤ w → w ≤ v → compared (drop i a) (drop i b) ≡ compared (drop (i + 4) a) (drop (i + 4) b)
+  pub words-same : v ≤ w → w ≤ v → ordering (drop i a) (drop i b) ≡ ordering (drop (i + 4) a) (drop (i + 4) b)
   words-same l m =
       let e = p .value in
       let f = q .value in

@@ -8,10 +8,9 @@ use native.Mathlib.Omega.{arith}
 use lib.Dec.{eqb, ltb}
 use borrow.Author.Tests.{lt-ltb, le-ltb, ltb-true, ltb-false, eq-eqb, ne-eqb, eqb-true, eqb-false}
 use Rattle.sheets.specs.Rule.{Meets}
-use Rattle.sheets.specs.Bytes.{Bytes, all, same}
+use Rattle.sheets.specs.Bytes.{Bytes, all, same, isByte}
 use Rattle.sheets.specs.Text.{hexDigit, hex}
 use Rattle.sheets.specs.Field.{before}
-use Rattle.sheets.proofs.TextLaws.{isByte}
 
 data Sides (x y : ℕ) : Type 0 where
   less : x < y → Sides x y

@@ -1,3 +1,2 @@
-pub mod OrderLaws
 pub mod CompareLaws
 pub mod HexOrderLaws

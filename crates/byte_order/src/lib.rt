@@ -3,7 +3,7 @@ ghost use mathlib.Core.Path.{_≡_};
 ghost use Prim.Native.Nat.{_+_, _-_, _≤_, _<_, min};
 ghost use lib.ListN.{length, drop};
 ghost use Rattle.sheets.specs.Field.{before};
-ghost use Rattle.byte_order.specs.Compare.{compared, Word};
+ghost use Rattle.byte_order.specs.Compare.{ordering, orderingAnswer, Word};
 
 // `Ord::cmp` of byte strings.
 pub enum Ordering {
@@ -27,7 +27,7 @@ fn word_at(s: &[u8], i: usize) -> u32
 }
 
 fn compare_bytes(a: &[u8], b: &[u8], from: usize) -> Ordering
-    ensures { λ r. ⌜ r ≡ compared (drop from (now (a .entry))) (drop from (now (b .entry))) ⌝ }
+    ensures { λ r. ⌜ orderingAnswer r ≡ ordering (drop from (now (a .entry))) (drop from (now (b .entry))) ⌝ }
 {
     let mut i = from;
     while i < a.len() {
@@ -58,7 +58,7 @@ fn shorter(a: usize, b: usize) -> usize
 }
 
 pub fn compare(a: &[u8], b: &[u8]) -> Ordering
-    ensures { λ r. ⌜ r ≡ compared (now (a .entry)) (now (b .entry)) ⌝ }
+    ensures { λ r. ⌜ orderingAnswer r ≡ ordering (now (a .entry)) (now (b .entry)) ⌝ }
 {
     let n = shorter(a.len(), b.len());
     let mut i = 0;

@@ -1,22 +1,23 @@
 -- A column at a place of a sheet: where it ends, found by looking at one byte after the other, and that there is one such place only. By the bytes
 -- from the place on as a list, cut at the first byte that ends a column. Assumes nothing.
 use mathlib.Core.Path.{_≡_, refl, sym, ap, ap₂, subst, _∙_}
-use mathlib.Core.Bool.{Bool, true, false, _||_, not, cond}
+use mathlib.Core.Bool.{Bool, true, false, _&&_, _||_, not, cond}
 use mathlib.Core.List.{[], _∷_, _++_}
+use mathlib.Core.Option.{none, some}
 use Prim.Native.Nat.{ℕ, zero, suc, _+_, _-_, _%_, _≤_, _<_}
 use native.Mathlib.Numerals.{add-one}
 use native.Mathlib.Omega.{arith}
-use lib.Dec.{eqb}
+use lib.Dec.{eqb, ltb}
 use lib.ListN.{length, getD, take, drop, length-append, length-take, length-drop, take-append-drop, drop-of-length-le}
 use lib.Seq.{drop-cons, drop-drop, drop-at, length-take-le, take-append-seam, drop-append-add}
-use borrow.Author.Tests.{eq-eqb, ne-eqb, not-true}
+use borrow.Author.Tests.{eq-eqb, ne-eqb, eqb-true, not-true, lt-ltb, le-ltb, ltb-true}
 use Rattle.sheets.specs.Rule.{Meets}
 use Rattle.sheets.specs.Bytes.{Bytes, lacks}
-use Rattle.sheets.proofs.Tests.{and-left, and-right}
+use Rattle.sheets.proofs.Tests.{not-some, and-left, and-right}
 use Rattle.hex.specs.Hex.{isDigit, isHex}
 use Rattle.hex.proofs.DigitLaws.{low}
 use Rattle.hex.proofs.HexLaws.{allDigits, even-digits}
-use Rattle.columns.specs.Columns.{part, isStop, columnLength, Passes, ColumnAt, OneByte}
+use Rattle.columns.specs.Columns.{part, isStop, columnLength, stopFrom, columnEnd}
 
 -- ── one byte
 
@@ -114,16 +115,24 @@ module _ (s : Bytes) (a e : ℕ) (below : a ≤ e) (high : e ≤ length s) where
   pub near-end : columnLength (part s a e) < e - a → columnLength (drop a s) ≡ columnLength (part s a e)
   near-end h = cut-near (e - a) (drop a s) h (omega (arith, length-drop a s))
 
-  pub near-passed : e - a ≤ columnLength (part s a e) → Passes s a e
+  pub near-passed : e - a ≤ columnLength (part s a e) → stopFrom s a ≡ stopFrom s e
   near-passed h =
       let n : a + (e - a) ≡ e = omega arith in
-      (high, omega (arith, cut-past (e - a) (drop a s) h (omega (arith, length-drop a s)), ap columnLength (drop-drop (e - a) a s ∙ ap (λ (m : ℕ). drop m s) n)))
+      omega (arith, cut-past (e - a) (drop a s) h (omega (arith, length-drop a s)), ap columnLength (drop-drop (e - a) a s ∙ ap (λ (m : ℕ). drop m s) n))
 
-  pub digits-passed : isHex (part s a e) ≡ true → Passes s a e
+  pub digits-passed : isHex (part s a e) ≡ true → stopFrom s a ≡ stopFrom s e
   digits-passed h =
       near-passed (omega (arith, digits-pass (part s a e) (and-right (eqb (length (part s a e) % 2) 0) (allDigits (part s a e)) (sym (even-digits (part s a e)) ∙ h)), near-size))
 
 -- ── columns
+
+-- a column stands from a to e, and the byte stop ends it
+pub record ColumnAt (s : Bytes) (a e stop : ℕ) : Type 0 where
+  pub low : a ≤ e
+  pub high : e < length s
+  pub is : drop a s ≡ part s a e ++ (stop ∷ drop (e + 1) s)
+  pub spaces : Meets (lacks 32 (part s a e))
+  pub ends : Meets (lacks 10 (part s a e))
 
 -- bytes in front of the byte that ends them are a column
 module _ (s : Bytes) (a : ℕ) (c r : Bytes) (stop : ℕ) (is : drop a s ≡ c ++ (stop ∷ r)) where
@@ -149,22 +158,6 @@ module _ (s : Bytes) (a : ℕ) (c r : Bytes) (stop : ℕ) (is : drop a s ≡ c +
         spaces = subst (λ (x : Bytes). Meets (lacks 32 x)) (sym column-part) h;
         ends = subst (λ (x : Bytes). Meets (lacks 10 x)) (sym column-part) k;
       }
-
--- one byte before the byte that ends it
-module _ {s : Bytes} {a stop : ℕ} (h : OneByte s a stop) where
-  one-is : drop a s ≡ (getD s a 0 ∷ []) ++ (stop ∷ drop (suc (suc a)) s)
-  one-is =
-      let n : suc a ≡ a + 1 = omega arith in
-      drop-cons s a 0 (omega (arith, h .room))
-      ∙ ap (λ (b : Bytes). getD s a 0 ∷ b) (drop-cons s (suc a) 0 (omega (arith, h .room)) ∙ ap (λ (x : ℕ). x ∷ drop (suc (suc a)) s) (ap (λ (m : ℕ). getD s m 0) n ∙ h .stops))
-
-  pub one-part : part s a (a + 1) ≡ getD s a 0 ∷ []
-  one-part = column-part s a (getD s a 0 ∷ []) (drop (suc (suc a)) s) stop one-is
-
-  pub one-column : ColumnAt s a (a + 1) stop
-  one-column =
-      let other : (b : ℕ) → b ≤ 32 → not (eqb (getD s a 0) b) ≡ true = λ b l. ap not (ne-eqb (getD s a 0) b (λ e. omega (arith, h .past))) in
-      column-of s a (getD s a 0 ∷ []) (drop (suc (suc a)) s) stop one-is (other 32 (omega arith), refl) (other 10 (omega arith), refl)
 
 -- the first byte that ends a column ends the column from here on
 pub column-here : (s : Bytes) (a e stop : ℕ) → e ≡ a + columnLength (drop a s) → e < length s → getD s e 0 ≡ stop → ColumnAt s a e stop
@@ -196,3 +189,36 @@ module _ {s : Bytes} {a e stop : ℕ} (c : ColumnAt s a e stop) where
 
   pub column-stop : getD s e 0 ≡ stop
   column-stop = ap (λ (l : Bytes). getD l 0 0) (sym (drop-cons s e 0 (c .high)) ∙ column-after)
+
+-- ── where a column ends
+
+module _ (stop : ℕ) (s : Bytes) (a : ℕ) where
+  pub end-none : length s ≤ stopFrom s a → columnEnd stop s a ≡ none
+  unfolding columnEnd
+  end-none h = rw (le-ltb (stopFrom s a) (length s) h)
+
+  module _ (h : stopFrom s a < length s) where
+    pub end-other : (getD s (stopFrom s a) 0 ≡ stop → ⊥) → columnEnd stop s a ≡ none
+    unfolding columnEnd
+    end-other k = rw (lt-ltb (stopFrom s a) (length s) h, ne-eqb (getD s (stopFrom s a) 0) stop k)
+
+    pub end-there : getD s (stopFrom s a) 0 ≡ stop → columnEnd stop s a ≡ some (stopFrom s a)
+    unfolding columnEnd
+    end-there k = rw (lt-ltb (stopFrom s a) (length s) h, eq-eqb (getD s (stopFrom s a) 0) stop k)
+
+  pub column-there : (e : ℕ) → columnEnd stop s a ≡ some e → ColumnAt s a e stop
+  unfolding columnEnd
+  column-there e h = pick (ltb (stopFrom s a) (length s)) (eqb (getD s (stopFrom s a) 0) stop) refl refl h
+    where
+      pick : (t u : Bool) → ltb (stopFrom s a) (length s) ≡ t → eqb (getD s (stopFrom s a) 0) stop ≡ u → cond (t && u) (some (stopFrom s a)) none ≡ some e → ColumnAt s a e stop
+      pick true true l k q =
+          let same : stopFrom s a ≡ e = cc in
+          subst (λ (i : ℕ). ColumnAt s a i stop) same (column-here s a (stopFrom s a) stop refl (ltb-true (stopFrom s a) (length s) l) (eqb-true (getD s (stopFrom s a) 0) stop k))
+      pick true false l k q = not-some q
+      pick false u l k q = not-some q
+
+-- there is no other
+pub column-same : {s : Bytes} {a e stop : ℕ} → isStop stop ≡ true → ColumnAt s a e stop → columnEnd stop s a ≡ some e
+column-same {s} {a} {e} {stop} is c =
+    let n : e ≡ stopFrom s a = column-end c is in
+    end-there stop s a (omega (arith, c .high)) (ap (λ (i : ℕ). getD s i 0) (sym n) ∙ column-stop c) ∙ ap some (sym n)

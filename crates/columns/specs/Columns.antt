@@ -1,12 +1,14 @@
--- A column of a line: the bytes of a sheet from a place to the byte that ends the column, and what a reader of a column tells. Assumes nothing.
+-- A column of a line: the bytes of a sheet from a place up to the byte that ends the column. "Values are split by one space", and byte 10 ends a
+-- line. Assumes nothing.
 use mathlib.Core.Path.{_≡_}
-use mathlib.Core.Bool.{Bool, true, _||_, cond}
-use mathlib.Core.List.{[], _∷_, _++_}
-use Prim.Native.Nat.{ℕ, suc, _+_, _-_, _≤_, _<_}
-use lib.Dec.{eqb}
+use mathlib.Core.Bool.{Bool, false, _&&_, _||_, cond}
+use mathlib.Core.List.{[], _∷_}
+use mathlib.Core.Option.{Option, none, some}
+use Prim.Native.Nat.{ℕ, suc, _+_, _-_, _≤_}
+use lib.Dec.{eqb, ltb}
 use lib.ListN.{length, getD, take, drop}
-use Rattle.sheets.specs.Rule.{Meets}
-use Rattle.sheets.specs.Bytes.{Bytes, lacks}
+use Rattle.sheets.specs.Bytes.{Bytes, lineEnd, space}
+use Rattle.hex.specs.Hex.{isHex}
 use Rattle.columns.specs.declared.Place.{Place}
 use Rattle.columns.specs.declared.Place.the-variants.{At, Nowhere}
 
@@ -16,37 +18,52 @@ part s a b = take (b - a) (drop a s)
 
 -- a byte that ends a column: the space between two columns, the end of a line
 abbrev pub isStop : ℕ → Bool
-isStop b = eqb b 32 || eqb b 10
+isStop b = eqb b space || eqb b lineEnd
 
 -- how many bytes stand before the first that ends a column
 unfoldable pub columnLength : Bytes → ℕ
 columnLength [] = 0
 columnLength (b ∷ bs) = cond (isStop b) 0 (suc (columnLength bs))
 
--- no column ends from a on before e
-abbrev pub Passes : Bytes → ℕ → ℕ → Type 0
-Passes s a e = (e ≤ length s) × (a + columnLength (drop a s) ≡ e + columnLength (drop e s))
+-- the first place from a on whose byte ends a column, or the end of the sheet
+abbrev pub stopFrom : Bytes → ℕ → ℕ
+stopFrom s a = a + columnLength (drop a s)
 
--- a column stands from a to e, and the byte stop ends it
-pub record ColumnAt (s : Bytes) (a e stop : ℕ) : Type 0 where
-  pub low : a ≤ e
-  pub high : e < length s
-  pub is : drop a s ≡ part s a e ++ (stop ∷ drop (e + 1) s)
-  pub spaces : Meets (lacks 32 (part s a e))
-  pub ends : Meets (lacks 10 (part s a e))
+-- where the column from a on ends, if the byte stop ends it
+unfoldable pub columnEnd : ℕ → Bytes → ℕ → Option ℕ
+columnEnd stop s a = cond (ltb (stopFrom s a) (length s) && eqb (getD s (stopFrom s a) 0) stop) (some (stopFrom s a)) none
 
--- the column from a on is one byte, and the byte stop ends it
-pub record OneByte (s : Bytes) (a stop : ℕ) : Type 0 where
-  pub room : a + 1 < length s
-  pub past : 32 < getD s a 0
-  pub stops : getD s (a + 1) 0 ≡ stop
+-- a place at which the test holds
+abbrev pub keep : (ℕ → Bool) → Option ℕ → Option ℕ
+keep f none = none
+keep f (some e) = cond (f e) (some e) none
 
--- ── what the readers tell
+-- where the column from a on ends, if the byte stop ends it and f holds of it
+unfoldable pub columnOf : (Bytes → Bool) → ℕ → Bytes → ℕ → Option ℕ
+columnOf f stop s a = keep (λ e. f (part s a e)) (columnEnd stop s a)
 
--- a column of which f holds, up to its end; else there is none
-abbrev pub Finds : (Bytes → Bool) → Bytes → ℕ → ℕ → Place → Type 0
-Finds f s at stop (At e) = ColumnAt s at e stop × (f (part s at e) ≡ true)
-Finds f s at stop Nowhere = (e : ℕ) → ColumnAt s at e stop → f (part s at e) ≡ true → ⊥
+-- the column that these bytes begin with is one byte, of which f holds, and the byte stop ends it
+unfoldable pub oneOf : (ℕ → Bool) → ℕ → Bytes → Bool
+oneOf f stop [] = false
+oneOf f stop (b ∷ []) = false
+oneOf f stop (b ∷ c ∷ bs) = f b && eqb c stop
 
-abbrev pub anyBytes : Bytes → Bool
-anyBytes c = true
+-- so are all bytes of columns that keep their rules, and no byte that ends a column is
+abbrev pub pastSpace : ℕ → Bool
+pastSpace b = ltb space b
+
+-- what `Place` says
+abbrev pub placeOption : Place → Option ℕ
+placeOption (At e) = some e
+placeOption Nowhere = none
+
+-- ── blocks, which are tested at once
+
+abbrev pub blockSize : ℕ
+blockSize = 32
+
+-- no column ends from a on before e, and no block of digits stands from e on
+pub record Passes (s : Bytes) (a e : ℕ) : Type 0 where
+  pub within : e ≤ length s
+  pub same : stopFrom s a ≡ stopFrom s e
+  pub last : e + blockSize ≤ length s → isHex (part s e (e + blockSize)) ≡ false

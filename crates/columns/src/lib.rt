@@ -1,9 +1,18 @@
 // The columns of a line: where one ends.
+pub mod ascii_pairs;
+pub mod number;
+pub mod text;
+
 ghost use mathlib.Core.Path.{_≡_};
-ghost use mathlib.Core.Bool.{true};
-ghost use Prim.Native.Nat.{_+_, _<_, _≤_};
+ghost use Prim.Native.Nat.{_≤_};
 ghost use lib.ListN.{length, drop};
-ghost use Rattle.columns.specs.Columns.{columnLength, Passes, isStop, OneByte, anyBytes, Finds};
+ghost use Rattle.columns.specs.Columns.{isStop, stopFrom, columnEnd, oneOf, pastSpace, placeOption, Passes};
+
+// How many bytes the vector instructions test at once.
+const BLOCK: usize = 32;
+
+// Most texts are shorter, and end before a block would pay.
+const NEAR: usize = 16;
 
 pub enum Place {
     At(usize),
@@ -25,7 +34,7 @@ fn is_stop(b: u8) -> bool
 
 // The first place from at on whose byte ends a column, or the end, one byte after the other: for numbers, which are short.
 pub fn number_end(s: &[u8], at: usize) -> usize
-    ensures { λ r. ⌜ r ≡ at + columnLength (drop at (now (s .entry))) ⌝ }
+    ensures { λ r. ⌜ r ≡ stopFrom (now (s .entry)) at ⌝ }
 {
     let mut i = at;
     while i < s.len() {
@@ -39,7 +48,7 @@ pub fn number_end(s: &[u8], at: usize) -> usize
 
 // Whether the column from place at on is one byte, and the byte stop ends it: so most columns of a sheet are.
 pub fn one_byte(s: &[u8], at: usize, stop: u8) -> bool
-    ensures { λ r. ⌜ (r ≡ true → OneByte (now (s .entry)) at stop) ⌝ }
+    ensures { λ r. ⌜ r ≡ oneOf pastSpace stop (drop at (now (s .entry))) ⌝ }
 {
     if s.len() <= at {
         return false;
@@ -59,8 +68,8 @@ fn pass_digits(s: &[u8], at: usize) -> usize
     ensures { λ r. ⌜ Passes (now (s .entry)) at r ⌝ }
 {
     let mut i = at;
-    while 32 <= s.len() - i {
-        let next = i + 32;
+    while BLOCK <= s.len() - i {
+        let next = i + BLOCK;
         if !hex::is_hex(&s[i..next]) {
             return i;
         }
@@ -71,12 +80,12 @@ fn pass_digits(s: &[u8], at: usize) -> usize
 
 // The same for texts: by single bytes at first, since most are short, then by blocks.
 pub fn text_end(s: &[u8], at: usize) -> usize
-    ensures { λ r. ⌜ r ≡ at + columnLength (drop at (now (s .entry))) ⌝ }
+    ensures { λ r. ⌜ r ≡ stopFrom (now (s .entry)) at ⌝ }
 {
     if s.len() <= at {
         return at;
     }
-    let near = at + buffer::within(16, s.len() - at);
+    let near = at + buffer::within(NEAR, s.len() - at);
     let here = at + number_end(&s[at..near], 0);
     if here < near {
         return here;
@@ -86,8 +95,8 @@ pub fn text_end(s: &[u8], at: usize) -> usize
 
 // The end e of the column from place at on, if it is the byte stop.
 pub fn column(s: &[u8], at: usize, e: usize, stop: u8) -> Place
-    requires { ⌜ (e ≡ at + columnLength (drop at (now s))) × (isStop stop ≡ true) ⌝ }
-    ensures { λ r. ⌜ Finds anyBytes (now (s .entry)) at stop r ⌝ }
+    requires { ⌜ e ≡ stopFrom (now s) at ⌝ }
+    ensures { λ r. ⌜ placeOption r ≡ columnEnd stop (now (s .entry)) at ⌝ }
 {
     if s.len() <= e {
         return Place::Nowhere;

@@ -1,1 +1,3 @@
-pub mod EnumLaws
+pub mod AtLaws
+pub mod DtypeLaws
+pub mod PhysicalLaws

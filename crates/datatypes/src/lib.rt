@@ -1,8 +1,15 @@
 // `IntegerType` and `PrimitiveType` of the source. `place` is the number that the sheets and the host have for a case, from 0 in declaration order;
 // `at` gives the case at a place.
+pub mod dtype;
+pub mod kind;
+pub mod physical_type;
+pub mod to_physical_type;
+pub mod unit;
+pub mod units;
+
 ghost use mathlib.Core.Path.{_≡_};
 ghost use Rattle.datatypes.specs.Places.{integerPlace, primitivePlace};
-ghost use Rattle.datatypes.specs.At.{integerTypeAt, primitiveTypeAt};
+ghost use Rattle.datatypes.specs.At.{firstAt, integerTypes, integerTypeOption, primitiveTypes, primitiveTypeOption};
 
 // A dictionary's index type.
 pub enum IntegerType {
@@ -43,7 +50,7 @@ impl IntegerType {
     }
 
     pub fn at(place: u64) -> IntegerTypeAt
-        ensures { λ r. ⌜ r ≡ integerTypeAt place ⌝ }
+        ensures { λ r. ⌜ integerTypeOption r ≡ firstAt integerPlace place integerTypes ⌝ }
     {
         match place {
             0 => IntegerTypeAt::Is(IntegerType::Int8),
@@ -114,7 +121,7 @@ impl PrimitiveType {
     }
 
     pub fn at(place: u64) -> PrimitiveTypeAt
-        ensures { λ r. ⌜ r ≡ primitiveTypeAt place ⌝ }
+        ensures { λ r. ⌜ primitiveTypeOption r ≡ firstAt primitivePlace place primitiveTypes ⌝ }
     {
         match place {
             0 => PrimitiveTypeAt::Is(PrimitiveType::Int8),

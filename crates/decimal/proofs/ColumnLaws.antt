@@ -1,13 +1,13 @@
 -- What an answer tells of the text that was read, and back: over the limit and the half, so once for all widths. Assumes nothing.
 use mathlib.Core.Path.{_≡_, refl, sym, ap, subst, _∙_}
-use mathlib.Core.Bool.{Bool, true, false, _&&_, cond}
+use mathlib.Core.Bool.{Bool, true, false, _&&_}
 use mathlib.Core.List.{[], _∷_}
 use mathlib.Core.Logic.{_⊎_, inl, inr}
 use Prim.Native.Nat.{ℕ, zero, suc, _+_, _≤_, _<_}
 use native.Mathlib.Nat.{not-suc-le-zero}
 use native.Mathlib.Omega.{arith}
-use lib.Dec.{eqb, ltb}
-use lib.IntN.{ℤ, pos, negsuc, negℤ}
+use lib.Dec.{ltb}
+use lib.IntN.{ℤ, pos, negsuc}
 use lib.Signed.{mag}
 use lib.ListN.{length, getD, drop}
 use borrow.Author.Tests.{eq-eqb, ne-eqb, lt-ltb, le-ltb, ltb-true, ltb-false}
@@ -16,29 +16,13 @@ use Rattle.sheets.specs.Rule.{is, passes}
 use Rattle.sheets.specs.Bytes.{Bytes, all}
 use Rattle.sheets.specs.Answer.{Answer, refused, given, _>>=_, when, decide}
 use Rattle.sheets.specs.Number.{isDigit, valueFrom, lean, decimal, readNumber, negative, writeSigned, readSigned}
+use Rattle.sheets.specs.Format.{minus}
 use Rattle.sheets.proofs.NumberLaws.{read-decimal, read-signed}
 use Rattle.sheets.proofs.Tests.{not-given, same-given}
-use Rattle.digit.specs.Digits.{digitsBelow}
+use Rattle.decimal.specs.Digits.{digitsBelow}
 use Rattle.decimal.specs.Column.{columnBelow, signedColumn}
 
 -- ---- a bounded answer, of any type of values and by any size of them
-
--- the only refusal is `badLines`
-abbrev pub OnlyBad : {A : Type 0} → Answer A → Type 0
-OnlyBad (refused r) = r ≡ badLines
-OnlyBad (given a) = Unit
-
-only-decided : {A : Type 0} (t : Bool) (a : A) → OnlyBad (decide badLines t a)
-only-decided true a = tt
-only-decided false a = refl
-
-only-chained : {A B : Type 0} (m : Answer A) (f : A → Answer B) → OnlyBad m → ((a : A) → OnlyBad (f a)) → OnlyBad (m >>= f)
-only-chained (refused r) f h k = h
-only-chained (given a) f h k = k a
-
-bad-refused : {A : Type 0} (m : Answer A) (r : Refusal) → OnlyBad m → m ≡ refused r → m ≡ refused badLines
-bad-refused (refused q) r h e = ap refused h
-bad-refused (given a) r h e = not-given (sym e)
 
 module _ {A : Type 0} (size : A → ℕ) (limit : ℕ) where
   abbrev bounded : Answer A → Answer A
@@ -63,9 +47,9 @@ module _ {A : Type 0} (size : A → ℕ) (limit : ℕ) where
           (ap given q, subst (λ (x : A). size x < limit) q (ltb-true (size b) limit l))
       pick false l k = not-given k
 
-  bounded-bad : (m : Answer A) → OnlyBad m → bounded m ≡ refused badLines → (m ≡ refused badLines) ⊎ ((a : A) × (m ≡ given a) × (limit ≤ size a))
-  bounded-bad (refused r) o e = inl e
-  bounded-bad (given b) o e = pick (ltb (size b) limit) refl e
+  bounded-bad : (m : Answer A) → bounded m ≡ refused badLines → (m ≡ refused badLines) ⊎ ((a : A) × (m ≡ given a) × (limit ≤ size a))
+  bounded-bad (refused r) e = inl e
+  bounded-bad (given b) e = pick (ltb (size b) limit) refl e
     where
       pick : (t : Bool) → ltb (size b) limit ≡ t → decide {A = A} badLines t b ≡ refused badLines → (_≡_ {A = Answer A} (given b) (refused badLines)) ⊎ ((a : A) × (_≡_ {A = Answer A} (given b) (given a)) × (limit ≤ size a))
       pick true l k = not-given (sym k)
@@ -73,33 +57,10 @@ module _ {A : Type 0} (size : A → ℕ) (limit : ℕ) where
 
 -- ---- columns
 
-only-number : (t : Bytes) → OnlyBad (readNumber t)
-only-number t = only-decided (lean t && passes (all isDigit t)) (valueFrom 0 t)
-
-only-negative : (n : ℕ) → OnlyBad (negative n)
-only-negative zero = refl
-only-negative (suc n) = tt
-
-only-signed : (t : Bytes) → OnlyBad (readSigned t)
-only-signed [] = refl
-only-signed (b ∷ t) = pick (eqb b 45)
-  where
-    pick : (e : Bool) → OnlyBad (cond e (readNumber t >>= negative) (readNumber (b ∷ t) >>= λ n. given (pos n)))
-    pick true = only-chained (readNumber t) negative (only-number t) only-negative
-    pick false = only-chained (readNumber (b ∷ t)) (λ n. given (pos n)) (only-number (b ∷ t)) (λ n. tt)
-
 module _ (limit : ℕ) (t : Bytes) where
   pub column-within : (n : ℕ) → readNumber t ≡ given n → n < limit → columnBelow limit t ≡ given n
   unfolding columnBelow
   column-within n e h = bounded-within (λ n. n) limit (readNumber t) n e h
-
-  pub column-past : (n : ℕ) → readNumber t ≡ given n → limit ≤ n → columnBelow limit t ≡ refused badLines
-  unfolding columnBelow
-  column-past n e h = bounded-past (λ n. n) limit (readNumber t) n e h
-
-  pub column-refused : (r : Refusal) → readNumber t ≡ refused r → columnBelow limit t ≡ refused r
-  unfolding columnBelow
-  column-refused r e = bounded-refused (λ n. n) limit (readNumber t) r e
 
   pub column-given : (n : ℕ) → columnBelow limit t ≡ given n → (readNumber t ≡ given n) × (n < limit)
   unfolding columnBelow
@@ -107,11 +68,7 @@ module _ (limit : ℕ) (t : Bytes) where
 
   pub column-bad : columnBelow limit t ≡ refused badLines → (readNumber t ≡ refused badLines) ⊎ ((n : ℕ) × (readNumber t ≡ given n) × (limit ≤ n))
   unfolding columnBelow
-  column-bad e = bounded-bad (λ n. n) limit (readNumber t) (only-number t) e
-
-  pub only-column : OnlyBad (columnBelow limit t)
-  unfolding columnBelow
-  only-column = only-chained (readNumber t) (λ n. when badLines (is (ltb n limit)) n) (only-number t) (λ n. only-decided (ltb n limit) n)
+  column-bad e = bounded-bad (λ n. n) limit (readNumber t) e
 
 module _ (half : ℕ) (t : Bytes) where
   pub signed-within : (z : ℤ) → readSigned t ≡ given z → mag z < half → signedColumn half t ≡ given z
@@ -129,14 +86,6 @@ module _ (half : ℕ) (t : Bytes) where
   pub signed-given : (z : ℤ) → signedColumn half t ≡ given z → (readSigned t ≡ given z) × (mag z < half)
   unfolding signedColumn
   signed-given z e = bounded-given mag half (readSigned t) z e
-
-  pub signed-bad : signedColumn half t ≡ refused badLines → (readSigned t ≡ refused badLines) ⊎ ((z : ℤ) × (readSigned t ≡ given z) × (half ≤ mag z))
-  unfolding signedColumn
-  signed-bad e = bounded-bad mag half (readSigned t) (only-signed t) e
-
-  pub only-signed-column : OnlyBad (signedColumn half t)
-  unfolding signedColumn
-  only-signed-column = only-chained (readSigned t) (λ z. when badLines (is (ltb (mag z) half)) z) (only-signed t) (λ z. only-decided (ltb (mag z) half) z)
 
 -- ---- the number's digits, once they are known to have no spare zero
 
@@ -185,7 +134,7 @@ module _ (half : ℕ) (s : Bytes) (any : 0 < length s) where
       let r : readNumber (drop 1 s) ≡ given 0 = column-given (half + 1) (drop 1 s) m q .0 ∙ ap given z in
       signed-refused half s badLines (minus-read s any e ∙ rw r)
 
-  pub minus-given : getD s 0 0 ≡ 45 → (m : ℕ) → columnBelow (half + 1) (drop 1 s) ≡ given m → (m ≡ 0 → ⊥) → signedColumn half s ≡ given (negℤ (pos m))
+  pub minus-given : getD s 0 0 ≡ 45 → (m : ℕ) → columnBelow (half + 1) (drop 1 s) ≡ given m → (m ≡ 0 → ⊥) → signedColumn half s ≡ given (minus m)
   minus-given e zero q z = absurd (z refl)
   minus-given e (suc m) q z =
       let r = column-given (half + 1) (drop 1 s) (suc m) q in

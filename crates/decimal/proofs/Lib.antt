@@ -1,5 +1,7 @@
+pub mod DigitLaws
 pub mod LeanLaws
 pub mod ColumnLaws
-pub mod AnswerLaws
 pub mod SignLaws
 pub mod Examples
+pub mod PutSignLaws
+pub mod WriteLaws

@@ -1,7 +1,11 @@
--- The enum that stands for each answer: a value, or `Bad` for any refusal. Assumes nothing.
+-- What each case of the answers says: a value, or the one refusal that a sheet's numbers have. Assumes nothing.
+use mathlib.Core.Option.{Option, none, some}
 use Prim.Native.Nat.{ℕ}
 use lib.IntN.{ℤ}
+use Rattle.sheets.specs.Refusal.{badLines}
 use Rattle.sheets.specs.Answer.{Answer, refused, given}
+use Rattle.decimal.specs.declared.digit.Number.{Number}
+use Rattle.decimal.specs.declared.digit.Number.the-variants as Digit
 use Rattle.decimal.specs.declared.Unsigned64.{Unsigned64}
 use Rattle.decimal.specs.declared.Unsigned64.the-variants as Unsigned
 use Rattle.decimal.specs.declared.Signed64.{Signed64}
@@ -9,14 +13,19 @@ use Rattle.decimal.specs.declared.Signed64.the-variants as Long
 use Rattle.decimal.specs.declared.Signed32.{Signed32}
 use Rattle.decimal.specs.declared.Signed32.the-variants as Short
 
-abbrev pub toUnsigned64 : Answer ℕ → Unsigned64
-toUnsigned64 (refused r) = Unsigned.Bad
-toUnsigned64 (given n) = Unsigned.Value n
+-- a digit is read in a sheet and in a format, which refuse for different reasons: so no refusal is named here
+abbrev pub numberOption : Number → Option ℕ
+numberOption (Digit.Value n) = some n
+numberOption Digit.Bad = none
 
-abbrev pub toSigned64 : Answer ℤ → Signed64
-toSigned64 (refused r) = Long.Bad
-toSigned64 (given z) = Long.Value z
+abbrev pub unsignedAnswer : Unsigned64 → Answer ℕ
+unsignedAnswer (Unsigned.Value n) = given n
+unsignedAnswer Unsigned.Bad = refused badLines
 
-abbrev pub toSigned32 : Answer ℤ → Signed32
-toSigned32 (refused r) = Short.Bad
-toSigned32 (given z) = Short.Value z
+abbrev pub signedAnswer : Signed64 → Answer ℤ
+signedAnswer (Long.Value z) = given z
+signedAnswer Long.Bad = refused badLines
+
+abbrev pub signed32Answer : Signed32 → Answer ℤ
+signed32Answer (Short.Value z) = given z
+signed32Answer Short.Bad = refused badLines

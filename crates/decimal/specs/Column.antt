@@ -1,6 +1,6 @@
 -- A column's number of a given width. The definitions of `sheets` read numbers of any size and a rule bounds them; here both are one answer.
 -- Assumes nothing.
-use Prim.Native.Nat.{ℕ, _^_, _≤_, _<_}
+use Prim.Native.Nat.{ℕ, _^_, _<_}
 use lib.Dec.{ltb}
 use lib.IntN.{ℤ}
 use lib.Signed.{mag}
@@ -21,7 +21,3 @@ signedColumn half t = readSigned t >>= λ z. when badLines (is (ltb (mag z) half
 -- the greatest number of a signed width of at most 64 bits
 abbrev pub IsGreatest : ℕ → Type 0
 IsGreatest max = max < 2 ^ 63
-
--- what a negative number of 64 bits is the negative of
-abbrev pub IsMagnitude : ℕ → Type 0
-IsMagnitude m = (0 < m) × (m ≤ 2 ^ 63)

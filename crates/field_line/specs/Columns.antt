@@ -1,17 +1,18 @@
 -- The columns of a field line, each with the byte after it, and the three pieces that a line is written in: what it says of its type, what it says
 -- of its field, and its number of children with the line's end. Assumes nothing.
-use mathlib.Core.Bool.{Bool, cond}
 use mathlib.Core.List.{[], _∷_, _++_}
-use mathlib.Core.Option.{some}
 use Prim.Native.Nat.{ℕ}
-use Rattle.sheets.specs.Bytes.{Bytes, lineEnd, space, equals, same}
+use Rattle.sheets.specs.Bytes.{Bytes, lineEnd, space, equals}
 use Rattle.sheets.specs.Number.{decimal}
-use Rattle.sheets.specs.Text.{writeText}
-use Rattle.sheets.specs.FieldSheet.{Columns, noText, toNat}
+use Rattle.sheets.specs.FieldSheet.{Columns}
 
 -- a column and the space after it
 unfoldable pub column : Bytes → Bytes
 column c = c ++ (space ∷ [])
+
+-- kind p q
+unfoldable pub kindPiece : ℕ → ℕ → ℕ → Bytes
+kindPiece kind p q = (column (decimal kind) ++ column (decimal p)) ++ column (decimal q)
 
 -- kind p q text more
 unfoldable pub shapePiece : ℕ → ℕ → ℕ → Bytes → Bytes → Bytes
@@ -20,14 +21,6 @@ shapePiece kind p q text more = (((column (decimal kind) ++ column (decimal p)) 
 -- the same of a line's columns
 abbrev pub columnsPiece : Columns → Bytes
 columnsPiece c = shapePiece (c .kind) (c .p) (c .q) (c .text) (c .more)
-
--- "Null names read as empty": a schema's name column as a field's, where `~` is written `-`
-unfoldable pub nameColumn : Bytes → Bytes
-nameColumn c = cond (same c noText) (writeText (some [])) c
-
--- name nullable, from a schema's name column
-unfoldable pub namePiece : Bytes → Bool → Bytes
-namePiece name nullable = column (nameColumn name) ++ column (decimal (toNat nullable))
 
 -- name nullable pairs
 unfoldable pub ownPiece : Bytes → Bytes → Bytes → Bytes

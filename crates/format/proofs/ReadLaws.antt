@@ -1,107 +1,189 @@
--- The names of formats and the heads before a colon, each step of the ladder of names as one equation. By cases of the answers. Assumes nothing.
-use mathlib.Core.Path.{_≡_, refl, sym, ap, ap₂, subst}
-use mathlib.Core.Bool.{Bool, true, false, not, cond}
+-- What the parts of a format say, and each step of the ladder of names and of heads as one equation. By cases of the answers. Assumes nothing.
+use mathlib.Core.Path.{_≡_, refl, sym, _∙_, ap, ap₂}
+use mathlib.Core.Bool.{Bool, true, false, cond}
 use mathlib.Core.List.{List, [], _∷_}
-use mathlib.Core.Option.{none, some}
-use Prim.Native.Nat.{ℕ, zero, suc, _+_, _*_, _≤_}
+use mathlib.Core.Option.{Option, none, some}
+use Prim.Native.Nat.{ℕ, _+_, _≤_, _<_}
 use native.Mathlib.Omega.{arith}
-use borrow.Author.Tests.{not-true}
-use Rattle.sheets.specs.Refusal.{unsupportedFormat}
-use Rattle.sheets.specs.Rule.{Rule, is, _and_, each, Meets}
+use lib.ListN.{length, drop}
+use Rattle.sheets.specs.Refusal.{badNumber, badDecimal, unsupportedFormat}
 use Rattle.sheets.specs.Bytes.{Bytes, ascii, comma, same, split}
-use Rattle.sheets.specs.Answer.{refused, given, _>>=_}
-use Rattle.sheets.specs.Field.{TimeUnit, unitPlace, second, millisecond, microsecond, nanosecond, timestamp, fixedSizeBinary, leaf, list, largeList, fixedSizeList, map, struct, union}
-use Rattle.sheets.specs.FieldSheet.{toNat}
-use Rattle.sheets.specs.Format.{ofScalar, ofNesting, ofGrouping, Row, rows, rowNamed, readSize, decimalParts, cut, zone, readCut, readOther, readFormat}
-use Rattle.sheets.proofs.Tests.{meets}
+use Rattle.sheets.specs.Answer.{Answer, refused, given, _>>=_}
+use Rattle.sheets.specs.Field.{Width, bits128, decimalType, fixedSizeBinary, leaf, list, largeList, fixedSizeList, map, struct}
+use Rattle.sheets.specs.Format.{Format, ofScalar, ofNesting, ofGrouping, Row, rows, rowNamed, readSize, widthOf, cut, readCut, readOther, readFormat}
+use Rattle.sheets.proofs.Tests.{not-some}
 use Rattle.sheets.proofs.BytesLaws.{same-eq}
-use Rattle.format_types.specs.declared.FormatRead.{FormatRead}
-use Rattle.format_types.specs.declared.FormatRead.the-variants as F
-use Rattle.format_names.specs.declared.NameRead.{NameRead}
-use Rattle.format_names.specs.declared.NameRead.the-variants.{Leaf, Other}
-use Rattle.format_names.specs.Names.{nameAt, NoneNamed, NameTold, unitNames, modeNames}
-use Rattle.format_types.specs.Told.{isNesting, isGrouping, Told, numbers}
-use Rattle.format_parts.specs.Parts.{readIds}
-use Rattle.format_types.proofs.ToldLaws.{told-as}
+use Rattle.datatypes.specs.declared.units.TimeUnit.{TimeUnit}
+use Rattle.datatypes.specs.declared.units.TimeUnit.the-variants as TimeUnits
+use Rattle.datatypes.specs.declared.units.UnionMode.{UnionMode}
+use Rattle.datatypes.specs.declared.units.UnionMode.the-variants as UnionModes
+use Rattle.format.specs.Names.{leafOf, leafNamed, headUnit, headMode}
+use Rattle.format.specs.Parts.{part, partsFrom}
+use Rattle.format.specs.Formats.{timestampFormat, unionFormat, Reads, decimalOf, decimalFormat}
+use Rattle.format.specs.declared.read.FormatRead.{FormatRead}
+use Rattle.format.proofs.PartLaws.{PartEnds, parts-here, last-part, split-some}
 
-abbrev scalarRow : Row → Rule
-scalarRow r = is (not (isNesting (r .kind))) and is (not (isGrouping (r .kind)))
+-- the same answer was read
+pub reads-as : (f : Bytes) (r : FormatRead) (a b : Answer Format) → a ≡ b → Reads f a r → Reads f b r
+reads-as f r a b e h = (h .0 ∙ e, h .1)
 
-rows-scalar : Meets (each scalarRow rows)
-unfolding rows
-rows-scalar = meets (each scalarRow rows) refl
+-- ── decimals
 
-row-below : (b : Bytes) (l : List Row) → Meets (each scalarRow l) → (r : Row) → rowNamed b l ≡ some r → (isNesting (r .kind) ≡ false) × (isGrouping (r .kind) ≡ false)
-row-below b [] h r e = absurd (let z : _≡_ {A = ℕ} 0 1 = cc in omega arith)
-row-below b (x ∷ l) h r e = pick (same b (x .name)) e (row-below b l (h .1) r)
-  where
-    pick : (t : Bool) → cond t (some x) (rowNamed b l) ≡ some r → (rowNamed b l ≡ some r → (isNesting (r .kind) ≡ false) × (isGrouping (r .kind) ≡ false)) → (isNesting (r .kind) ≡ false) × (isGrouping (r .kind) ≡ false)
-    pick true g next =
-        let same : x ≡ r = cc in
-        rw (← same) (not-true (isNesting (x .kind)) (h .0 .0), not-true (isGrouping (x .kind)) (h .0 .1))
-    pick false g next = next g
+pub decimal-read : (width : ℕ) (p s : Bytes) (a b : Answer ℕ) → a ≡ readSize p → b ≡ readSize s → (a >>= λ x. b >>= λ y. given (ofScalar (decimalType (widthOf width) x y))) ≡ decimalOf width p s
+decimal-read width p s a b e d = ap₂ (λ (x y : Answer ℕ). x >>= λ m. y >>= λ n. given (ofScalar (decimalType (widthOf width) m n))) e d
 
-pub leaf-told : (f b : Bytes) (sorted : Bool) (k u : ℕ) → NameTold b (Leaf k u) → Told f (readFormat sorted b) (numbers k u 0)
-leaf-told f b sorted k u h =
-    let e = h .1 in
-    let below = subst (λ (x : ℕ). (isNesting x ≡ false) × (isGrouping x ≡ false)) (h .2) (row-below b rows rows-scalar (h .0) e) in
-    (ofScalar (leaf k u), rw (e) (ap₂ (λ (x y : ℕ). given (ofScalar (leaf x y))) (h .2) (h .3)), record { kind = refl; p = refl; q = refl; text = refl; more = refl; place = tt; nesting = below .0; grouping = below .1 })
+made : (w : Width) (a b : Answer ℕ) → (a >>= λ x. b >>= λ y. given (ofScalar (decimalType w x y))) ≡ ((a >>= λ x. b >>= λ y. given (decimalType w x y)) >>= λ s. given (ofScalar s))
+made w (refused r) b = refl
+made w (given x) (refused r) = refl
+made w (given x) (given y) = refl
 
-pub leaf-read : (f b : Bytes) (sorted : Bool) {x : NameRead} {t : FormatRead} (k u : ℕ) → x ≡ Leaf k u → t ≡ numbers k u 0 → NameTold b x → Told f (readFormat sorted b) t
-leaf-read f b sorted {x} {t} k u e d h = told-as f (numbers k u 0) refl d (leaf-told f b sorted k u (subst (NameTold b) e h))
+-- no width
+pub two-parts : (p s : Bytes) → decimalOf 128 p s ≡ decimalFormat (p ∷ s ∷ [])
+two-parts p s = made bits128 (readSize p) (readSize s)
 
-pub other-name : (b : Bytes) {x : NameRead} → x ≡ Other → NameTold b x → rowNamed b rows ≡ none
-other-name b e h = subst (NameTold b) e h
+pub three-parts : (p s w : Bytes) (n : ℕ) → given n ≡ readSize w → decimalOf n p s ≡ decimalFormat (p ∷ s ∷ w ∷ [])
+three-parts p s w n e =
+    made (widthOf n) (readSize p) (readSize s)
+    ∙ ap (λ (x : Answer ℕ). (x >>= λ m. readSize p >>= λ a. readSize s >>= λ b. given (decimalType (widthOf m) a b)) >>= λ t. given (ofScalar t)) e
 
-pub unsupported : (f : Bytes) → Told f (refused unsupportedFormat) (F.Refused 6)
-unsupported f = (unsupportedFormat, refl, refl)
+pub bad-width : (p s w : Bytes) → refused badNumber ≡ readSize w → refused badNumber ≡ decimalFormat (p ∷ s ∷ w ∷ [])
+bad-width p s w e = ap (λ (x : Answer ℕ). (x >>= λ m. readSize p >>= λ a. readSize s >>= λ b. given (decimalType (widthOf m) a b)) >>= λ t. given (ofScalar t)) e
 
--- ── the ladders
+module _ (b : Bytes) (from to : ℕ) (e : PartEnds b from to) where
+  -- one part
+  pub one-part : length b ≤ to → refused badDecimal ≡ decimalFormat (partsFrom b from)
+  one-part h = ap decimalFormat (sym (last-part b from to e h))
 
--- the head of a timestamp: its name's place is the unit's
-pub unit-named : (h r : Bytes) (i : ℕ) → i * 3 + 3 ≤ 12 → same h (nameAt 3 unitNames i) ≡ true → (u : TimeUnit) × (unitPlace u ≡ i) × (readCut h r ≡ given (ofScalar (timestamp u (zone r))))
-unit-named h r i l e = subst (λ (n : Bytes). (u : TimeUnit) × (unitPlace u ≡ i) × (readCut n r ≡ given (ofScalar (timestamp u (zone r))))) (sym (same-eq h (nameAt 3 unitNames i) e)) (go i l)
-  where
-    go : (i : ℕ) → i * 3 + 3 ≤ 12 → (u : TimeUnit) × (unitPlace u ≡ i) × (readCut (nameAt 3 unitNames i) r ≡ given (ofScalar (timestamp u (zone r))))
-    go zero l = (second, refl, refl)
-    go (suc zero) l = (millisecond, refl, refl)
-    go (suc (suc zero)) l = (microsecond, refl, refl)
-    go (suc (suc (suc zero))) l = (nanosecond, refl, refl)
-    go (suc (suc (suc (suc i)))) l = absurd (omega arith)
+  -- the second of two
+  pub second-part : (p : Bytes) → length b ≤ to → decimalFormat (p ∷ part from to b ∷ []) ≡ decimalFormat (p ∷ partsFrom b from)
+  second-part p h = ap (λ (ps : List Bytes). decimalFormat (p ∷ ps)) (sym (last-part b from to e h))
 
--- the head of a union: its name's place is the mode's
-pub mode-named : (h r : Bytes) (i : ℕ) → i * 3 + 3 ≤ 6 → same h (nameAt 3 modeNames i) ≡ true → (sparse : Bool) × (toNat sparse ≡ i) × (readCut h r ≡ (readIds r >>= λ zs. given (ofGrouping (union sparse (some zs)))))
-mode-named h r i l e = subst (λ (n : Bytes). (sparse : Bool) × (toNat sparse ≡ i) × (readCut n r ≡ (readIds r >>= λ zs. given (ofGrouping (union sparse (some zs)))))) (sym (same-eq h (nameAt 3 modeNames i) e)) (go i l)
-  where
-    go : (i : ℕ) → i * 3 + 3 ≤ 6 → (sparse : Bool) × (toNat sparse ≡ i) × (readCut (nameAt 3 modeNames i) r ≡ (readIds r >>= λ zs. given (ofGrouping (union sparse (some zs)))))
-    go zero l = (false, refl, refl)
-    go (suc zero) l = (true, refl, refl)
-    go (suc (suc i)) l = absurd (omega arith)
+  -- the third of three
+  pub third-part : (p s : Bytes) → length b ≤ to → decimalFormat (p ∷ s ∷ part from to b ∷ []) ≡ decimalFormat (p ∷ s ∷ partsFrom b from)
+  third-part p s h = ap (λ (ps : List Bytes). decimalFormat (p ∷ s ∷ ps)) (sym (last-part b from to e h))
 
--- the other heads
-pub cut-binary : (h r : Bytes) → same h (ascii "w") ≡ true → readCut h r ≡ (readSize r >>= λ n. given (ofScalar (fixedSizeBinary n)))
-cut-binary h r e = ap (λ (n : Bytes). readCut n r) (same-eq h (ascii "w") e)
+  -- a fourth
+  pub four-parts : (p s : Bytes) → to < length b → refused badDecimal ≡ decimalFormat (p ∷ s ∷ partsFrom b from)
+  four-parts p s h =
+      let (x, xs, q) = split-some 44 (drop (to + 1) b) in
+      sym (ap (λ (ps : List Bytes). decimalFormat (p ∷ s ∷ ps)) (e .parts ∙ ap (λ (ps : List Bytes). part from to b ∷ ps) (parts-here b (to + 1) (omega arith) ∙ q)))
 
-pub cut-list : (h r : Bytes) → same h (ascii "+w") ≡ true → readCut h r ≡ (readSize r >>= λ n. given (ofNesting (fixedSizeList n)))
-cut-list h r e = ap (λ (n : Bytes). readCut n r) (same-eq h (ascii "+w") e)
+-- ── heads
 
-pub cut-decimal : (h r : Bytes) → same h (ascii "d") ≡ true → readCut h r ≡ (decimalParts (split comma r) >>= λ s. given (ofScalar s))
-cut-decimal h r e = ap (λ (n : Bytes). readCut n r) (same-eq h (ascii "d") e)
+pub cut-binary : (h r : Bytes) (a : Answer ℕ) → true ≡ same h (ascii "w") → a ≡ readSize r → (a >>= λ n. given (ofScalar (fixedSizeBinary n))) ≡ readCut h r
+cut-binary h r a e d = ap (λ (x : Answer ℕ). x >>= λ n. given (ofScalar (fixedSizeBinary n))) d ∙ ap (λ (n : Bytes). readCut n r) (sym (same-eq h (ascii "w") (sym e)))
 
-pub cut-other : (h r : Bytes) → NoneNamed 3 unitNames h 4 → NoneNamed 3 modeNames h 2 → same h (ascii "w") ≡ false → same h (ascii "+w") ≡ false → same h (ascii "d") ≡ false → readCut h r ≡ refused unsupportedFormat
-cut-other h r n m a b c = rw (n 0 (omega arith), n 1 (omega arith), n 2 (omega arith), n 3 (omega arith), m 0 (omega arith), m 1 (omega arith), a, b, c)
+pub cut-list : (h r : Bytes) (a : Answer ℕ) → true ≡ same h (ascii "+w") → a ≡ readSize r → (a >>= λ n. given (ofNesting (fixedSizeList n))) ≡ readCut h r
+cut-list h r a e d = ap (λ (x : Answer ℕ). x >>= λ n. given (ofNesting (fixedSizeList n))) d ∙ ap (λ (n : Bytes). readCut n r) (sym (same-eq h (ascii "+w") (sym e)))
 
-pub name-0 : (sorted : Bool) (f : Bytes) → rowNamed f rows ≡ none → same f (ascii "+l") ≡ true → readFormat sorted f ≡ given (ofNesting list)
-name-0 sorted f e e0 = rw (e, e0)
+pub cut-decimal : (h r : Bytes) → true ≡ same h (ascii "d") → decimalFormat (split comma r) ≡ readCut h r
+cut-decimal h r e = ap (λ (n : Bytes). readCut n r) (sym (same-eq h (ascii "d") (sym e)))
 
-pub name-1 : (sorted : Bool) (f : Bytes) → rowNamed f rows ≡ none → same f (ascii "+l") ≡ false → same f (ascii "+L") ≡ true → readFormat sorted f ≡ given (ofNesting largeList)
-name-1 sorted f e e0 e1 = rw (e, e0, e1)
+-- ── the unit and the mode of a head
 
-pub name-2 : (sorted : Bool) (f : Bytes) → rowNamed f rows ≡ none → same f (ascii "+l") ≡ false → same f (ascii "+L") ≡ false → same f (ascii "+m") ≡ true → readFormat sorted f ≡ given (ofNesting (map sorted))
-name-2 sorted f e e0 e1 e2 = rw (e, e0, e1, e2)
+abbrev units : Bool → Bool → Bool → Bool → Option TimeUnit
+units s m u n = cond s (some TimeUnits.Second) (cond m (some TimeUnits.Millisecond) (cond u (some TimeUnits.Microsecond) (cond n (some TimeUnits.Nanosecond) none)))
 
-pub name-3 : (sorted : Bool) (f : Bytes) → rowNamed f rows ≡ none → same f (ascii "+l") ≡ false → same f (ascii "+L") ≡ false → same f (ascii "+m") ≡ false → same f (ascii "+s") ≡ true → readFormat sorted f ≡ given (ofGrouping struct)
-name-3 sorted f e e0 e1 e2 e3 = rw (e, e0, e1, e2, e3)
+abbrev unitHead : TimeUnit → Bytes
+unitHead TimeUnits.Second = ascii "tss"
+unitHead TimeUnits.Millisecond = ascii "tsm"
+unitHead TimeUnits.Microsecond = ascii "tsu"
+unitHead TimeUnits.Nanosecond = ascii "tsn"
 
-pub name-other : (sorted : Bool) (f : Bytes) → rowNamed f rows ≡ none → same f (ascii "+l") ≡ false → same f (ascii "+L") ≡ false → same f (ascii "+m") ≡ false → same f (ascii "+s") ≡ false → readFormat sorted f ≡ readOther (cut f)
-name-other sorted f e e0 e1 e2 e3 = rw (e, e0, e1, e2, e3)
+unit-cut : (u : TimeUnit) (r : Bytes) → given (timestampFormat u r) ≡ readCut (unitHead u) r
+unit-cut TimeUnits.Second r = refl
+unit-cut TimeUnits.Millisecond r = refl
+unit-cut TimeUnits.Microsecond r = refl
+unit-cut TimeUnits.Nanosecond r = refl
+
+no-units : (s m u n : Bool) → units s m u n ≡ none → (s ≡ false) × (m ≡ false) × (u ≡ false) × (n ≡ false)
+no-units true m u n e = not-some (sym e)
+no-units false true u n e = not-some (sym e)
+no-units false false true n e = not-some (sym e)
+no-units false false false true e = not-some (sym e)
+no-units false false false false e = (refl, refl, refl, refl)
+
+abbrev modes : Bool → Bool → Option UnionMode
+modes d s = cond d (some UnionModes.Dense) (cond s (some UnionModes.Sparse) none)
+
+abbrev modeHead : UnionMode → Bytes
+modeHead UnionModes.Dense = ascii "+ud"
+modeHead UnionModes.Sparse = ascii "+us"
+
+mode-cut : (m : UnionMode) (r : Bytes) → unionFormat m r ≡ readCut (modeHead m) r
+mode-cut UnionModes.Dense r = refl
+mode-cut UnionModes.Sparse r = refl
+
+no-modes : (d s : Bool) → modes d s ≡ none → (d ≡ false) × (s ≡ false)
+no-modes true s e = not-some (sym e)
+no-modes false true e = not-some (sym e)
+no-modes false false e = (refl, refl)
+
+module _ (h r : Bytes) where
+  unit-head : (u : TimeUnit) → some u ≡ headUnit h → h ≡ unitHead u
+  unit-head v e = pick (same h (ascii "tss")) (same h (ascii "tsm")) (same h (ascii "tsu")) (same h (ascii "tsn")) refl refl refl refl e
+    where
+      pick : (s m u n : Bool) → same h (ascii "tss") ≡ s → same h (ascii "tsm") ≡ m → same h (ascii "tsu") ≡ u → same h (ascii "tsn") ≡ n → some v ≡ units s m u n → h ≡ unitHead v
+      pick true m u n a b c d e = same-eq h (ascii "tss") a ∙ ap unitHead (let q : TimeUnits.Second ≡ v = cc in q)
+      pick false true u n a b c d e = same-eq h (ascii "tsm") b ∙ ap unitHead (let q : TimeUnits.Millisecond ≡ v = cc in q)
+      pick false false true n a b c d e = same-eq h (ascii "tsu") c ∙ ap unitHead (let q : TimeUnits.Microsecond ≡ v = cc in q)
+      pick false false false true a b c d e = same-eq h (ascii "tsn") d ∙ ap unitHead (let q : TimeUnits.Nanosecond ≡ v = cc in q)
+      pick false false false false a b c d e = not-some (sym e)
+
+  pub cut-unit : (u : TimeUnit) → some u ≡ headUnit h → given (timestampFormat u r) ≡ readCut h r
+  cut-unit u e = unit-cut u r ∙ ap (λ (n : Bytes). readCut n r) (sym (unit-head u e))
+
+  mode-head : (m : UnionMode) → some m ≡ headMode h → h ≡ modeHead m
+  mode-head v e = pick (same h (ascii "+ud")) (same h (ascii "+us")) refl refl e
+    where
+      pick : (d s : Bool) → same h (ascii "+ud") ≡ d → same h (ascii "+us") ≡ s → some v ≡ modes d s → h ≡ modeHead v
+      pick true s a b e = same-eq h (ascii "+ud") a ∙ ap modeHead (let q : UnionModes.Dense ≡ v = cc in q)
+      pick false true a b e = same-eq h (ascii "+us") b ∙ ap modeHead (let q : UnionModes.Sparse ≡ v = cc in q)
+      pick false false a b e = not-some (sym e)
+
+  pub cut-mode : (m : UnionMode) → some m ≡ headMode h → unionFormat m r ≡ readCut h r
+  cut-mode m e = mode-cut m r ∙ ap (λ (n : Bytes). readCut n r) (sym (mode-head m e))
+
+  pub cut-other : headUnit h ≡ none → headMode h ≡ none → false ≡ same h (ascii "w") → false ≡ same h (ascii "+w") → false ≡ same h (ascii "d") → refused unsupportedFormat ≡ readCut h r
+  cut-other u m a b c =
+      let x = no-units (same h (ascii "tss")) (same h (ascii "tsm")) (same h (ascii "tsu")) (same h (ascii "tsn")) u in
+      let y = no-modes (same h (ascii "+ud")) (same h (ascii "+us")) m in
+      rw (x .0, x .1, x .2, x .3, y .0, y .1, ← a, ← b, ← c)
+
+-- ── names
+
+module _ (sorted : Bool) (f : Bytes) where
+  pub name-leaf : (k u : ℕ) → some (k, u) ≡ leafNamed f → given (ofScalar (leaf k u)) ≡ readFormat sorted f
+  name-leaf k u e = pick (rowNamed f rows) refl e
+    where
+      pick : (o : Option Row) → rowNamed f rows ≡ o → some (k, u) ≡ leafOf o → given (ofScalar (leaf k u)) ≡ readFormat sorted f
+      pick none n e = not-some (sym e)
+      pick (some r) n e =
+          let q : _≡_ {A = ℕ × ℕ} (k, u) (r .kind, r .unit) = cc in
+          rw n (ap (λ (x : ℕ × ℕ). given (ofScalar (leaf (x .0) (x .1)))) q)
+
+  module _ (other : none ≡ leafNamed f) where
+    name-none : rowNamed f rows ≡ none
+    name-none = pick (rowNamed f rows) other
+      where
+        pick : (o : Option Row) → none ≡ leafOf o → o ≡ none
+        pick none e = refl
+        pick (some r) e = not-some e
+
+    pub name-list : true ≡ same f (ascii "+l") → given (ofNesting list) ≡ readFormat sorted f
+    name-list a = rw (name-none, ← a)
+
+    module _ (a : false ≡ same f (ascii "+l")) where
+      pub name-large : true ≡ same f (ascii "+L") → given (ofNesting largeList) ≡ readFormat sorted f
+      name-large b = rw (name-none, ← a, ← b)
+
+      module _ (b : false ≡ same f (ascii "+L")) where
+        pub name-map : true ≡ same f (ascii "+m") → given (ofNesting (map sorted)) ≡ readFormat sorted f
+        name-map c = rw (name-none, ← a, ← b, ← c)
+
+        module _ (c : false ≡ same f (ascii "+m")) where
+          pub name-struct : true ≡ same f (ascii "+s") → given (ofGrouping struct) ≡ readFormat sorted f
+          name-struct d = rw (name-none, ← a, ← b, ← c, ← d)
+
+          pub name-other : false ≡ same f (ascii "+s") → readOther (cut f) ≡ readFormat sorted f
+          name-other d = rw (name-none, ← a, ← b, ← c, ← d)

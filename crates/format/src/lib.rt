@@ -1,103 +1,46 @@
-// What a format string says, read in place from its hexadecimal text: the formats of `to_dtype`.
-ghost use mathlib.Core.Path.{_≡_};
-ghost use mathlib.Core.Bool.{true};
-ghost use Prim.Native.Nat.{_+_};
-ghost use lib.ListN.{take, drop};
-ghost use Rattle.sheets.specs.FieldSheet.{toNat};
-ghost use Rattle.sheets.specs.Format.{readCut, readOther, readFormat, cut};
-ghost use Rattle.hex.specs.Hex.{isHex, bytesOf};
-ghost use Rattle.format_names.specs.Names.{IsOtherHead};
-ghost use Rattle.format_parts.specs.Parts.{HasBytes};
-ghost use Rattle.format_types.specs.Told.{Told, numbers};
-use field_line::TypeColumns;
-use field_line::TypeText;
-use format_names::NameRead;
-use format_names::Place;
-use format_types::FormatRead;
+// From a format string to the columns of its type: what a format says, and the columns `kind p q text more` written as it is read.
+pub mod dictionary;
+pub mod names;
+pub mod parts;
+pub mod put;
+pub mod read;
 
-// A format whose head h, before the colon, is neither a timestamp's nor a union's, and whose numbers stand from byte `at` on.
-fn read_sizes(f: &[u8], at: usize, h: &[u8]) -> FormatRead
-    requires { ⌜ HasBytes (now f) at × IsOtherHead (now h) ⌝ }
-    ensures { λ r. ⌜ Told (now (f .entry)) (readCut (bytesOf (now (h .entry))) (drop at (bytesOf (now (f .entry))))) r ⌝ }
-{
-    if hex::says(h, b"w") {
-        return format_types::sized(f, at, 23);
-    }
-    if hex::says(h, b"+w") {
-        return format_types::sized(f, at, 28);
-    }
-    if hex::says(h, b"d") {
-        return format_types::decimal_type(f, at);
-    }
-    FormatRead::Refused(6)
+use crate::read::FormatRead;
+use refusal::Refusal;
+ghost use Rattle.sheets.specs.Format.{readFormat};
+ghost use Rattle.hex.specs.Hex.{bytesOf};
+ghost use Rattle.format.specs.Formats.{FormatPuts, CanPut};
+
+// Which subtrees a type visits: none, the first child, all children, the dictionary's values.
+pub enum Below {
+    Nothing,
+    First,
+    All,
+    Values,
 }
 
-// A format whose first colon is byte k. The names' places are the units and the modes.
-fn read_cut(f: &[u8], k: usize) -> FormatRead
-    requires { ⌜ HasBytes (now f) (k + 1) ⌝ }
-    ensures { λ r. ⌜ Told (now (f .entry)) (readCut (take k (bytesOf (now (f .entry)))) (drop (k + 1) (bytesOf (now (f .entry))))) r ⌝ }
-{
-    let e = 2 * k;
-    let at = k + 1;
-    let h = &f[0..e];
-    if let Place::At(unit) = format_names::name_place(b"tsstsmtsutsn", 3, h) {
-        return format_types::zoned(f, 2 * at, unit as u64);
-    }
-    if let Place::At(mode) = format_names::name_place(b"+ud+us", 3, h) {
-        return format_types::union_of(f, at, mode as u64);
-    }
-    read_sizes(f, at, h)
+// The place after a type's columns and which subtrees the type visits, or why its format is refused.
+pub enum FormatPut {
+    Put(usize, Below),
+    Refused(Refusal),
 }
 
-fn read_other(f: &[u8]) -> FormatRead
-    requires { ⌜ isHex (now f) ≡ true ⌝ }
-    ensures { λ r. ⌜ Told (now (f .entry)) (readOther (cut (bytesOf (now (f .entry))))) r ⌝ }
+// Writes the columns of the type that a format says, but for a dictionary's, as much as fits. `sorted` says that the keys of a map are. What stands in
+// the buffer after a refusal is left open.
+pub fn put_format(out: &mut [u8], at: usize, f: &[u8], sorted: bool) -> FormatPut
+    requires { ⌜ CanPut (now f) at ⌝ }
+    ensures { λ r. ⌜ FormatPuts at (readFormat sorted (bytesOf (now (f .entry)))) (now (out .entry)) (now (out .exit)) r ⌝ }
 {
-    let Place::At(k) = format_parts::byte_place(f, 0, b':') else {
-        return FormatRead::Refused(6);
-    };
-    read_cut(f, k)
-}
-
-fn numbers(kind: u64, p: u64) -> FormatRead
-    ensures { λ r. ⌜ r ≡ numbers kind p 0 ⌝ }
-{
-    FormatRead::Type(TypeColumns {
-        kind,
-        p,
-        q: 0,
-        text: TypeText::NoText,
-    })
-}
-
-fn flag(b: bool) -> u64
-    ensures { λ r. ⌜ r ≡ toNat b ⌝ }
-{
-    if b {
-        return 1;
+    match crate::read::read_format(f, sorted) {
+        FormatRead::Refused(r) => FormatPut::Refused(r),
+        FormatRead::Numbers(t) => FormatPut::Put(
+            crate::put::put_textless(out, at, t),
+            crate::put::below_of(t),
+        ),
+        FormatRead::Timestamp(unit, k) => FormatPut::Put(
+            crate::put::put_timestamp(out, at, unit, &f[k..]),
+            Below::Nothing,
+        ),
+        FormatRead::Union(mode, k) => crate::put::put_union(out, at, mode, &f[k..]),
     }
-    0
-}
-
-// What a format says, but for a dictionary's. `sorted` says that the keys of a map are.
-pub fn read_format(f: &[u8], sorted: bool) -> FormatRead
-    requires { ⌜ isHex (now f) ≡ true ⌝ }
-    ensures { λ r. ⌜ Told (now (f .entry)) (readFormat sorted (bytesOf (now (f .entry)))) r ⌝ }
-{
-    if let NameRead::Leaf(kind, unit) = format_names::fixed_name(f) {
-        return numbers(kind, unit);
-    }
-    if hex::says(f, b"+l") {
-        return numbers(27, 0);
-    }
-    if hex::says(f, b"+L") {
-        return numbers(29, 0);
-    }
-    if hex::says(f, b"+m") {
-        return numbers(31, flag(sorted));
-    }
-    if hex::says(f, b"+s") {
-        return numbers(30, 0);
-    }
-    read_other(f)
 }

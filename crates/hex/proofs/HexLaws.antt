@@ -14,10 +14,9 @@ use borrow.Author.Tests.{lt-ltb}
 use Rattle.sheets.specs.Refusal.{badLines}
 use Rattle.sheets.specs.Answer.{Answer, refused, given, _>>=_}
 use Rattle.sheets.specs.Rule.{Meets}
-use Rattle.sheets.specs.Bytes.{Bytes, all}
+use Rattle.sheets.specs.Bytes.{Bytes, all, isByte}
 use Rattle.sheets.specs.Text.{digitValue, unhex}
 use Rattle.sheets.proofs.Tests.{and-left, and-right}
-use Rattle.sheets.proofs.TextLaws.{isByte}
 use Rattle.hex.specs.Hex.{gives, givenOr, isDigit, valueOf, isHex, bytesOf}
 use Rattle.hex.proofs.DigitLaws.{value-below}
 

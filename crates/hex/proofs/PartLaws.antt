@@ -7,10 +7,10 @@ use native.Mathlib.Omega.{arith}
 use native.Mathlib.Nat.{not-suc-le-zero, le-of-suc-le-suc}
 use lib.ListN.{length, getD, take, drop}
 use Rattle.sheets.specs.Rule.{Meets}
-use Rattle.sheets.specs.Bytes.{Bytes, all}
+use Rattle.sheets.specs.Bytes.{Bytes, all, isByte}
 use Rattle.sheets.specs.Text.{hexDigit, hex}
 use Rattle.sheets.proofs.BytesLaws.{all-append}
-use Rattle.sheets.proofs.TextLaws.{isByte, unhex-hex}
+use Rattle.sheets.proofs.TextLaws.{unhex-hex}
 use Rattle.hex.specs.Hex.{gives, givenOr, isDigit, valueOf, isHex, bytesOf}
 use Rattle.hex.proofs.DigitLaws.{value-below, digit-of-value}
 use Rattle.hex.proofs.HexLaws.{bytes-pair, first-digit, second-digit, hex-after, hex-one, bytes-below}

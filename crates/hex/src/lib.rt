@@ -1,4 +1,6 @@
 // Lowercase hexadecimal text, read in place.
+pub mod put;
+
 ghost use mathlib.Core.Path.{_≡_};
 ghost use mathlib.Core.Bool.{true};
 ghost use Prim.Native.Nat.{_<_};

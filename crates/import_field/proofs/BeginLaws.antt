@@ -1,136 +1,159 @@
--- What is known at each place of `begin_field`: the line that stands there opens the tree, the node's lines are written, the first subtrees are
--- skipped. The lines of the tree are those of its node, then those of what it visits, by `node-written`. Assumes nothing.
+-- What is known at each place of `begin_type`: the type's line is written, the first subtrees are skipped, and those that the type visits stand next. The
+-- lines of a type are its own, then those of what it visits, by `type-written`. Assumes nothing.
 use mathlib.Core.Path.{_≡_, refl, sym, ap, ap₂, subst, _∙_}
 use mathlib.Core.Bool.{Bool}
-use mathlib.Core.List.{List, _∷_, _++_}
-use Prim.Native.Nat.{ℕ, suc, _≤_, max}
+use mathlib.Core.List.{List, [], _∷_, _++_}
+use mathlib.Core.Option.{Option}
+use Prim.Native.Nat.{ℕ, _<_}
 use native.Mathlib.Omega.{arith}
-use lib.ListN.{drop}
-use Rattle.sheets.specs.Refusal.{Refusal, numberOf}
+use lib.ListN.{length, drop, length-append}
 use Rattle.sheets.specs.Bytes.{Bytes}
 use Rattle.sheets.specs.Answer.{Answer, refused, given, _>>=_}
-use Rattle.sheets.specs.Schema.{Line, nodeOf, childrenOf, dictionaryOf, Schema, schema, Schemas, Dictionary, countSchemas, countDictionary, schemaLevels, childrenLevels, dictionaryLevels}
-use Rattle.sheets.specs.FieldSheet.{Shape}
+use Rattle.sheets.specs.Sheet.{ended}
+use Rattle.sheets.specs.Schema.{Line, nodeOf, childrenOf, dictionaryOf, Schema, schema, Schemas, Dictionary, absent, present, countSchemas, countDictionary}
+use Rattle.sheets.specs.Field.{Info}
+use Rattle.sheets.specs.FieldSheet.{Shape, fieldLine, lineOf}
 use Rattle.sheets.specs.Import.{formatText}
-use Rattle.sheets.proofs.Tests.{chain-same}
-use Rattle.sheets.proofs.SchemaLaws.{pushChildren}
-use Rattle.sheets.proofs.FormLaws.{Standing, standing-on, Opened}
-use Rattle.sheets.proofs.ImportLaws.{written, rowWritten, nodeShape, below, ownOf, ownLines, visited, isBare, withOwn, node-written}
+use Rattle.sheets.specs.ImportLines.{nodeShape, below, typeWritten, rowWritten, visited, isBare}
+use Rattle.sheets.specs.SchemaTrees.{schemas, pushChildren, Standing}
+use Rattle.sheets.proofs.Tests.{first-gave}
+use Rattle.sheets.proofs.ImportLaws.{type-written}
+use Rattle.buffer.specs.Over.{over}
+use Rattle.buffer.proofs.OverLaws.{overAt-zero}
 use Rattle.schema_line.specs.declared.SchemaLine.{SchemaLine}
-use Rattle.read_line.specs.Lines.{LineAt}
-use Rattle.subtrees.specs.Subtrees.{HasRow, SkipsRow}
-use Rattle.put_node.specs.Nodes.{lineType, nodeLines, Plan, Puts, PutsNode}
-use Rattle.import_field.specs.Contracts.{FieldAt, Begins}
-use Rattle.subtrees.specs.declared.Skipped.{Skipped}
-use Rattle.subtrees.specs.declared.Skipped.the-variants.{To, Deep}
-use Rattle.put_node.specs.declared.Visit.{Visit}
-use Rattle.put_node.specs.declared.NodeRead.{NodeRead}
-use Rattle.put_node.specs.declared.NodeRead.the-variants.{Put, Refused}
-use Rattle.import_field.proofs.PlanLaws.{Cut, cut}
+use Rattle.sheets.specs.TreeWalks.{HasRow}
+use Rattle.schema_sheet.specs.Subtrees.{skipAnswer, SkipsRow}
+use Rattle.schema_sheet.specs.declared.subtrees.Skipped.{Skipped}
+use Rattle.schema_sheet.specs.declared.subtrees.Skipped.the-variants.{To, Deep}
+use Rattle.format.specs.Formats.{belowOf}
+use Rattle.format.specs.declared.Below.{Below}
+use Rattle.format.specs.declared.FormatPut.{FormatPut}
+use Rattle.format.specs.declared.FormatPut.the-variants as Put
+use Rattle.refusal.specs.declared.Refusal.{Refusal as Reason}
+use Rattle.refusal.specs.Refusals.{refusalOf}
+use Rattle.node.specs.declared.lines.Shown.{Shown}
+use Rattle.node.specs.Pieces.{infoPiece}
+use Rattle.node.specs.Nodes.{columnIn, shownIn, NodeIn, lineType, typeText, LineTold, TypeLinePuts}
+use Rattle.node.proofs.LineLaws.{line-text}
+use Rattle.import_field.specs.declared.Visit.{Visit}
+use Rattle.import_field.specs.Contracts.{TypeAt, HasType, HasFirst, typeLength, visitOf, Begins}
+use Rattle.import_field.proofs.PlanLaws.{fits-first, Fits, shape-fits, visit-bare, Cut, cut}
 
 -- a chain of three steps
-pub chained : {A B C : Type 0} (m : Answer A) (f : A → Answer B) (g : B → Answer C) → (m >>= λ a. f a >>= g) ≡ (m >>= f >>= g)
+chained : {A B C : Type 0} (m : Answer A) (f : A → Answer B) (g : B → Answer C) → (m >>= λ a. f a >>= g) ≡ (m >>= f >>= g)
 chained (refused r) f g = refl
 chained (given a) f g = refl
 
--- ── the lines of a tree, by its first line
+one-dictionary : (d : Dictionary) → countDictionary d < 2
+one-dictionary absent = omega arith
+one-dictionary (present s) = omega arith
 
-below-node : (bare : Bool) (x : Line) (cs : Schemas) (d : Dictionary) (sh : Shape) (k : ℕ)
-    → (rowWritten (isBare sh) (visited sh cs d) >>= λ ls. withOwn bare (nodeOf x) sh k ls)
-    ≡ (rowWritten (isBare sh) (visited sh cs d) >>= λ ls. (ownOf (nodeOf x) >>= λ o. given (ownLines bare sh k (o .0) (o .1))) >>= λ a. given (a ++ ls))
-below-node bare x cs d sh k =
-    chain-same (rowWritten (isBare sh) (visited sh cs d)) (rowWritten (isBare sh) (visited sh cs d)) (λ ls. withOwn bare (nodeOf x) sh k ls)
-    (λ ls. (ownOf (nodeOf x) >>= λ o. given (ownLines bare sh k (o .0) (o .1))) >>= λ a. given (a ++ ls)) refl
-    (λ ls. chained (ownOf (nodeOf x)) (λ o. given (ownLines bare sh k (o .0) (o .1))) (λ a. given (a ++ ls)))
+-- the node whose line was found
+pub node-of : {s : Bytes} {l : SchemaLine} {w : Shown} {levels : ℕ} {es : List ℕ} → HasType s l w levels es → NodeIn s l
+node-of h = record { line = h .line; shows = h .there .shows; short = h .there .short }
 
-pub line-written : (bare : Bool) (x : Line) (cs : Schemas) (d : Dictionary) → countSchemas cs ≡ childrenOf x → countDictionary d ≡ dictionaryOf x
-    → written bare (schema (nodeOf x) cs d)
-    ≡ (lineType x >>= λ sh. rowWritten (isBare sh) (visited sh cs d) >>= λ ls. nodeLines bare x sh >>= λ a. given (a ++ ls))
-unfolding lineType nodeLines
-line-written bare x cs d e f =
-    node-written bare (nodeOf x) cs d
-    ∙ chained (formatText (nodeOf x .format)) (λ t. nodeShape t (nodeOf x .flags) (countSchemas cs) (countDictionary d)) (step (countSchemas cs))
-    ∙ ap₂ (λ (k l : ℕ). formatText (nodeOf x .format) >>= (λ t. nodeShape t (nodeOf x .flags) k l) >>= step k) e f
-    ∙ chain-same (lineType x) (lineType x) (step (childrenOf x)) (λ sh. rowWritten (isBare sh) (visited sh cs d) >>= λ ls. nodeLines bare x sh >>= λ a. given (a ++ ls)) refl
-    (λ sh. below-node bare x cs d sh (below sh (childrenOf x)))
-  where
-    step : ℕ → Shape → Answer (List Bytes)
-    step k sh = rowWritten (isBare sh) (visited sh cs d) >>= λ ls. withOwn bare (nodeOf x) sh (below sh k) ls
+module _ {s : Bytes} {l : SchemaLine} {levels : ℕ} {x : Line} {cs : Schemas} {d : Dictionary} {ts : List Schema} (h : TypeAt s l levels x cs d ts) where
+  -- ── the lines of the type
 
--- ── the line is known
+  module _ (j : Option Info) where
+    abbrev firstLine : Shape → Bytes
+    firstLine sh = fieldLine .write (lineOf sh j (below sh (childrenOf x)))
 
-module _ (s : Bytes) (at : ℕ) (l : SchemaLine) (p : LineAt s at l) where
-  module _ (most : ℕ) (bare : Bool) (t : Schema) (ts : List Schema) (f : FieldAt s at (suc most) t ts) (out mid : Bytes) where
-    opened : Opened (p .line) (drop (l .end) s) t ts
-    opened =
-        let q = p .stands in
-        standing-on (q .bytes) (drop (l .end) s) (q .free) (p .line) (q .reads) t ts (subst (λ (b : Bytes). Standing b (t ∷ ts)) (q .is) (f .stands))
+    abbrev rest : Shape → Answer (List Bytes)
+    rest sh = rowWritten (isBare sh) (visited sh cs d) >>= λ ls. given (firstLine sh ∷ ls)
 
-    becomes : written bare t
-        ≡ (lineType (p .line) >>= λ sh. rowWritten (isBare sh) (visited sh (opened .children) (opened .dictionary)) >>= λ ls. nodeLines bare (p .line) sh >>= λ a. given (a ++ ls))
+    -- the lines of the type, by its line
+    becomes : typeWritten j (schema (nodeOf x) cs d) ≡ (lineType x >>= rest)
+    unfolding lineType
     becomes =
-        ap (written bare) (opened .isNode)
-        ∙ line-written bare (p .line) (opened .children) (opened .dictionary) (opened .counted) (opened .one)
+        type-written j (nodeOf x) cs d
+        ∙ chained (formatText (nodeOf x .format)) (λ f. nodeShape f (nodeOf x .flags) (countSchemas cs) (countDictionary d)) (step (countSchemas cs))
+        ∙ ap₂ (λ (k m : ℕ). formatText (nodeOf x .format) >>= (λ f. nodeShape f (nodeOf x .flags) k m) >>= step k) (h .children) (h .dictionary)
+      where
+        step : ℕ → Shape → Answer (List Bytes)
+        step k sh = rowWritten (isBare sh) (visited sh cs d) >>= λ ls. given (fieldLine .write (lineOf sh j (below sh k)) ∷ ls)
 
-    -- the levels below the node
-    low : max (childrenLevels (opened .children)) (dictionaryLevels (opened .dictionary)) ≤ most
-    low = omega (arith, ap schemaLevels (opened .isNode), f .levels)
+  fits : (sh : Shape) → lineType x ≡ given sh → Fits sh (countSchemas cs) (countDictionary d)
+  unfolding lineType
+  fits sh e =
+      let (f, is, told) = first-gave (formatText (nodeOf x .format)) (λ f. nodeShape f (nodeOf x .flags) (childrenOf x) (dictionaryOf x)) sh e in
+      let p : nodeShape f (nodeOf x .flags) (countSchemas cs) (countDictionary d) ≡ given sh = ap₂ (λ (k m : ℕ). nodeShape f (nodeOf x .flags) k m) (h .children) (h .dictionary) ∙ told in
+      shape-fits f (nodeOf x .flags) (countSchemas cs) (countDictionary d) sh (one-dictionary d) p
 
-    -- the node is refused
-    pub begin-refused : (r : NodeRead) (n : ℕ) → r ≡ Refused n → PutsNode s at l bare out mid r
-        → (q : Refusal) × (written bare t ≡ refused q) × (numberOf q ≡ n)
-    begin-refused r n e h =
-        let w : PutsNode s at l bare out mid (Refused n) = subst (λ (y : NodeRead). PutsNode s at l bare out mid y) e h in
-        let (q, is, number) = w (p .line) (p .shows) in
-        (q, becomes ∙ ap (λ (a : Answer Shape). a >>= λ sh. rowWritten (isBare sh) (visited sh (opened .children) (opened .dictionary)) >>= λ ls. nodeLines bare (p .line) sh >>= λ a. given (a ++ ls)) is, number)
+  -- ── what is told of its line
 
-    module _ (r : NodeRead) (v : Visit) (e : r ≡ Put v) (h : PutsNode s at l bare out mid r) where
-      puts : Puts at l bare (p .line) out mid v
-      puts = subst (λ (y : NodeRead). PutsNode s at l bare out mid y) e h (p .line) (p .shows)
+  module _ (w : Shown) (es : List ℕ) (out mid : Bytes) (r : FormatPut) (puts : TypeLinePuts s l w es out mid r) where
+    -- the type is refused
+    pub type-refused : (q : Reason) → r ≡ Put.Refused q → (j : Option Info) → typeWritten j (schema (nodeOf x) cs d) ≡ refused (refusalOf q)
+    type-refused q e j =
+        let told : lineType x ≡ refused (refusalOf q) = subst (λ (y : FormatPut). TypeLinePuts s l w es out mid y) e puts x (h .shows) in
+        becomes j ∙ ap (λ (a : Answer Shape). a >>= rest j) told
 
-      parts : Cut (opened .children) (opened .dictionary) ts (visited (puts .shape) (opened .children) (opened .dictionary)) v
-      parts =
-          cut (puts .shape) (opened .children) (opened .dictionary) ts v
-          (subst (λ (k : ℕ). Plan (puts .shape) k (countDictionary (opened .dictionary)) v) (sym (opened .counted))
-          (subst (λ (k : ℕ). Plan (puts .shape) (childrenOf (p .line)) k v) (sym (opened .one)) (puts .plan)))
+    module _ (len : ℕ) (b : Below) (e : r ≡ Put.Put len b) where
+      abbrev own : Bytes
+      own = shownIn s l es w
 
-      abbrev rest : List Schema
-      rest = pushChildren (visited (puts .shape) (opened .children) (opened .dictionary)) (parts .last ++ ts)
+      told : LineTold (lineType x) (childrenOf x) (length (columnIn s (l .format))) own out mid (given (len, b))
+      told = subst (λ (y : FormatPut). TypeLinePuts s l w es out mid y) e puts x (h .shows)
 
-      stands : Standing (drop (l .end) s) (parts .first ++ rest)
-      stands = subst (Standing (drop (l .end) s)) (parts .are) (opened .stands)
+      abbrev sh : Shape
+      sh = told .0
 
-      -- the trees that are skipped first
-      pub first-there : HasRow s (l .end) (v .first)
-      first-there = (parts .first, rest, stands, parts .firstCount, p .high)
+      counted : countSchemas cs ≡ l .children
+      counted = h .children ∙ sym (h .shows .children)
 
-      module _ (k : Skipped) (skips : SkipsRow s (l .end) (v .first) most k) where
-        pub first-low : k ≡ Deep → ⊥
-        first-low d =
-            let m = subst (λ (y : Skipped). SkipsRow s (l .end) (v .first) most y) d skips (parts .first) rest stands (parts .firstCount) in
-            omega (arith, m, low, parts .firstLevels)
+      -- a child that is needed is there
+      pub first-child : HasFirst b (l .children)
+      first-child =
+          subst (λ (y : Below). HasFirst y (l .children)) (sym (told .3)) (subst (HasFirst (belowOf sh)) counted (fits-first sh (countSchemas cs) (countDictionary d) (fits sh (told .1))))
 
-        -- the visited trees stand next
-        pub begins : (next : ℕ) → k ≡ To next → Begins s at most bare t ts out mid next v
-        begins next d =
-            let m = subst (λ (y : Skipped). SkipsRow s (l .end) (v .first) most y) d skips (parts .first) rest stands (parts .firstCount) in
-            record {
-              us = visited (puts .shape) (opened .children) (opened .dictionary);
-              vs = parts .last;
-              own = nodeLines bare (p .line) (puts .shape);
-              visited = record {
-                stands = m .1;
-                counted = parts .count;
-                levels = omega (arith, low, parts .levels);
-                within = m .3;
-                short = f .short;
-              };
-              others = parts .lastCount;
-              low = omega (arith, low, parts .lastLevels);
-              becomes =
-                  becomes
-                  ∙ ap (λ (a : Answer Shape). a >>= λ sh. rowWritten (isBare sh) (visited sh (opened .children) (opened .dictionary)) >>= λ ls. nodeLines bare (p .line) sh >>= λ a. given (a ++ ls)) (puts .isType)
-                  ∙ ap (λ (b : Bool). rowWritten b (visited (puts .shape) (opened .children) (opened .dictionary)) >>= λ ls. nodeLines bare (p .line) (puts .shape) >>= λ a. given (a ++ ls)) (sym (puts .isBare));
-              owns = puts .own;
-              long = omega (arith, puts .long, m .2);
-            }
+      module _ (v : Visit) (isVisit : v ≡ visitOf b (l .children)) where
+        visit : visitOf (belowOf sh) (countSchemas cs) ≡ v
+        visit = ap (visitOf (belowOf sh)) counted ∙ ap (λ (y : Below). visitOf y (l .children)) (sym (told .3)) ∙ sym isVisit
+
+        parts : Cut cs d ts (visited sh cs d) v
+        parts = subst (Cut cs d ts (visited sh cs d)) visit (cut sh cs d ts (fits sh (told .1)))
+
+        abbrev next-trees : List Schema
+        next-trees = pushChildren (visited sh cs d) (parts .last ++ ts)
+
+        stands : Standing (drop (l .end) s) (parts .first ++ next-trees)
+        stands = subst (Standing (drop (l .end) s)) (parts .are) (h .stands)
+
+        -- the trees that are skipped first
+        pub first-there : HasRow schemas s (l .end) (v .first)
+        first-there = (parts .first, next-trees, stands, parts .firstCount, h .within)
+
+        module _ (k : Skipped) (skips : SkipsRow s (l .end) (v .first) levels (skipAnswer k)) where
+          pub first-low : k ≡ Deep → ⊥
+          first-low e =
+              let m = subst (λ (y : Skipped). SkipsRow s (l .end) (v .first) levels (skipAnswer y)) e skips .1 (parts .first) next-trees stands (parts .firstCount) in
+              omega (arith, m, h .deep, parts .firstDeep)
+
+          -- the visited trees stand next
+          pub begins : (next : ℕ) → k ≡ To next → (j : Option Info) → own ≡ infoPiece j
+              → Begins s l levels (typeWritten j (schema (nodeOf x) cs d)) (typeLength s l w es) ts out mid next len v
+          begins next e j shows =
+              let m = subst (λ (y : Skipped). SkipsRow s (l .end) (v .first) levels (skipAnswer y)) e skips (parts .first) next-trees stands (parts .firstCount) in
+              let line-is : typeText sh own (below sh (childrenOf x)) ≡ ended (firstLine j sh ∷ []) = line-text sh j (below sh (childrenOf x)) own shows in
+              record {
+                us = visited sh cs d;
+                vs = parts .last;
+                line = firstLine j sh;
+                visited = record {
+                  stands = m .1;
+                  counted = parts .count;
+                  deep = omega (arith, h .deep, parts .deep);
+                  within = m .3;
+                  short = h .short;
+                };
+                others = parts .lastCount;
+                low = omega (arith, h .deep, parts .lastDeep);
+                becomes =
+                    becomes j
+                    ∙ ap (λ (a : Answer Shape). a >>= rest j) (told .1)
+                    ∙ ap (λ (y : Bool). rowWritten y (visited sh cs d) >>= λ ls. given (firstLine j sh ∷ ls)) (sym (visit-bare sh (countSchemas cs) (countDictionary d) (fits sh (told .1))) ∙ ap (λ (y : Visit). y .bare) visit);
+                lineLength = omega (arith, told .2 .0, ap length line-is, length-append (firstLine j sh) (10 ∷ []));
+                laid = told .2 .1 ∙ overAt-zero (typeText sh own (below sh (childrenOf x))) out ∙ ap (λ (y : Bytes). over y out) line-is;
+                long = omega (arith, told .4, m .2);
+              }

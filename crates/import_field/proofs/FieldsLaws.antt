@@ -1,21 +1,23 @@
--- What is known in the loop of `to_dtype`, which writes the lines of one tree after the other, and a law for each way of a turn. Assumes nothing.
+-- What is known in the loop of `to_fields`, which writes the lines of one tree after the other, and a law for each way of a turn. Assumes nothing.
 use mathlib.Core.Path.{_≡_, refl, sym, ap, subst, _∙_}
 use mathlib.Core.Bool.{Bool}
 use mathlib.Core.List.{List, [], _++_, append-assoc, append-nil}
 use Prim.Native.Nat.{ℕ, _+_, _-_, _*_, _<_, _≤_, min}
 use native.Mathlib.Omega.{arith}
 use lib.ListN.{length, take, drop, length-append}
-use Rattle.sheets.specs.Refusal.{Refusal, numberOf}
 use Rattle.sheets.specs.Bytes.{Bytes}
 use Rattle.sheets.specs.Answer.{Answer, refused, given, _>>=_}
 use Rattle.sheets.specs.Sheet.{ended}
 use Rattle.sheets.specs.Schema.{Schema, Schemas, end, _&_}
-use Rattle.sheets.proofs.SchemaLaws.{pushChildren}
+use Rattle.sheets.specs.SchemaTrees.{pushChildren}
+use Rattle.sheets.specs.ImportLines.{rowWritten}
 use Rattle.sheets.proofs.SheetLaws.{ended-append}
-use Rattle.sheets.proofs.ImportLaws.{rowWritten}
 use Rattle.buffer.specs.Over.{over}
 use Rattle.buffer.proofs.OverLaws.{over-nothing, over-lent}
+use Rattle.refusal.specs.declared.Refusal.{Refusal as Reason}
+use Rattle.refusal.specs.Refusals.{refusalOf}
 use Rattle.import_field.specs.Contracts.{FieldAt, FieldsAt, HasField, Wrote, FieldWrote}
+use Rattle.import_field.specs.declared.Tree.{Tree}
 use Rattle.import_field.specs.declared.Step.{Step}
 use Rattle.import_field.specs.declared.Step.the-variants.{Done, Refused}
 
@@ -27,58 +29,62 @@ both-before : (a b : List Bytes) (m : Answer (List Bytes)) → ((m >>= λ ls. gi
 both-before a b (refused r) = refl
 both-before a b (given ls) = ap given (sym (append-assoc a b ls))
 
+-- the tree that stands at a place
+abbrev pub treeAt : ℕ → ℕ → Bool → Tree
+treeAt here levels bare = record { at = here; levels = levels; bare = bare }
+
 -- i of the n trees us, which stood at `at` with ts after them, are written: their lines are laid over out₀, and vs are left at here
-pub record Going (s : Bytes) (at n most : ℕ) (bare : Bool) (out₀ out : Bytes) (here sum i : ℕ) (us : Schemas) (ts : List Schema) : Type 0 where
+pub record Going (s : Bytes) (at n levels : ℕ) (bare : Bool) (out₀ out : Bytes) (here sum i : ℕ) (us : Schemas) (ts : List Schema) : Type 0 where
   pub vs : Schemas
   pub lines : List Bytes
-  pub left : FieldsAt s here (n - i) most vs ts
+  pub left : FieldsAt s here (n - i) levels vs ts
   pub becomes : rowWritten bare us ≡ (rowWritten bare vs >>= λ ls. given (lines ++ ls))
   pub sumIs : sum ≡ length (ended lines)
   pub laid : out ≡ over (ended lines) out₀
   pub long : sum + 32 * at ≤ 32 * here
 
-module _ (s : Bytes) (at n most : ℕ) (bare : Bool) (out₀ : Bytes) (us : Schemas) (ts : List Schema) where
-  pub going-none : FieldsAt s at n most us ts → Going s at n most bare out₀ out₀ at 0 0 us ts
+module _ (s : Bytes) (at n levels : ℕ) (bare : Bool) (out₀ : Bytes) (us : Schemas) (ts : List Schema) where
+  pub going-none : FieldsAt s at n levels us ts → Going s at n levels bare out₀ out₀ at 0 0 us ts
   going-none h =
       record {
         vs = us;
         lines = [];
-        left = record { stands = h .stands; counted = omega (arith, h .counted); levels = h .levels; within = h .within; short = h .short };
+        left = record { stands = h .stands; counted = omega (arith, h .counted); deep = h .deep; within = h .within; short = h .short };
         becomes = none-before (rowWritten bare us);
         sumIs = refl;
         laid = sym (over-nothing out₀);
         long = omega arith;
       }
 
-  module _ (out : Bytes) (here sum i : ℕ) (g : Going s at n most bare out₀ out here sum i us ts) where
+  module _ (out : Bytes) (here sum i : ℕ) (g : Going s at n levels bare out₀ out here sum i us ts) where
     -- the first tree that is left
-    first-at : (t : Schema) (vs : Schemas) → FieldsAt s here (n - i) most (t & vs) ts → FieldAt s here most t (pushChildren vs ts)
-    first-at t vs h = record { stands = h .stands; levels = omega (arith, h .levels); short = h .short }
+    first-at : (t : Schema) (vs : Schemas) → FieldsAt s here (n - i) levels (t & vs) ts → FieldAt s here levels t (pushChildren vs ts)
+    first-at t vs h = record { stands = h .stands; deep = omega (arith, h .deep); short = h .short }
 
-    pub going-field : i < n → HasField s here most
+    pub going-field : i < n → HasField s (treeAt here levels bare)
     going-field l = go (g .vs) (g .left)
       where
-        go : (vs : Schemas) → FieldsAt s here (n - i) most vs ts → HasField s here most
+        go : (vs : Schemas) → FieldsAt s here (n - i) levels vs ts → HasField s (treeAt here levels bare)
         go end h = absurd (omega (arith, h .counted))
         go (t & vs) h = (t, pushChildren vs ts, first-at t vs h)
 
     -- it is written
     pub going-more : i < n → (w : ℕ) → w ≡ min sum (length out) → (part : Bytes) (r : Step) (next len : ℕ) → r ≡ Done next len
-        → FieldWrote s here most bare (take (length out - w) (drop w out)) part r
-        → Going s at n most bare out₀ (take w out ++ (part ++ drop (length out - w) (drop w out))) next (sum + len) (i + 1) us ts
+        → FieldWrote s (treeAt here levels bare) (take (length out - w) (drop w out)) part r
+        → Going s at n levels bare out₀ (take w out ++ (part ++ drop (length out - w) (drop w out))) next (sum + len) (i + 1) us ts
     going-more l w e part r next len isDone wrote = go (g .vs) (g .left) (g .becomes)
       where
-        go : (vs : Schemas) → FieldsAt s here (n - i) most vs ts → rowWritten bare us ≡ (rowWritten bare vs >>= λ ls. given (g .lines ++ ls))
-            → Going s at n most bare out₀ (take w out ++ (part ++ drop (length out - w) (drop w out))) next (sum + len) (i + 1) us ts
+        go : (vs : Schemas) → FieldsAt s here (n - i) levels vs ts → rowWritten bare us ≡ (rowWritten bare vs >>= λ ls. given (g .lines ++ ls))
+            → Going s at n levels bare out₀ (take w out ++ (part ++ drop (length out - w) (drop w out))) next (sum + len) (i + 1) us ts
         go end h b = absurd (omega (arith, h .counted))
         go (t & vs) h b =
-            let f : FieldWrote s here most bare (take (length out - w) (drop w out)) part (Done next len) =
-            subst (λ (x : Step). FieldWrote s here most bare (take (length out - w) (drop w out)) part x) isDone wrote in
+            let f : FieldWrote s (treeAt here levels bare) (take (length out - w) (drop w out)) part (Done next len) =
+            subst (λ (x : Step). FieldWrote s (treeAt here levels bare) (take (length out - w) (drop w out)) part x) isDone wrote in
             let (ls, is, lenIs, laid, there, long, within) = f t (pushChildren vs ts) (first-at t vs h) in
             record {
               vs = vs;
               lines = g .lines ++ ls;
-              left = record { stands = there; counted = omega (arith, h .counted); levels = omega (arith, h .levels); within = within; short = h .short };
+              left = record { stands = there; counted = omega (arith, h .counted); deep = omega (arith, h .deep); within = within; short = h .short };
               becomes =
                   b
                   ∙ ap (λ (o : Answer (List Bytes)). (o >>= λ a. rowWritten bare vs >>= λ b. given (a ++ b)) >>= λ b. given (g .lines ++ b)) is
@@ -91,23 +97,22 @@ module _ (s : Bytes) (at n most : ℕ) (bare : Bool) (out₀ : Bytes) (us : Sche
             }
 
     -- it is refused
-    pub going-refused : i < n → (lent part : Bytes) (r : Step) (m : ℕ) → r ≡ Refused m → FieldWrote s here most bare lent part r
-        → (q : Refusal) × (rowWritten bare us ≡ refused q) × (numberOf q ≡ m)
-    going-refused l lent part r m isRefused wrote = go (g .vs) (g .left) (g .becomes)
+    pub going-refused : i < n → (lent part : Bytes) (r : Step) (q : Reason) → r ≡ Refused q → FieldWrote s (treeAt here levels bare) lent part r
+        → rowWritten bare us ≡ refused (refusalOf q)
+    going-refused l lent part r q isRefused wrote = go (g .vs) (g .left) (g .becomes)
       where
-        go : (vs : Schemas) → FieldsAt s here (n - i) most vs ts → rowWritten bare us ≡ (rowWritten bare vs >>= λ ls. given (g .lines ++ ls))
-            → (q : Refusal) × (rowWritten bare us ≡ refused q) × (numberOf q ≡ m)
+        go : (vs : Schemas) → FieldsAt s here (n - i) levels vs ts → rowWritten bare us ≡ (rowWritten bare vs >>= λ ls. given (g .lines ++ ls))
+            → rowWritten bare us ≡ refused (refusalOf q)
         go end h b = absurd (omega (arith, h .counted))
         go (t & vs) h b =
-            let f : FieldWrote s here most bare lent part (Refused m) = subst (λ (x : Step). FieldWrote s here most bare lent part x) isRefused wrote in
-            let (q, is, number) = f t (pushChildren vs ts) (first-at t vs h) in
-            (q, b ∙ ap (λ (o : Answer (List Bytes)). (o >>= λ a. rowWritten bare vs >>= λ b. given (a ++ b)) >>= λ b. given (g .lines ++ b)) is, number)
+            let f : FieldWrote s (treeAt here levels bare) lent part (Refused q) = subst (λ (x : Step). FieldWrote s (treeAt here levels bare) lent part x) isRefused wrote in
+            b ∙ ap (λ (o : Answer (List Bytes)). (o >>= λ a. rowWritten bare vs >>= λ b. given (a ++ b)) >>= λ b. given (g .lines ++ b)) (f t (pushChildren vs ts) (first-at t vs h))
 
     -- all are written
-    pub going-all : n ≤ i → Wrote s at ts (rowWritten bare us) out₀ out (Done here sum)
+    pub going-all : n ≤ i → Wrote s at 0 ts (rowWritten bare us) out₀ out (Done here sum)
     going-all l = go (g .vs) (g .left) (g .becomes)
       where
-        go : (vs : Schemas) → FieldsAt s here (n - i) most vs ts → rowWritten bare us ≡ (rowWritten bare vs >>= λ ls. given (g .lines ++ ls))
-            → Wrote s at ts (rowWritten bare us) out₀ out (Done here sum)
-        go end h b = (g .lines, b ∙ ap given (append-nil (g .lines)), g .sumIs, g .laid, h .stands, g .long, h .within)
+        go : (vs : Schemas) → FieldsAt s here (n - i) levels vs ts → rowWritten bare us ≡ (rowWritten bare vs >>= λ ls. given (g .lines ++ ls))
+            → Wrote s at 0 ts (rowWritten bare us) out₀ out (Done here sum)
+        go end h b = (g .lines, b ∙ ap given (append-nil (g .lines)), g .sumIs, g .laid, h .stands, omega (arith, g .long), h .within)
         go (t & vs) h b = absurd (omega (arith, h .counted))

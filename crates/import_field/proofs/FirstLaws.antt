@@ -1,36 +1,40 @@
 -- A field is a row of one field. Assumes nothing.
 use mathlib.Core.Path.{_≡_, refl, ap, subst}
-use mathlib.Core.Bool.{Bool}
 use mathlib.Core.List.{List, [], _++_, append-nil}
-use Prim.Native.Nat.{ℕ}
 use native.Mathlib.Omega.{arith}
 use lib.ListN.{length-drop}
 use Rattle.sheets.specs.Bytes.{Bytes}
 use Rattle.sheets.specs.Answer.{Answer, refused, given, _>>=_}
 use Rattle.sheets.specs.Schema.{Schema, end, _&_}
 use Rattle.sheets.proofs.FormLaws.{standing-row, row-many}
-use Rattle.sheets.proofs.ImportLaws.{written}
+use Rattle.sheets.specs.ImportLines.{written}
 use Rattle.import_field.specs.Contracts.{FieldAt, FieldsAt, HasField, HasFields, Wrote, FieldWrote, FieldsWrote}
+use Rattle.import_field.specs.declared.Tree.{Tree}
+use Rattle.import_field.specs.declared.Row.{Row}
 use Rattle.import_field.specs.declared.Step.{Step}
 
-module _ (s : Bytes) (at most : ℕ) where
-  row-at : (t : Schema) (ts : List Schema) → FieldAt s at most t ts → FieldsAt s at 1 most (t & end) ts
-  row-at t ts f =
+-- the row of one tree
+abbrev pub rowOf : Tree → Row
+rowOf t = record { at = t .at; count = 1; levels = t .levels; bare = t .bare }
+
+module _ (s : Bytes) (t : Tree) where
+  row-at : (u : Schema) (ts : List Schema) → FieldAt s (t .at) (t .levels) u ts → FieldsAt s (t .at) 1 (t .levels) (u & end) ts
+  row-at u ts f =
       record {
         stands = f .stands;
         counted = refl;
-        levels = omega (arith, f .levels);
-        within = omega (arith, row-many (standing-row (f .stands)), length-drop at s);
+        deep = omega (arith, f .deep);
+        within = omega (arith, row-many (standing-row (f .stands)), length-drop (t .at) s);
         short = f .short;
       }
 
-  pub row-there : HasField s at most → HasFields s at 1 most
+  pub row-there : HasField s t → HasFields s (rowOf t)
   row-there h = (h .0 & end, h .1, row-at (h .0) (h .1) (h .2))
 
   one-written : (m : Answer (List Bytes)) → (m >>= λ a. given (a ++ [])) ≡ m
   one-written (refused r) = refl
   one-written (given a) = ap given (append-nil a)
 
-  pub row-wrote : (bare : Bool) (out out' : Bytes) (r : Step) → FieldsWrote s at 1 most bare out out' r → FieldWrote s at most bare out out' r
-  row-wrote bare out out' r h t ts f =
-      subst (λ (o : Answer (List Bytes)). Wrote s at ts o out out' r) (one-written (written bare t)) (h (t & end) ts (row-at t ts f))
+  pub row-wrote : (out out' : Bytes) (r : Step) → FieldsWrote s (rowOf t) out out' r → FieldWrote s t out out' r
+  row-wrote out out' r h u ts f =
+      subst (λ (o : Answer (List Bytes)). Wrote s (t .at) 0 ts o out out' r) (one-written (written (t .bare) u)) (h (u & end) ts (row-at u ts f))

@@ -19,18 +19,20 @@ use Rattle.sheets.specs.Field.{Info, leaf}
 use Rattle.sheets.specs.Format.{ofScalar, readFormat}
 use Rattle.sheets.specs.Schema.{Line, nodeOf, Schema, schema, Schemas, end, _&_, Dictionary, absent, present, countSchemas, countDictionary}
 use Rattle.sheets.specs.FieldSheet.{toNat, fieldLine, lineOf, ofScalar as scalarShape}
-use Rattle.sheets.proofs.SchemaLaws.{pushChildren, pushDictionary}
-use Rattle.sheets.proofs.FormLaws.{Standing, standing-on}
-use Rattle.sheets.proofs.ImportLaws.{written}
+use Rattle.sheets.specs.SchemaTrees.{pushChildren, pushDictionary, Standing}
+use Rattle.sheets.proofs.FormLaws.{standing-on}
+use Rattle.sheets.specs.ImportLines.{written}
 use Rattle.sheets.proofs.Utf8Laws.{ascii-utf8}
-use Rattle.put_decimal.proofs.WriteLaws.{decimal-length}
+use Rattle.decimal.proofs.WriteLaws.{decimal-length}
 use Rattle.buffer.specs.Over.{over}
 use Rattle.columns.specs.Columns.{part}
 use Rattle.leaf_line.proofs.LeafLaws.{leaf-says, name-some}
-use Rattle.put_leaf.specs.LeafText.{headText, tailText, leafText, LeafWritten, LeafPuts}
+use Rattle.put_leaf.specs.LeafText.{headText, tailText, leafText, LeafWritten, isPut, LeafPuts}
 use Rattle.put_leaf.specs.declared.LeafPut.{LeafPut}
 use Rattle.put_leaf.specs.declared.LeafPut.the-variants.{Put, Other}
 use Rattle.import_field.specs.Contracts.{FieldWrote, Wrote}
+use Rattle.import_field.specs.declared.Tree.{Tree}
+use Rattle.import_field.proofs.FieldsLaws.{treeAt}
 use Rattle.import_field.specs.declared.Step.{Step}
 use Rattle.import_field.specs.declared.Step.the-variants.{Done}
 
@@ -89,7 +91,7 @@ module _ {s : Bytes} {at : ℕ} {out out' : Bytes} {next len : ℕ} (w : LeafWri
     node x = schema (nodeOf x) end absent
 
     opened : (cs : Schemas) (d : Dictionary) → countSchemas cs ≡ 0 → countDictionary d ≡ 0 → t ≡ schema (nodeOf (w .leaf .line .line)) cs d
-        → Standing (drop (w .e + 9) s) (pushChildren cs (pushDictionary d ts)) → Wrote s at ts (written false t) out out' (Done next len)
+        → Standing (drop (w .e + 9) s) (pushChildren cs (pushDictionary d ts)) → Wrote s at 0 ts (written false t) out out' (Done next len)
     opened (c & cs) d n m e h = absurd (omega arith)
     opened end (present c) n m e h = absurd (omega arith)
     opened end absent n m e h =
@@ -100,13 +102,13 @@ module _ {s : Bytes} {at : ℕ} {out out' : Bytes} {next len : ℕ} (w : LeafWri
           w .long ∙ ap length text,
           w .laid ∙ ap (λ (b : Bytes). over b out) text,
           subst (λ (i : ℕ). Standing (drop i s) ts) (sym (w .after)) h,
-          text-short,
+          omega (arith, text-short),
           omega (arith, w .after, k .high),
         )
 
   -- all that `to_field` tells
-  pub leaf-field : (most : ℕ) → FieldWrote s at most false out out' (Done next len)
-  leaf-field most t ts f =
+  pub leaf-field : (levels : ℕ) → FieldWrote s (treeAt at levels false) out out' (Done next len)
+  leaf-field levels t ts f =
       let p = w .leaf .line in
       let q = p .stands in
       let o = standing-on (q .bytes) (drop (w .e + 9) s) (q .free) (p .line) (q .reads) t ts (subst (λ (b : Bytes). Standing b (t ∷ ts)) (q .is) (f .stands)) in
@@ -114,13 +116,13 @@ module _ {s : Bytes} {at : ℕ} {out out' : Bytes} {next len : ℕ} (w : LeafWri
 
 -- ── at the places of `next_field`
 
-module _ (s : Bytes) (at most : ℕ) (bare : Bool) (out mid : Bytes) (r : LeafPut) (h : LeafPuts s at bare out mid r) where
-  pub leaf-done : (next len : ℕ) → r ≡ Put next len → FieldWrote s at most bare out mid (Done next len)
+module _ (s : Bytes) (t : Tree) (out mid : Bytes) (r : LeafPut) (h : LeafPuts s (t .at) (t .bare) out mid r) where
+  pub leaf-done : (next len : ℕ) → r ≡ Put next len → FieldWrote s t out mid (Done next len)
   leaf-done next len e =
-      let p : (bare ≡ false) × LeafWritten s at out mid next len = subst (LeafPuts s at bare out mid) e h in
-      subst (λ (b : Bool). FieldWrote s at most b out mid (Done next len)) (sym (p .0)) (leaf-field (p .1) most)
+      let p : (t .bare ≡ false) × LeafWritten s (t .at) out mid next len = subst (LeafPuts s (t .at) (t .bare) out mid) e h in
+      subst (λ (b : Bool). FieldWrote s (treeAt (t .at) (t .levels) b) out mid (Done next len)) (sym (p .0)) (leaf-field (p .1) (t .levels))
 
-  pub leaf-other : r ≡ Other → (last : Bytes) (z : Step) → FieldWrote s at most bare mid last z → FieldWrote s at most bare out last z
+  pub leaf-other : r ≡ Other → (last : Bytes) (z : Step) → FieldWrote s t mid last z → FieldWrote s t out last z
   leaf-other e last z f =
-      let p : mid ≡ out = subst (LeafPuts s at bare out mid) e h in
-      subst (λ (b : Bytes). FieldWrote s at most bare b last z) p f
+      let p : (isPut s (t .at) (t .bare) out ≡ false) × (mid ≡ out) = subst (LeafPuts s (t .at) (t .bare) out mid) e h in
+      subst (λ (b : Bytes). FieldWrote s t b last z) (p .1) f

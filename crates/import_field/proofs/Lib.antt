@@ -1,7 +1,8 @@
 pub mod PlanLaws
 pub mod BeginLaws
 pub mod EndLaws
-pub mod FirstLaws
-pub mod LeafLaws
-pub mod FieldLaws
 pub mod FieldsLaws
+pub mod TypeLaws
+pub mod OwnLaws
+pub mod LeafLaws
+pub mod FirstLaws

@@ -1,129 +1,221 @@
 // The lines of a field from the lines of its schema, in a lent buffer. A field is read through its type, and a type through its fields.
-ghost use Prim.Native.Nat.{suc};
-ghost use Rattle.node_metadata.specs.NodeMetadata.{HasRoom};
-ghost use Rattle.import_field.specs.Contracts.{HasField, HasFields, HasLeft};
-ghost use Rattle.import_field.specs.Contracts.{FieldBegins, FieldEnds, FieldWrote, FieldsWrote};
+ghost use mathlib.Core.Path.{_≡_};
+ghost use Rattle.node.specs.Info.{HasRoom};
+ghost use Rattle.import_field.specs.Contracts.{HasFirst, visitOf, HasField, HasFields, HasLeft, HasType};
+ghost use Rattle.import_field.specs.Contracts.{TypeBegins, TypeEnds, FieldEnds, FieldWrote, FieldsWrote, TypeWrote};
+use format::Below;
+use format::FormatPut;
+use node::Pending;
+use node::lines::Shown;
 use put_leaf::LeafPut;
-use put_node::NodeRead;
-use put_node::Visit;
-use subtrees::Skipped;
+use refusal::Refusal;
+use schema_line::SchemaLine;
+use schema_sheet::subtrees::Skipped;
 
-// Where the reading goes on and how many bytes the lines have, or a refusal's number.
+// A schema of at most `levels` levels that stands at `at`; the first line of its field is bare or not.
+pub struct Tree {
+    pub at: usize,
+    pub levels: usize,
+    pub bare: bool,
+}
+
+// `count` such schemas, one after the other.
+pub struct Row {
+    pub at: usize,
+    pub count: u64,
+    pub levels: usize,
+    pub bare: bool,
+}
+
+// Of the subtrees below a node the first ones are skipped, then `count` are visited, bare or not, then the last ones are skipped.
+pub struct Visit {
+    pub first: u64,
+    pub count: u64,
+    pub bare: bool,
+    pub last: u64,
+}
+
+// Where the reading goes on and how many bytes the lines have, or why the sheet is refused.
 pub enum Step {
     Done { next: usize, len: usize },
-    Refused(u8),
+    Refused(Refusal),
 }
 
-// Where the visited subtrees begin and what is to be done with them, or a refusal's number.
-enum FieldBegun {
-    Row(usize, Visit),
-    Refused(u8),
+// Where the visited subtrees begin, how many bytes the type's line has, and what is to be done below it; or why the type is refused.
+enum TypeBegun {
+    Row(usize, usize, Visit),
+    Refused(Refusal),
 }
 
-// Reads the line at `at`, writes the lines of its node and skips the subtrees before those that it visits; below it are `most` levels at most.
-fn begin_field(
-    s: &[u8],
-    at: usize,
-    most: usize,
-    bare: bool,
-    out: &mut [u8],
-    entries: &mut [u32],
-    spare: &mut [u32],
-) -> FieldBegun
-    requires { ⌜ HasField (now s) at (suc most) × HasRoom (now s) (now entries) (now spare) ⌝ }
-    ensures { λ r. ⌜ FieldBegins (now (s .entry)) at most bare (now (out .entry)) (now (out .exit)) r ⌝ }
+// The subtrees below a node, by what its type visits.
+fn visit_of(b: Below, children: u64) -> Visit
+    requires { ⌜ HasFirst b children ⌝ }
+    ensures { λ r. ⌜ r ≡ visitOf b children ⌝ }
 {
-    let line = read_line::line_at(s, at);
-    match put_node::put_node(s, at, line, bare, out, entries, spare) {
-        NodeRead::Refused(n) => FieldBegun::Refused(n),
-        NodeRead::Put(visit) => {
-            // The whole sheet was read before, and no tree has more levels: 3 never comes from here.
-            let Skipped::To(next) = subtrees::skip_row(s, line.end, visit.first, most) else {
-                return FieldBegun::Refused(3);
+    match b {
+        Below::Nothing => Visit {
+            first: children,
+            count: 0,
+            bare: false,
+            last: 0,
+        },
+        Below::First => Visit {
+            first: 0,
+            count: 1,
+            bare: false,
+            last: children - 1,
+        },
+        Below::All => Visit {
+            first: 0,
+            count: children,
+            bare: false,
+            last: 0,
+        },
+        Below::Values => Visit {
+            first: children,
+            count: 1,
+            bare: true,
+            last: 0,
+        },
+    }
+}
+
+// Writes the line of the type of a node and skips the subtrees before those that it visits; below the node are `levels` levels at most.
+fn begin_type(
+    s: &[u8],
+    line: SchemaLine,
+    shown: Shown,
+    levels: usize,
+    out: &mut [u8],
+    entries: &[u32],
+) -> TypeBegun
+    requires { ⌜ HasType (now s) line shown levels (now entries) ⌝ }
+    ensures { λ r. ⌜ TypeBegins (now (s .entry)) line shown levels (now (entries .entry)) (now (out .entry)) (now (out .exit)) r ⌝ }
+{
+    match node::put_type_line(s, line, shown, out, entries) {
+        FormatPut::Refused(r) => TypeBegun::Refused(r),
+        FormatPut::Put(len, b) => {
+            let visit = visit_of(b, line.children);
+            // The whole sheet was read before, and no tree has more levels: this refusal never comes.
+            let Skipped::To(next) = schema_sheet::subtrees::skip_row(
+                s,
+                line.end,
+                visit.first,
+                levels,
+            ) else {
+                return TypeBegun::Refused(Refusal::TooDeep);
             };
-            FieldBegun::Row(next, visit)
+            TypeBegun::Row(next, len, visit)
         }
     }
 }
 
-// Skips the last `count` subtrees of a node, then refuses what is pending: metadata and name are refused after what stands below.
-fn end_field(s: &[u8], at: usize, count: u64, most: usize, pending: u8, len: usize) -> Step
-    requires { ⌜ HasLeft (now s) at count most ⌝ }
-    ensures { λ r. ⌜ FieldEnds (now (s .entry)) at count most pending len r ⌝ }
+// Skips the last `count` subtrees of a node.
+fn end_type(s: &[u8], at: usize, count: u64, levels: usize, len: usize) -> Step
+    requires { ⌜ HasLeft (now s) at count levels ⌝ }
+    ensures { λ r. ⌜ TypeEnds (now (s .entry)) at count levels len r ⌝ }
 {
-    let Skipped::To(next) = subtrees::skip_row(s, at, count, most) else {
-        return Step::Refused(3);
+    let Skipped::To(next) = schema_sheet::subtrees::skip_row(s, at, count, levels) else {
+        return Step::Refused(Refusal::TooDeep);
     };
-    if pending != 0 {
-        return Step::Refused(pending);
-    }
     Step::Done { next, len }
 }
 
-// Writes the lines of the field whose schema stands at `at`, as far as they fit; the schema has `most` levels at most.
+// Metadata and name are refused after what stands below.
+fn end_field(pending: Pending, next: usize, len: usize) -> Step
+    ensures { λ r. ⌜ FieldEnds pending next len r ⌝ }
+{
+    match pending {
+        Pending::Nothing => Step::Done { next, len },
+        Pending::Refused(r) => Step::Refused(r),
+    }
+}
+
+// Writes the lines of a field, as far as they fit. Its metadata and its name are read first, since its line shows them, and refused last.
 pub fn to_field(
     s: &[u8],
-    at: usize,
-    most: usize,
-    bare: bool,
+    tree: Tree,
     out: &mut [u8],
     entries: &mut [u32],
     spare: &mut [u32],
 ) -> Step
-    requires { ⌜ HasField (now s) at most × HasRoom (now s) (now entries) (now spare) ⌝ }
-    ensures { λ r. ⌜ FieldWrote (now (s .entry)) at most bare (now (out .entry)) (now (out .exit)) r ⌝ }
+    requires { ⌜ HasField (now s) tree × HasRoom (now s) (now entries) (now spare) ⌝ }
+    ensures { λ r. ⌜ FieldWrote (now (s .entry)) tree (now (out .entry)) (now (out .exit)) r ⌝ }
 {
-    let below = most - 1;
-    match begin_field(s, at, below, bare, out, entries, spare) {
-        FieldBegun::Refused(n) => Step::Refused(n),
-        FieldBegun::Row(from, visit) => {
-            let w = buffer::within(visit.len, out.len());
-            match to_dtype(
-                s,
-                from,
-                visit.count,
-                below,
-                visit.bare,
-                &mut out[w..],
-                entries,
-                spare,
-            ) {
-                Step::Refused(n) => Step::Refused(n),
-                Step::Done { next, len } => end_field(
+    let line = schema_line::read::line_at(s, tree.at);
+    let begun = node::begin_field(s, line, tree.bare, out, entries, spare);
+    let shown = begun.shown;
+    let pending = begun.pending;
+    let w = buffer::within(begun.len, out.len());
+    match to_dtype(
+        s,
+        line,
+        shown,
+        tree.levels - 1,
+        &mut out[w..],
+        entries,
+        spare,
+    ) {
+        Step::Refused(r) => Step::Refused(r),
+        Step::Done { next, len } => end_field(pending, next, begun.len + len),
+    }
+}
+
+// Reads the format of a node, and writes the line of its type and those of its fields, as far as they fit; below the node are `levels` levels at most.
+fn to_dtype(
+    s: &[u8],
+    line: SchemaLine,
+    shown: Shown,
+    levels: usize,
+    out: &mut [u8],
+    entries: &mut [u32],
+    spare: &mut [u32],
+) -> Step
+    requires { ⌜ HasType (now s) line shown levels (now entries) × HasRoom (now s) (now entries) (now spare) ⌝ }
+    ensures { λ r. ⌜ TypeWrote (now (s .entry)) line shown levels (now (entries .entry)) (now (out .entry)) (now (out .exit)) r ⌝ }
+{
+    match begin_type(s, line, shown, levels, out, entries) {
+        TypeBegun::Refused(r) => Step::Refused(r),
+        TypeBegun::Row(from, len, visit) => {
+            let w = buffer::within(len, out.len());
+            let row = Row {
+                at: from,
+                count: visit.count,
+                levels,
+                bare: visit.bare,
+            };
+            match to_fields(s, row, &mut out[w..], entries, spare) {
+                Step::Refused(r) => Step::Refused(r),
+                Step::Done { next, len: below } => end_type(
                     s,
                     next,
                     visit.last,
-                    below,
-                    visit.pending,
-                    visit.len + len,
+                    levels,
+                    len + below,
                 ),
             }
         }
     }
 }
 
-// Writes the lines of a type's fields, whose schemas stand one after the other from `at` on, as far as they fit.
-fn to_dtype(
-    s: &[u8],
-    at: usize,
-    count: u64,
-    most: usize,
-    bare: bool,
-    out: &mut [u8],
-    entries: &mut [u32],
-    spare: &mut [u32],
-) -> Step
-    requires { ⌜ HasFields (now s) at count most × HasRoom (now s) (now entries) (now spare) ⌝ }
-    ensures { λ r. ⌜ FieldsWrote (now (s .entry)) at count most bare (now (out .entry)) (now (out .exit)) r ⌝ }
+// Writes the lines of fields whose schemas stand one after the other, as far as they fit.
+fn to_fields(s: &[u8], row: Row, out: &mut [u8], entries: &mut [u32], spare: &mut [u32]) -> Step
+    requires { ⌜ HasFields (now s) row × HasRoom (now s) (now entries) (now spare) ⌝ }
+    ensures { λ r. ⌜ FieldsWrote (now (s .entry)) row (now (out .entry)) (now (out .exit)) r ⌝ }
 {
-    let mut here = at;
+    let mut here = row.at;
     let mut sum = 0;
     let mut i = 0;
-    while i < count {
+    while i < row.count {
         let w = buffer::within(sum, out.len());
-        match next_field(s, here, most, bare, &mut out[w..], entries, spare) {
-            Step::Refused(n) => {
-                return Step::Refused(n);
+        let tree = Tree {
+            at: here,
+            levels: row.levels,
+            bare: row.bare,
+        };
+        match next_field(s, tree, &mut out[w..], entries, spare) {
+            Step::Refused(r) => {
+                return Step::Refused(r);
             }
             Step::Done { next, len } => {
                 here = next;
@@ -139,36 +231,32 @@ fn to_dtype(
 }
 
 // The same as `to_field`; the line of a leaf is written at once, where it fits.
-fn next_field(
-    s: &[u8],
-    at: usize,
-    most: usize,
-    bare: bool,
-    out: &mut [u8],
-    entries: &mut [u32],
-    spare: &mut [u32],
-) -> Step
-    requires { ⌜ HasField (now s) at most × HasRoom (now s) (now entries) (now spare) ⌝ }
-    ensures { λ r. ⌜ FieldWrote (now (s .entry)) at most bare (now (out .entry)) (now (out .exit)) r ⌝ }
+fn next_field(s: &[u8], tree: Tree, out: &mut [u8], entries: &mut [u32], spare: &mut [u32]) -> Step
+    requires { ⌜ HasField (now s) tree × HasRoom (now s) (now entries) (now spare) ⌝ }
+    ensures { λ r. ⌜ FieldWrote (now (s .entry)) tree (now (out .entry)) (now (out .exit)) r ⌝ }
 {
-    match put_leaf::put_leaf(s, at, bare, out) {
+    match put_leaf::put_leaf(s, tree.at, tree.bare, out) {
         LeafPut::Put(next, len) => Step::Done { next, len },
-        LeafPut::Other => to_field(s, at, most, bare, out, entries, spare),
+        LeafPut::Other => to_field(s, tree, out, entries, spare),
     }
 }
 
-// The same as `to_field`, by a row of one field: so a sheet that is one leaf is written at once too.
+// The same as `to_field`, by a row of one field: so a sheet that is one leaf is written at once too, and `next_field` has one caller.
 pub fn to_first_field(
     s: &[u8],
-    at: usize,
-    most: usize,
-    bare: bool,
+    tree: Tree,
     out: &mut [u8],
     entries: &mut [u32],
     spare: &mut [u32],
 ) -> Step
-    requires { ⌜ HasField (now s) at most × HasRoom (now s) (now entries) (now spare) ⌝ }
-    ensures { λ r. ⌜ FieldWrote (now (s .entry)) at most bare (now (out .entry)) (now (out .exit)) r ⌝ }
+    requires { ⌜ HasField (now s) tree × HasRoom (now s) (now entries) (now spare) ⌝ }
+    ensures { λ r. ⌜ FieldWrote (now (s .entry)) tree (now (out .entry)) (now (out .exit)) r ⌝ }
 {
-    to_dtype(s, at, 1, most, bare, out, entries, spare)
+    let row = Row {
+        at: tree.at,
+        count: 1,
+        levels: tree.levels,
+        bare: tree.bare,
+    };
+    to_fields(s, row, out, entries, spare)
 }

@@ -10,21 +10,24 @@ use Rattle.sheets.specs.Refusal.{Refusal, numberOf}
 use Rattle.sheets.specs.Bytes.{Bytes}
 use Rattle.sheets.specs.Answer.{Answer, refused, given, _>>=_}
 use Rattle.sheets.specs.Sheet.{ended, writeSheet}
-use Rattle.sheets.specs.Schema.{Schema}
+use Rattle.sheets.specs.Schema.{Schema, readSchemaSheet}
 use Rattle.sheets.specs.Field.{Field}
 use Rattle.sheets.specs.FieldSheet.{fieldHeading, writeFieldSheet, typeLines}
 use Rattle.sheets.specs.Import.{toField}
-use Rattle.sheets.specs.Outcome.{imported, outcome, refusal, importOutcome}
+use Rattle.sheets.specs.Outcome.{Outcome, imported, outcome, refusal, importOutcome}
 use Rattle.sheets.proofs.OutcomeLaws.{turned}
-use Rattle.sheets.proofs.ImportLaws.{written, shown}
+use Rattle.sheets.specs.ImportLines.{written, shown}
 use Rattle.buffer.specs.Over.{over, overAt}
 use Rattle.buffer.proofs.OverLaws.{over-lent, overAt-zero}
-use Rattle.outcome.specs.Answers.{outcomeOf, Refuses, Tells}
+use Rattle.outcome.specs.Answers.{outcomeOf, Tells}
 use Rattle.outcome.specs.declared.Answered.{Answered}
-use Rattle.outcome.proofs.AnswerLaws.{refused as zeros}
-use Rattle.schema_sheet.specs.Sheets.{Opens, ReadsSheet}
-use Rattle.import_field.specs.Contracts.{FieldAt, HasField, Wrote, FieldWrote}
-use Rattle.import_sheet.specs.Sheets.{sheetOf, SheetWroteAs, SheetWrote}
+use Rattle.outcome.proofs.AnswerLaws.{refusal-over}
+use Rattle.refusal.specs.declared.Refusal.{Refusal as Reason}
+use Rattle.refusal.specs.Refusals.{refusalOf}
+use Rattle.schema_sheet.specs.Sheets.{sheetBody, sheetAnswer}
+use Rattle.schema_sheet.proofs.SheetLaws.{Opens, sheet-opens, sheet-refused as sheet-unread}
+use Rattle.import_field.specs.Contracts.{FieldAt, Wrote, FieldWrote}
+use Rattle.import_sheet.specs.Sheets.{sheetOf, treeOf, SheetTold, SheetWrote, HasSheet}
 use Rattle.schema_sheet.specs.declared.SheetRead.{SheetRead}
 use Rattle.schema_sheet.specs.declared.SheetRead.the-variants.{Body, Refused as Unread}
 use Rattle.import_field.specs.declared.Step.{Step}
@@ -49,27 +52,28 @@ sheet-lines t = go (toField t)
     go (given f) = ap given (head-lines (typeLines (f .type) (shown false (f .info))))
 
 module _ (s : Bytes) (at : ℕ) (t : Schema) (ts : List Schema) (f : FieldAt s at 32 t ts) where
-  pub sheet-refused : (lent part : Bytes) (r : Step) (n : ℕ) → r ≡ Refused n → FieldWrote s at 32 false lent part r
-      → (q : Refusal) × (sheetOf t ≡ refused q) × (numberOf q ≡ n)
-  sheet-refused lent part r n e h =
-      let w : FieldWrote s at 32 false lent part (Refused n) = subst (λ (y : Step). FieldWrote s at 32 false lent part y) e h in
-      let (q, is, number) = w t ts f in
-      (q, sheet-lines t ∙ ap (λ (o : Answer (List Bytes)). o >>= λ ls. given (headLine ++ ended ls)) is, number)
+  abbrev sheet : Answer (List Bytes) → Answer Bytes
+  sheet o = o >>= λ ls. given (headLine ++ ended ls)
 
-  module _ (lent part : Bytes) (r : Step) (next len : ℕ) (e : r ≡ Done next len) (h : FieldWrote s at 32 false lent part r) where
-    lines-done : Wrote s at ts (written false t) lent part (Done next len)
-    lines-done = subst (λ (y : Step). FieldWrote s at 32 false lent part y) e h t ts f
+  pub sheet-refused : (lent part : Bytes) (r : Step) (q : Reason) → r ≡ Refused q → FieldWrote s (treeOf at) lent part r → sheetOf t ≡ refused (refusalOf q)
+  sheet-refused lent part r q e h =
+      let w : FieldWrote s (treeOf at) lent part (Refused q) = subst (λ (y : Step). FieldWrote s (treeOf at) lent part y) e h in
+      sheet-lines t ∙ ap sheet (w t ts f)
+
+  module _ (lent part : Bytes) (r : Step) (next len : ℕ) (e : r ≡ Done next len) (h : FieldWrote s (treeOf at) lent part r) where
+    lines-done : Wrote s at 0 ts (written false t) lent part (Done next len)
+    lines-done = subst (λ (y : Step). FieldWrote s (treeOf at) lent part y) e h t ts f
 
     pub lines-long : len ≤ 2097120
     lines-long = let d = lines-done in omega (arith, d .5, d .6, f .short)
 
     pub sheet-done : (out mid : Bytes) (head w : ℕ) → (head ≡ 0 + length headLine) × (mid ≡ overAt 0 headLine out) → w ≡ min head (length mid)
         → lent ≡ take (length mid - w) (drop w mid)
-        → SheetWroteAs t out (take w mid ++ (part ++ drop (length mid - w) (drop w mid))) (Done next (head + len))
+        → SheetTold t out (take w mid ++ (part ++ drop (length mid - w) (drop w mid))) (given (next, head + len))
     sheet-done out mid head w p e₁ e₂ =
         let (ls, is, lenIs, laid, there, long, within) = lines-done in (
           headLine ++ ended ls,
-          sheet-lines t ∙ ap (λ (o : Answer (List Bytes)). o >>= λ ls. given (headLine ++ ended ls)) is,
+          sheet-lines t ∙ ap sheet is,
           omega (arith, p .0, lenIs, length-append headLine (ended ls)),
           over-lent headLine (ended ls) out mid part head w (p .1 ∙ overAt-zero headLine out) (p .0) e₁ (laid ∙ ap (over (ended ls)) e₂),
         )
@@ -77,43 +81,41 @@ module _ (s : Bytes) (at : ℕ) (t : Schema) (ts : List Schema) (f : FieldAt s a
 -- ── the outcome
 
 module _ (s out : Bytes) where
-  turned-back : (o : Answer Bytes) (n : ℕ) (a : Answered) (mid out' : Bytes) → outcome o out ≡ refusal n out → imported s ≡ o → Refuses n mid a out' → length mid ≡ length out
-      → outcomeOf a out' ≡ importOutcome s out
-  turned-back o n a mid out' e i c l = zeros n mid out a out' c l ∙ sym e ∙ ap (λ (y : Answer Bytes). outcome y out) (sym i)
+  -- a refusal is the outcome of a sheet that is refused
+  turned-back : (q : Refusal) (o : Outcome) (mid : Bytes) → imported s ≡ refused q → o ≡ refusal (numberOf q) mid → length mid ≡ length out → o ≡ importOutcome s out
+  turned-back q o mid i c l = c ∙ refusal-over (numberOf q) mid out l ∙ sym (turned q out) ∙ ap (λ (y : Answer Bytes). outcome y out) (sym i)
 
   -- no schema sheet
-  pub import-unread : (k : SheetRead) (n : ℕ) → k ≡ Unread n → ReadsSheet s k → (a : Answered) (out' : Bytes) → Refuses n out a out' → outcomeOf a out' ≡ importOutcome s out
+  pub import-unread : (k : SheetRead) (q : Reason) → k ≡ Unread q → sheetAnswer k ≡ sheetBody s → (o : Outcome) → o ≡ refusal (numberOf (refusalOf q)) out → o ≡ importOutcome s out
   unfolding imported
-  import-unread k n e h a out' c =
-      let (r, is, number) = subst (ReadsSheet s) e h in
-      turned-back (refused r) n a out out' (turned r out ∙ ap (λ (m : ℕ). refusal m out) number)
-      (ap (λ (o : Answer Schema). o >>= λ t. toField t >>= λ f. given (writeFieldSheet f)) is) c refl
+  import-unread k q e h o c =
+      let is : readSchemaSheet s ≡ refused (refusalOf q) = sheet-unread s (sym h ∙ ap sheetAnswer e) in
+      turned-back (refusalOf q) o out (ap (λ (a : Answer Schema). a >>= λ t. toField t >>= λ f. given (writeFieldSheet f)) is) c refl
 
-  module _ (k : SheetRead) (at : ℕ) (e : k ≡ Body at) (h : ReadsSheet s k) where
+  module _ (k : SheetRead) (at : ℕ) (e : k ≡ Body at) (h : sheetAnswer k ≡ sheetBody s) where
     read : (t : Schema) × Opens s at t
-    read = subst (ReadsSheet s) e h
+    read = sheet-opens s (sym h ∙ ap sheetAnswer e)
 
     field-at : FieldAt s at 32 (read .0) []
-    field-at = let o = read .1 in record { stands = o .stands; levels = o .levels; short = o .short }
+    field-at = let o = read .1 in record { stands = o .stands; deep = o .levels; short = o .short }
 
-    pub field-there : HasField s at 32
+    pub field-there : HasSheet s at
     field-there = (read .0, [], field-at)
 
     of-sheet : imported s ≡ sheetOf (read .0)
     unfolding imported sheetOf
     of-sheet = ap (λ (o : Answer Schema). o >>= λ t. toField t >>= λ f. given (writeFieldSheet f)) (read .1 .isRead)
 
-    module _ (mid : Bytes) (z : Step) (w : SheetWrote s at out mid z) (a : Answered) (out' : Bytes) where
+    module _ (mid : Bytes) (z : Step) (w : SheetWrote s at out mid z) where
       -- a refusal on the way
-      pub import-refused : (n : ℕ) → z ≡ Refused n → length mid ≡ length out → Refuses n mid a out' → outcomeOf a out' ≡ importOutcome s out
-      import-refused n d l c =
-          let v : SheetWrote s at out mid (Refused n) = subst (λ (y : Step). SheetWrote s at out mid y) d w in
-          let (r, is, number) = v (read .0) [] field-at in
-          turned-back (refused r) n a mid out' (turned r out ∙ ap (λ (m : ℕ). refusal m out) number) (of-sheet ∙ is) c l
+      pub import-refused : (q : Reason) → z ≡ Refused q → length mid ≡ length out → (o : Outcome) → o ≡ refusal (numberOf (refusalOf q)) mid → o ≡ importOutcome s out
+      import-refused q d l o c =
+          let v : SheetWrote s at out mid (Refused q) = subst (λ (y : Step). SheetWrote s at out mid y) d w in
+          turned-back (refusalOf q) o mid (of-sheet ∙ v (read .0) [] field-at) c l
 
       -- the sheet is written, as far as it fits
-      pub import-done : (next len : ℕ) → z ≡ Done next len → Tells mid len a out' → outcomeOf a out' ≡ importOutcome s out
-      import-done next len d c =
+      pub import-done : (next len : ℕ) → z ≡ Done next len → (a : Answered) (out' : Bytes) → Tells mid len a out' → outcomeOf (a .number) (a .length) out' ≡ importOutcome s out
+      import-done next len d a out' c =
           let v : SheetWrote s at out mid (Done next len) = subst (λ (y : Step). SheetWrote s at out mid y) d w in
           let (x, is, lenIs, laid) = v (read .0) [] field-at in
           c x out lenIs laid ∙ ap (λ (y : Answer Bytes). outcome y out) (sym (of-sheet ∙ is))

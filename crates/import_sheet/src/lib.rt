@@ -3,23 +3,28 @@ ghost use mathlib.Core.Path.{_≡_};
 ghost use Prim.Native.Nat.{_≤_};
 ghost use lib.ListN.{length};
 ghost use Rattle.sheets.specs.Outcome.{importOutcome};
-ghost use Rattle.node_metadata.specs.NodeMetadata.{HasRoom};
-ghost use Rattle.import_field.specs.Contracts.{HasField};
 ghost use Rattle.outcome.specs.Answers.{outcomeOf};
-ghost use Rattle.import_sheet.specs.Sheets.{SheetWrote};
+ghost use Rattle.node.specs.Info.{HasRoom};
+ghost use Rattle.import_sheet.specs.Sheets.{HasSheet, SheetWrote};
 use import_field::Step;
+use import_field::Tree;
 use outcome::Answered;
 use schema_sheet::SheetRead;
 
 // Writes the heading and the field's lines, as far as they fit.
 fn put_sheet(s: &[u8], at: usize, out: &mut [u8], entries: &mut [u32], spare: &mut [u32]) -> Step
-    requires { ⌜ HasField (now s) at 32 × HasRoom (now s) (now entries) (now spare) ⌝ }
+    requires { ⌜ HasSheet (now s) at × HasRoom (now s) (now entries) (now spare) ⌝ }
     ensures { λ r. ⌜ SheetWrote (now (s .entry)) at (now (out .entry)) (now (out .exit)) r ⌝ }
 {
     let head = buffer::put_at(out, 0, b"kind p q text more name nullable pairs children\n");
     let w = buffer::within(head, out.len());
-    match import_field::to_first_field(s, at, 32, false, &mut out[w..], entries, spare) {
-        Step::Refused(n) => Step::Refused(n),
+    let tree = Tree {
+        at,
+        levels: schema_sheet::LEVELS,
+        bare: false,
+    };
+    match import_field::to_first_field(s, tree, &mut out[w..], entries, spare) {
+        Step::Refused(r) => Step::Refused(r),
         Step::Done { next, len } => Step::Done {
             next,
             len: head + len,
@@ -28,9 +33,9 @@ fn put_sheet(s: &[u8], at: usize, out: &mut [u8], entries: &mut [u32], spare: &m
 }
 
 // A metadata pair takes 16 digits of the sheet. The entries of the pairs are lent down from here, so that they stand on the stack once and not at
-// each of 32 levels; and there are two sizes, so that a short sheet does not pay for clearing 32 KB.
+// each of 32 levels; and there are two sizes, so that a short sheet does not pay for clearing 32,768 bytes.
 fn put_short(s: &[u8], at: usize, out: &mut [u8]) -> Step
-    requires { ⌜ HasField (now s) at 32 × (length (now s) ≤ 2048) ⌝ }
+    requires { ⌜ HasSheet (now s) at × (length (now s) ≤ 2048) ⌝ }
     ensures { λ r. ⌜ SheetWrote (now (s .entry)) at (now (out .entry)) (now (out .exit)) r ⌝ }
 {
     let mut entries: [u32; 128] = [0; 128];
@@ -39,7 +44,7 @@ fn put_short(s: &[u8], at: usize, out: &mut [u8]) -> Step
 }
 
 fn put_long(s: &[u8], at: usize, out: &mut [u8]) -> Step
-    requires { ⌜ HasField (now s) at 32 ⌝ }
+    requires { ⌜ HasSheet (now s) at ⌝ }
     ensures { λ r. ⌜ SheetWrote (now (s .entry)) at (now (out .entry)) (now (out .exit)) r ⌝ }
 {
     let mut entries: [u32; 4096] = [0; 4096];
@@ -48,7 +53,7 @@ fn put_long(s: &[u8], at: usize, out: &mut [u8]) -> Step
 }
 
 fn put_by_length(s: &[u8], at: usize, out: &mut [u8]) -> Step
-    requires { ⌜ HasField (now s) at 32 ⌝ }
+    requires { ⌜ HasSheet (now s) at ⌝ }
     ensures { λ r. ⌜ SheetWrote (now (s .entry)) at (now (out .entry)) (now (out .exit)) r ⌝ }
 {
     if s.len() <= 2048 {
@@ -59,12 +64,12 @@ fn put_by_length(s: &[u8], at: usize, out: &mut [u8]) -> Step
 
 // The field sheet of a schema sheet, written over the first bytes of out; or the number of its refusal, and zeros.
 pub fn import(s: &[u8], out: &mut [u8]) -> Answered
-    ensures { λ r. ⌜ outcomeOf r (now (out .exit)) ≡ importOutcome (now (s .entry)) (now (out .entry)) ⌝ }
+    ensures { λ r. ⌜ outcomeOf (r .number) (r .length) (now (out .exit)) ≡ importOutcome (now (s .entry)) (now (out .entry)) ⌝ }
 {
     match schema_sheet::read_sheet(s) {
-        SheetRead::Refused(n) => outcome::refuse(out, n),
+        SheetRead::Refused(r) => outcome::refuse(out, r),
         SheetRead::Body(at) => match put_by_length(s, at, out) {
-            Step::Refused(n) => outcome::refuse(out, n),
+            Step::Refused(r) => outcome::refuse(out, r),
             Step::Done { next: _, len } => outcome::written(out, len),
         },
     }

@@ -1,3 +1,5 @@
 pub mod KeyLaws
 pub mod MergeLaws
 pub mod PairLaws
+pub mod InsertLaws
+pub mod HalvesLaws

@@ -16,7 +16,7 @@ use Rattle.sheets.specs.Field.{before}
 use Rattle.sheets.proofs.BytesLaws.{same-eq, same-refl}
 use Rattle.key_order.specs.Order.{insertEntry, ordered}
 use Rattle.key_order.specs.Merge.{allAfter, ascends, precedes, merged}
-use Rattle.byte_order.proofs.OrderLaws.{before-trans, before-self, not-back, not-same, same-back, connected}
+use Rattle.sheets.proofs.OrderLaws.{before-trans, before-self, not-back, not-same, same-back, connected}
 
 module _ (key : ℕ → Bytes) where
   -- ── one entry

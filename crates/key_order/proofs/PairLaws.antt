@@ -1,24 +1,19 @@
 -- The entries in order of keys are the pairs in order of keys, where entries' keys stand to each other as the pairs' keys do: so they do where an
--- entry's key is its pair's, or its pair's in hexadecimal. By induction on the entries; putting an entry in keeps what holds of each. Assumes nothing.
+-- entry's key is its pair's in hexadecimal. By induction on the entries; putting an entry in keeps what holds of each. Assumes nothing.
 use mathlib.Core.Path.{_≡_, refl, ap, _∙_}
 use mathlib.Core.Bool.{Bool, true, false, cond}
 use mathlib.Core.List.{List, [], _∷_, map}
 use Prim.Native.Nat.{ℕ}
 use borrow.Author.Tests.{not-true}
 use Rattle.sheets.specs.Rule.{Meets}
-use Rattle.sheets.specs.Bytes.{Bytes, all, same}
+use Rattle.sheets.specs.Bytes.{Bytes, all, same, isByte}
 use Rattle.sheets.specs.Text.{hex}
 use Rattle.sheets.specs.Field.{Pair, before}
 use Rattle.sheets.specs.Metadata.{reserved, insertNew, ordinary}
 use Rattle.sheets.specs.Demand3.{noReserved}
-use Rattle.sheets.proofs.TextLaws.{isByte}
+use Rattle.key_order.specs.Entry.{Each}
 use Rattle.key_order.specs.Order.{insertEntry, ordered}
 use Rattle.byte_order.proofs.HexOrderLaws.{before-hex, same-hex}
-
--- what holds of each entry
-abbrev pub Each : (ℕ → Type 0) → List ℕ → Type 0
-Each P [] = Unit {0}
-Each P (e ∷ es) = P e × Each P es
 
 each-insert : (P : ℕ → Type 0) (key : ℕ → Bytes) (p : ℕ) (l : List ℕ) → P p → Each P l → Each P (insertEntry key p l)
 unfolding insertEntry
@@ -56,14 +51,6 @@ module _ (key : ℕ → Bytes) (pairOf : ℕ → Pair) (P : ℕ → Type 0)
   ordered-alike [] h k = refl
   ordered-alike (p ∷ es) h k =
       rw (not-true (reserved (pairOf p .0)) (k .0)) (insert-pair p (ordered key es) (h .0) (each-ordered P key es (h .1)) ∙ ap (insertNew (pairOf p)) (ordered-alike es (h .1) (k .1)))
-
--- entries whose keys are their pairs'
-pub ordered-pairs : (pairOf : ℕ → Pair) (es : List ℕ) → Meets (noReserved (map pairOf es)) → map pairOf (ordered (λ e. pairOf e .0) es) ≡ ordinary (map pairOf es)
-ordered-pairs pairOf es k = ordered-alike (λ e. pairOf e .0) pairOf (λ e. Unit {0}) (λ p q h k. (refl, refl)) es (holds es) k
-  where
-    holds : (l : List ℕ) → Each (λ e. Unit {0}) l
-    holds [] = tt
-    holds (e ∷ l) = (tt, holds l)
 
 -- an entry's key is its pair's, in hexadecimal
 abbrev pub HexKey : (ℕ → Bytes) → (ℕ → Pair) → ℕ → Type 0

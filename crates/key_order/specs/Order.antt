@@ -1,15 +1,11 @@
--- The order of a metadata block's keys, as `BTreeMap` of the source has it: ascending by byte, the last of equal keys kept. A key is a part of the
--- block's text. An entry is a number that says which part: its start times 65536, and its length. Assumes nothing.
+-- The order of a metadata block's keys, as `BTreeMap` of the source has it: ascending by byte, the last of equal keys kept. A key is that of its
+-- entry. Assumes nothing.
 use mathlib.Core.Bool.{cond}
 use mathlib.Core.List.{List, [], _∷_}
-use Prim.Native.Nat.{ℕ, _/_, _%_, _≤_}
-use lib.ListN.{length, take, drop}
+use Prim.Native.Nat.{ℕ, _≤_}
+use lib.ListN.{length}
 use Rattle.sheets.specs.Bytes.{Bytes, same}
 use Rattle.sheets.specs.Field.{before}
-
--- the key of an entry
-unfoldable pub keyAt : Bytes → ℕ → Bytes
-keyAt text p = take (p % 65536) (drop (p / 65536) text)
 
 -- the entry at its place, unless its key is there
 unfoldable pub insertEntry : (ℕ → Bytes) → ℕ → List ℕ → List ℕ

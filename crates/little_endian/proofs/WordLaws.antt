@@ -9,10 +9,9 @@ use lib.ListN.{length, getD, take, drop, length-drop}
 use lib.Seq.{drop-cons, length-take-le}
 use borrow.Author.Tests.{lt-ltb}
 use Rattle.sheets.specs.Rule.{Meets}
-use Rattle.sheets.specs.Bytes.{Bytes, all}
+use Rattle.sheets.specs.Bytes.{Bytes, all, isByte}
 use Rattle.sheets.specs.Text.{hex}
 use Rattle.sheets.specs.Metadata.{little, littleValue}
-use Rattle.sheets.proofs.TextLaws.{isByte}
 use Rattle.sheets.proofs.MetadataLaws.{little-value}
 use Rattle.hex.specs.Hex.{bytesOf}
 use Rattle.hex.proofs.HexLaws.{twice-length}

@@ -3,7 +3,7 @@ ghost use mathlib.Core.Path.{_≡_};
 ghost use Prim.Native.Nat.{_+_, _<_};
 ghost use lib.ListN.{length};
 ghost use Rattle.sheets.specs.Text.{hex};
-ghost use Rattle.buffer.specs.Over.{overAt, IsUsize};
+ghost use Rattle.buffer.specs.Over.{IsUsize, PutAt};
 ghost use Rattle.hex.specs.Hex.{bytesOf, HasPair};
 ghost use lib.ListN.{getD};
 ghost use Rattle.little_endian.specs.Word.{wordValue, wordBytes, HasWord, fourAt};
@@ -42,8 +42,8 @@ fn word_bytes(n: u32) -> [u8; 4]
 // Writes the four bytes of n in hexadecimal from place at on, as much as fits; the place after them.
 pub fn put_word(out: &mut [u8], at: usize, n: u32) -> usize
     requires { ⌜ IsUsize (at + length (hex (wordBytes n))) ⌝ }
-    ensures { λ r. ⌜ (r ≡ at + length (hex (wordBytes n))) × (now (out .exit) ≡ overAt at (hex (wordBytes n)) (now (out .entry))) ⌝ }
+    ensures { λ r. ⌜ PutAt at (hex (wordBytes n)) r (now (out .entry)) (now (out .exit)) ⌝ }
 {
     let b = word_bytes(n);
-    put_hex::put_hex(out, at, &b)
+    hex::put::put_hex(out, at, &b)
 }

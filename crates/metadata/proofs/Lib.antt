@@ -1,3 +1,6 @@
+pub mod TextLaws
+pub mod EntryLaws
+pub mod PutLaws
 pub mod KeepLaws
 pub mod WalkLaws
 pub mod MeaningLaws

@@ -1,9 +1,9 @@
 -- The whole of `metadata_from_bytes`: the count, the pairs after it, and their entries in order of keys. Assumes nothing.
-use mathlib.Core.Path.{_≡_, refl, sym, ap, ap₂, subst, _∙_}
+use mathlib.Core.Path.{_≡_, refl, sym, ap, subst, _∙_}
 use mathlib.Core.Bool.{Bool, true, false, cond}
 use mathlib.Core.List.{List, [], _∷_, map}
 use mathlib.Core.Option.{Option, some}
-use Prim.Native.Nat.{ℕ, _%_, _^_, _≤_, _<_}
+use Prim.Native.Nat.{ℕ, _^_, _≤_, _<_}
 use native.Mathlib.Omega.{arith}
 use lib.Dec.{ltb}
 use lib.ListN.{length, take, drop}
@@ -12,22 +12,21 @@ use Rattle.sheets.specs.Refusal.{badMetadata}
 use Rattle.sheets.specs.Rule.{Meets}
 use Rattle.sheets.specs.Bytes.{Bytes}
 use Rattle.sheets.specs.Answer.{Answer, refused, given, _>>=_}
-use Rattle.sheets.specs.Text.{hex}
 use Rattle.sheets.specs.Field.{Pair}
 use Rattle.sheets.specs.Demand3.{noReserved}
-use Rattle.sheets.specs.Metadata.{littleValue, takePairs, countOf, readBlock, ordinary, extensionOf, Extension, somePairs, meaning, metadataFromBytes}
+use Rattle.sheets.specs.Metadata.{littleValue, takePairs, countOf, readBlock, extensionOf, Extension, somePairs, meaning, metadataFromBytes}
 use Rattle.hex.specs.Hex.{isHex, bytesOf}
 use Rattle.hex.proofs.HexLaws.{twice-length}
 use Rattle.little_endian.specs.Word.{wordValue, fourAt}
-use Rattle.key_order.specs.Order.{keyAt, ordered}
-use Rattle.key_order.proofs.PairLaws.{Each, HexKey, each-ordered, ordered-hex-pairs}
+use Rattle.key_order.specs.Entry.{keyAt, Each}
+use Rattle.key_order.specs.Order.{ordered}
+use Rattle.key_order.proofs.PairLaws.{HexKey, each-ordered, ordered-hex-pairs}
 use Rattle.metadata.specs.declared.Metadata.{Metadata}
-use Rattle.read_pair.specs.Entry.{lengthAt, pairAt, pairsAt, Stands, EachStands}
-use Rattle.read_pair.specs.PairReading.{Block, RefusedWith}
-use Rattle.metadata.specs.Reading.{Keeps, Room, Means, kept}
-use Rattle.read_pair.proofs.TextLaws.{cut-given, cut-short, word-length}
-use Rattle.put_pairs.proofs.EntryLaws.{key-part, key-below}
-use Rattle.metadata.proofs.KeepLaws.{ordinary-kept, kept-free}
+use Rattle.metadata.specs.Entry.{lengthAt, pairAt, pairsAt, valueAt, EntryStands}
+use Rattle.metadata.specs.Reading.{Kept, keptOf, keptAt, keptPairs, meaningOf, meaningAt, EntriesStand}
+use Rattle.metadata.proofs.TextLaws.{cut-given, cut-short, word-length}
+use Rattle.metadata.proofs.EntryLaws.{key-text, key-below}
+use Rattle.metadata.proofs.KeepLaws.{kept-means}
 
 -- ── the count
 
@@ -46,7 +45,7 @@ module _ (m : Bytes) (n : ℕ) (e : n ≡ wordValue (fourAt m 0)) where
 abbrev pub afterCount : Bytes × Bytes → Answer (List Pair)
 afterCount p = takePairs (countOf (littleValue (p .0))) (p .1)
 
-pub block-pairs : (b : Bytes) → 4 ≤ length b → readBlock b ≡ takePairs (countOf (lengthAt b 0)) (drop 4 b)
+block-pairs : (b : Bytes) → 4 ≤ length b → readBlock b ≡ takePairs (countOf (lengthAt b 0)) (drop 4 b)
 unfolding lengthAt
 block-pairs b h = ap (λ (a : Answer (Bytes × Bytes)). a >>= afterCount) (cut-given 4 b h)
 
@@ -56,68 +55,50 @@ block-short b h = ap (λ (a : Answer (Bytes × Bytes)). a >>= afterCount) (cut-s
 abbrev pub told : Answer (List Pair) → Answer (Option (List Pair) × Option Extension)
 told a = a >>= λ ps. given (meaning ps)
 
-pub cut-off : (m : Bytes) → isHex m ≡ true → length m < 8 → RefusedWith (metadataFromBytes (some (bytesOf m))) 11
-cut-off m h l = (badMetadata, ap told (block-short (bytesOf m) (omega (arith, twice-length m h))), refl)
+module _ (m : Bytes) (h : isHex m ≡ true) where
+  pub cut-off : length m < 8 → refused badMetadata ≡ metadataFromBytes (some (bytesOf m))
+  cut-off l = sym (ap told (block-short (bytesOf m) (omega (arith, twice-length m h))))
 
-pub pairs-refused : (m : Bytes) → isHex m ≡ true → 8 ≤ length m → (n r : ℕ) → n ≡ countOf (lengthAt (bytesOf m) 0) → RefusedWith (takePairs n (drop 4 (bytesOf m))) r
-    → RefusedWith (metadataFromBytes (some (bytesOf m))) r
-pairs-refused m h l n r e (x, f, g) =
-    (x, ap told (block-pairs (bytesOf m) (omega (arith, twice-length m h)) ∙ ap (λ (i : ℕ). takePairs i (drop 4 (bytesOf m))) (sym e) ∙ f), g)
-
-pub pairs-given : (m : Bytes) → isHex m ≡ true → 8 ≤ length m → (n : ℕ) → n ≡ countOf (lengthAt (bytesOf m) 0) → (ps : List Pair) → takePairs n (drop 4 (bytesOf m)) ≡ given ps
-    → readBlock (bytesOf m) ≡ given ps
-pairs-given m h l n e ps f = block-pairs (bytesOf m) (omega (arith, twice-length m h)) ∙ ap (λ (i : ℕ). takePairs i (drop 4 (bytesOf m))) (sym e) ∙ f
+  -- what is kept of the block's pairs means what the block does
+  pub block-means : 8 ≤ length m → (n : ℕ) → n ≡ countOf (lengthAt (bytesOf m) 0) → (a : Answer Kept) → a ≡ keptPairs n (drop 4 (bytesOf m))
+      → (a >>= λ k. given (meaningOf k)) ≡ metadataFromBytes (some (bytesOf m))
+  block-means l n e a f =
+      ap (λ (x : Answer Kept). x >>= λ k. given (meaningOf k)) f
+      ∙ both (takePairs n (drop 4 (bytesOf m)))
+      ∙ ap (λ (i : ℕ). told (takePairs i (drop 4 (bytesOf m)))) e
+      ∙ sym (ap told (block-pairs (bytesOf m) (omega (arith, twice-length m h))))
+    where
+      both : (x : Answer (List Pair)) → ((x >>= λ ps. given (keptOf ps)) >>= λ k. given (meaningOf k)) ≡ told x
+      both (refused r) = refl
+      both (given ps) = ap given (kept-means ps)
 
 -- ── the order
 
 -- the keys of entries are their pairs', in hexadecimal
-key-text : (m : Bytes) → isHex m ≡ true → (e : ℕ) → Stands (bytesOf m) e → keyAt m e ≡ hex (pairAt (bytesOf m) e .0)
-unfolding keyAt
-key-text m h e s = key-part m h e s (e % 65536) refl
-
-hex-keys : (m : Bytes) → isHex m ≡ true → (es : List ℕ) → EachStands (bytesOf m) es → Each (HexKey (keyAt m) (pairAt (bytesOf m))) es
+hex-keys : (m : Bytes) → isHex m ≡ true → (es : List ℕ) → Each (EntryStands (bytesOf m)) es → Each (HexKey (keyAt m) (pairAt (bytesOf m))) es
 hex-keys m h [] s = tt
 hex-keys m h (e ∷ es) s = ((key-text m h e (s .0), key-below m h e (s .0)), hex-keys m h es (s .1))
 
-to-each : (b : Bytes) (l : List ℕ) → EachStands b l → Each (Stands b) l
-to-each b [] s = tt
-to-each b (e ∷ l) s = (s .0, to-each b l (s .1))
-
-of-each : (b : Bytes) (l : List ℕ) → Each (Stands b) l → EachStands b l
-of-each b [] s = tt
-of-each b (e ∷ l) s = (s .0, of-each b l (s .1))
-
-module _ (m : Bytes) (h : isHex m ≡ true) (es : List ℕ) (f : Metadata) (s : EachStands (bytesOf m) (take (f .count) es))
+-- n entries es' are the first of es in order of their keys
+module _ (m : Bytes) (h : isHex m ≡ true) (es : List ℕ) (f : Metadata) (w : EntriesStand (bytesOf m) es f)
     (n : ℕ) (es' : List ℕ) (e : take n es' ≡ ordered (keyAt m) (take (f .count) es)) where
-  pairs-ordered : (ps : List Pair) → pairsAt (bytesOf m) es (f .count) ≡ kept ps → pairsAt (bytesOf m) es' n ≡ ordinary ps
+  pub order-means : Meets (noReserved (pairsAt (bytesOf m) es (f .count)))
+      → meaningAt (bytesOf m) es' (record { count = n; name = f .name; more = f .more }) ≡ meaningOf (keptAt (bytesOf m) es f)
   unfolding pairsAt
-  pairs-ordered ps k =
-      ap (map (pairAt (bytesOf m))) e
-      ∙ ordered-hex-pairs (keyAt m) (pairAt (bytesOf m)) (take (f .count) es) (hex-keys m h (take (f .count) es) s) (subst (λ (l : List Pair). Meets (noReserved l)) (sym k) (kept-free ps))
-      ∙ ap ordinary k
-      ∙ ordinary-kept ps
+  order-means free =
+      ap (λ (l : List Pair). (somePairs l, extensionOf (valueAt (bytesOf m) (f .name)) (valueAt (bytesOf m) (f .more))))
+      (ap (map (pairAt (bytesOf m))) e ∙ ordered-hex-pairs (keyAt m) (pairAt (bytesOf m)) (take (f .count) es) (hex-keys m h (take (f .count) es) (w .entries .each)) free)
 
-  stand-ordered : EachStands (bytesOf m) (take n es')
-  stand-ordered =
-      subst (EachStands (bytesOf m)) (sym e)
-      (of-each (bytesOf m) (ordered (keyAt m) (take (f .count) es)) (each-ordered (Stands (bytesOf m)) (keyAt m) (take (f .count) es) (to-each (bytesOf m) (take (f .count) es) s)))
-
-  pub orders : n ≤ length es' → (ps : List Pair) → readBlock (bytesOf m) ≡ given ps → Keeps (bytesOf m) ps es f
-      → Means (bytesOf m) es' (record { count = n; name = f .name; more = f .more })
-  orders l ps r k =
+  pub order-stands : n ≤ length es' → EntriesStand (bytesOf m) es' (record { count = n; name = f .name; more = f .more })
+  order-stands l =
       record {
-        answer =
-            ap told r
-            ∙ ap₂ (λ (x : Option (List Pair)) (y : Option Extension). given (x, y))
-            (ap somePairs (sym (pairs-ordered ps (k .pairs))))
-            (ap₂ extensionOf (sym (k .name)) (sym (k .more)));
-        entries = record { count = l; each = stand-ordered };
-        hasName = k .hasName;
-        hasMore = k .hasMore;
+        entries =
+            record {
+              count = l;
+              each =
+                  subst (Each (EntryStands (bytesOf m))) (sym e)
+                  (each-ordered (EntryStands (bytesOf m)) (keyAt m) (take (f .count) es) (w .entries .each));
+            };
+        hasName = w .hasName;
+        hasMore = w .hasMore;
       }
-
--- ── room
-
--- 4096 entries are enough for any block
-pub enough-room : (m : Bytes) (es fs : List ℕ) → Block m → 4096 ≤ length es → 4096 ≤ length fs → Room m es fs
-enough-room m es fs b h k = record { block = b; entries = omega (arith, b .short); spare = omega (arith, b .short) }

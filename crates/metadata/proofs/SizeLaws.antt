@@ -1,33 +1,37 @@
--- The columns from a block are no longer than its text: a pair has 16 digits for its lengths there, and at most two separators in the column.
--- Assumes nothing.
-use mathlib.Core.Path.{_≡_, sym, ap, _∙_}
+-- Sizes by the length of a block's text: a pair has 16 digits for its lengths there, and at most two separators in the column. So there are few
+-- entries, and the columns from a block are no longer than its text. Assumes nothing.
+use mathlib.Core.Path.{_≡_, sym, ap, subst, _∙_}
 use mathlib.Core.Bool.{Bool, true, false, cond}
 use mathlib.Core.List.{List, [], _∷_}
 use mathlib.Core.Option.{Option, none, some}
-use Prim.Native.Nat.{ℕ, zero, suc, _+_, _*_, _/_, _%_, _^_, _≤_}
+use Prim.Native.Nat.{ℕ, zero, suc, _+_, _*_, _/_, _^_, _≤_}
 use native.Mathlib.Omega.{arith}
 use lib.Dec.{eqb, ltb}
 use lib.ListN.{length, take, drop, length-append, length-take, length-drop}
 use Rattle.sheets.specs.Refusal.{notUtf8, badMetadata}
-use Rattle.sheets.specs.Rule.{is}
+use Rattle.sheets.specs.Rule.{is, Meets}
 use Rattle.sheets.specs.Bytes.{Bytes, equals, same}
 use Rattle.sheets.specs.Answer.{given, _>>=_, when}
 use Rattle.sheets.specs.Utf8.{isUtf8}
 use Rattle.sheets.specs.Text.{hex, writeText}
 use Rattle.sheets.specs.Field.{Pair, before}
 use Rattle.sheets.specs.FieldSheet.{writeList, pairText}
+use Rattle.sheets.specs.Demand3.{noReserved}
 use Rattle.sheets.specs.Metadata.{littleValue, cutAt, takeText, takePairs, countOf, readBlock, reserved, insertNew, ordinary, Extension, somePairs, meaning, metadataFromBytes}
-use Rattle.sheets.proofs.Tests.{first-gave, met-when}
+use Rattle.sheets.proofs.Tests.{not-given, same-given, first-gave, met-when}
 use Rattle.hex.specs.Hex.{isHex, bytesOf}
 use Rattle.hex.proofs.HexLaws.{twice-length}
 use Rattle.hex.proofs.PartLaws.{length-hex}
+use Rattle.key_order.specs.Entry.{startOf, sizeOf}
 use Rattle.metadata.specs.declared.Metadata.{Metadata}
-use Rattle.read_pair.specs.Entry.{lengthAt, pairFrom, pairAt, valueAt}
-use Rattle.metadata.specs.Reading.{Means}
-use Rattle.put_pairs.specs.Pairs.{pairsColumn, valueColumn}
-use Rattle.read_pair.proofs.TextLaws.{afterText, afterLength, then}
+use Rattle.metadata.specs.Entry.{lengthAt, pairFrom, pairAt, pairsAt, valueAt}
+use Rattle.metadata.specs.Reading.{Kept, keptOf, keptAt, keptPairs, meaningAt, EntriesStand}
+use Rattle.metadata.specs.Pairs.{pairsColumn, valueColumn}
+use Rattle.metadata.proofs.TextLaws.{afterText, afterLength, then}
 use Rattle.metadata.proofs.MeaningLaws.{afterCount}
-use Rattle.put_pairs.proofs.PutLaws.{afterCommas, joined}
+use Rattle.metadata.proofs.PutLaws.{afterCommas, joined}
+use Rattle.metadata.proofs.KeepLaws.{kept-free}
+use Rattle.metadata.proofs.WalkLaws.{few-entries}
 
 -- the bytes that the pairs take in a block
 abbrev weight : List Pair → ℕ
@@ -36,19 +40,16 @@ weight (p ∷ ps) = 8 + length (p .0) + length (p .1) + weight ps
 
 -- ── what is read is as long as the pairs
 
-is-given : {A : Type 0} (a c : A) → given a ≡ given c → a ≡ c
-is-given a c h = cc
-
 cut-size : (n : ℕ) (l h r : Bytes) → cutAt n l ≡ given (h, r) → (length h ≡ n) × (length h + length r ≡ length l)
 cut-size zero l h r e =
-    let p = is-given {A = Bytes × Bytes} ([], l) (h, r) e in
+    let p = same-given {A = Bytes × Bytes} {a = ([], l)} {b = (h, r)} e in
     let u : 0 ≡ length h = ap (λ (q : Bytes × Bytes). length (q .0)) p in
     (sym u, omega (arith, u, ap (λ (q : Bytes × Bytes). length (q .1)) p))
-cut-size (suc n) [] h r e = let z : _≡_ {A = ℕ} 0 1 = cc in absurd (omega arith)
+cut-size (suc n) [] h r e = not-given e
 cut-size (suc n) (x ∷ l) h r e =
     let (a, f, g) = first-gave (cutAt n l) (λ (p : Bytes × Bytes). given (x ∷ p .0, p .1)) (h, r) e in
     let s = cut-size n l (a .0) (a .1) f in
-    let p = is-given {A = Bytes × Bytes} (x ∷ a .0, a .1) (h, r) g in
+    let p = same-given {A = Bytes × Bytes} {a = (x ∷ a .0, a .1)} {b = (h, r)} g in
     let u = ap (λ (q : Bytes × Bytes). length (q .0)) p in
     let v = ap (λ (q : Bytes × Bytes). length (q .1)) p in
     (omega (arith, s .0, u), omega (arith, s .1, u, v))
@@ -64,12 +65,12 @@ text-size bs t r e =
     omega (arith, s .0, s .1, w .1, ap (λ (q : Bytes × Bytes). length (q .0)) p, ap (λ (q : Bytes × Bytes). length (q .1)) p)
 
 pairs-size : (n : ℕ) (bs : Bytes) (ps : List Pair) → takePairs n bs ≡ given ps → weight ps ≤ length bs
-pairs-size zero bs ps e = let p = is-given {A = List Pair} [] ps e in omega (arith, ap weight p)
+pairs-size zero bs ps e = let p = same-given {A = List Pair} {a = []} {b = ps} e in omega (arith, ap weight p)
 pairs-size (suc n) bs ps e =
     let (k, f, g) = first-gave (takeText bs) (λ (k : Bytes × Bytes). takeText (k .1) >>= λ (v : Bytes × Bytes). then n (k .0, v .0) (v .1)) ps e in
     let (v, x, y) = first-gave (takeText (k .1)) (λ (v : Bytes × Bytes). then n (k .0, v .0) (v .1)) ps g in
     let (qs, z, w) = first-gave (takePairs n (v .1)) (λ (qs : List Pair). given ((k .0, v .0) ∷ qs)) ps y in
-    let p = is-given {A = List Pair} ((k .0, v .0) ∷ qs) ps w in
+    let p = same-given {A = List Pair} {a = ((k .0, v .0) ∷ qs)} {b = ps} w in
     omega (arith, text-size bs (k .0) (k .1) f, text-size (k .1) (v .0) (v .1) x, pairs-size n (v .1) qs z, ap weight p)
 
 block-size : (b : Bytes) (ps : List Pair) → readBlock b ≡ given ps → 4 + weight ps ≤ length b
@@ -77,6 +78,27 @@ block-size b ps e =
     let (a, f, g) = first-gave (cutAt 4 b) afterCount ps e in
     let s = cut-size 4 b (a .0) (a .1) f in
     omega (arith, s .0, s .1, pairs-size (countOf (littleValue (a .0))) (a .1) ps g)
+
+-- ── the entries that are kept
+
+pairs-few : (ps : List Pair) → 8 * length ps ≤ weight ps
+pairs-few [] = omega arith
+pairs-few (p ∷ ps) = omega (arith, pairs-few ps)
+
+module _ (m : Bytes) (h : isHex m ≡ true) (n : ℕ) (es : List ℕ) (f : Metadata) (e : given (keptAt (bytesOf m) es f) ≡ keptPairs n (drop 4 (bytesOf m))) where
+  -- they are so few that an entry for each 16 digits is enough
+  pub kept-few : EntriesStand (bytesOf m) es f → f .count ≤ length m / 16
+  kept-few w =
+      let (ps, x, y) = first-gave (takePairs n (drop 4 (bytesOf m))) (λ ps. given (keptOf ps)) (keptAt (bytesOf m) es f) (sym e) in
+      let k = same-given {A = Kept} {a = (keptOf ps)} {b = (keptAt (bytesOf m) es f)} y in
+      omega (arith, few-entries (bytesOf m) es f ps w (sym k), pairs-few ps, pairs-size n (drop 4 (bytesOf m)) ps x, length-drop 4 (bytesOf m), twice-length m h)
+
+  -- and none of their keys is reserved
+  pub kept-unreserved : Meets (noReserved (pairsAt (bytesOf m) es (f .count)))
+  kept-unreserved =
+      let (ps, x, y) = first-gave (takePairs n (drop 4 (bytesOf m))) (λ ps. given (keptOf ps)) (keptAt (bytesOf m) es f) (sym e) in
+      let k = same-given {A = Kept} {a = (keptOf ps)} {b = (keptAt (bytesOf m) es f)} y in
+      subst (λ (q : Kept). Meets (noReserved (q .pairs))) k (kept-free ps)
 
 -- ── in order there are no more
 
@@ -115,7 +137,7 @@ column-size (p ∷ ps) = omega (arith, ap length (joined p ps), length-append (p
 pub pairs-short : (b : Bytes) (x : Option (List Pair)) (e : Option Extension) → metadataFromBytes (some b) ≡ given (x, e) → 7 + length (writeList pairText x) ≤ 2 * length b
 pairs-short b x e h =
     let (ps, f, g) = first-gave (readBlock b) (λ (ps : List Pair). given (meaning ps)) (x, e) h in
-    let p = is-given {A = Option (List Pair) × Option Extension} (meaning ps) (x, e) g in
+    let p = same-given {A = Option (List Pair) × Option Extension} {a = (meaning ps)} {b = (x, e)} g in
     omega (
       arith,
       block-size b ps f,
@@ -125,9 +147,10 @@ pairs-short b x e h =
     )
 
 -- the same of the entries that `metadata_from_bytes` leaves
-pub column-short : (m : Bytes) → isHex m ≡ true → (es : List ℕ) (f : Metadata) → Means (bytesOf m) es f → 7 + length (pairsColumn (bytesOf m) es (f .count)) ≤ length m
+pub column-short : (m : Bytes) → isHex m ≡ true → (es : List ℕ) (f : Metadata) → given (meaningAt (bytesOf m) es f) ≡ metadataFromBytes (some (bytesOf m))
+    → 7 + length (pairsColumn (bytesOf m) es (f .count)) ≤ length m
 unfolding pairsColumn
-column-short m h es f r = omega (arith, twice-length m h, pairs-short (bytesOf m) _ _ (r .answer))
+column-short m h es f r = omega (arith, twice-length m h, pairs-short (bytesOf m) _ _ (sym r))
 
 -- ── a value
 
@@ -144,7 +167,7 @@ from-short b k n = omega (arith, take-short (lengthAt b (k + n)) (drop (k + n + 
 
 pair-short : (b : Bytes) (e : ℕ) → length (pairAt b e .1) ≤ length b
 unfolding pairAt
-pair-short b e = from-short b (e / 65536 / 2) (e % 65536 / 2)
+pair-short b e = from-short b (startOf e / 2) (sizeOf e / 2)
 
 -- the column of an entry's value is no longer than the block's text and one byte
 pub value-short : (m : Bytes) → isHex m ≡ true → (e : ℕ) → length (valueColumn (bytesOf m) e) ≤ 1 + length m

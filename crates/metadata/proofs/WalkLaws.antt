@@ -1,22 +1,50 @@
--- The walk over a block's pairs: after i of them, the block's pairs are those that were read and then those from the walk's place on. Assumes nothing.
+-- The walk over a block's pairs: after i of them, the block's pairs are those that were read and then those from the walk's place on, and the entries
+-- say what is kept of those that were read. Assumes nothing.
 use mathlib.Core.Path.{_≡_, refl, sym, ap, _∙_}
-use mathlib.Core.List.{List, [], _∷_, _++_, append-assoc, append-nil}
+use mathlib.Core.Bool.{Bool, true, false, cond}
+use mathlib.Core.List.{List, [], _∷_, _++_, map, append-assoc, append-nil}
 use Prim.Native.Nat.{ℕ, suc, _+_, _-_, _*_, _/_, _≤_, _<_}
 use native.Mathlib.Omega.{arith}
-use lib.ListN.{length, drop}
+use lib.ListN.{length, drop, take, length-append}
+use lib.Seq.{length-take-le}
+use Rattle.sheets.specs.Refusal.{Refusal}
 use Rattle.sheets.specs.Bytes.{Bytes}
 use Rattle.sheets.specs.Answer.{Answer, refused, given, _>>=_}
 use Rattle.sheets.specs.Field.{Pair}
-use Rattle.sheets.specs.Metadata.{takePairs}
+use Rattle.sheets.specs.Metadata.{takePairs, reserved}
 use Rattle.hex.specs.Hex.{bytesOf}
 use Rattle.hex.proofs.HexLaws.{twice-length}
+use Rattle.key_order.specs.Entry.{entryOf, IsEntry}
 use Rattle.metadata.specs.declared.Metadata.{Metadata}
-use Rattle.read_pair.specs.Entry.{entryOf, pairFrom, pairAt, IsEntry, Stands}
-use Rattle.read_pair.specs.PairReading.{Block, RefusedWith, PairBetween}
-use Rattle.metadata.specs.Reading.{Keeps, Adds}
-use Rattle.read_pair.proofs.TextLaws.{pair-read}
-use Rattle.put_pairs.proofs.EntryLaws.{pair-of-entry, stands}
-use Rattle.metadata.proofs.KeepLaws.{keeps-none}
+use Rattle.metadata.specs.Entry.{pairFrom, pairAt, pairsAt, EntryStands}
+use Rattle.metadata.specs.PairReading.{Block, pairPlaces}
+use Rattle.metadata.specs.Reading.{Kept, unreserved, keptOf, keptAt, keptPairs, EntriesStand, Adds}
+use Rattle.metadata.proofs.TextLaws.{PairBetween, pair-refused, pair-read}
+use Rattle.metadata.proofs.EntryLaws.{pair-of-entry, entry-stands}
+use Rattle.metadata.proofs.KeepLaws.{nothing, kept-none, none-stand}
+
+-- ── there are no more entries than pairs
+
+unreserved-few : (ps : List Pair) → length (unreserved ps) ≤ length ps
+unreserved-few [] = omega arith
+unreserved-few (p ∷ ps) = pick (reserved (p .0)) (unreserved-few ps)
+  where
+    pick : (t : Bool) → length (unreserved ps) ≤ length ps → length (cond t (unreserved ps) (p ∷ unreserved ps)) ≤ suc (length ps)
+    pick true h = omega arith
+    pick false h = omega arith
+
+pairs-count : (b : Bytes) (es : List ℕ) (n : ℕ) → n ≤ length es → length (pairsAt b es n) ≡ n
+unfolding pairsAt
+pairs-count b es n h = count (take n es) ∙ length-take-le n es h
+  where
+    count : (l : List ℕ) → length (map (pairAt b) l) ≡ length l
+    count [] = refl
+    count (e ∷ l) = ap suc (count l)
+
+pub few-entries : (b : Bytes) (es : List ℕ) (f : Metadata) (ps : List Pair) → EntriesStand b es f → keptAt b es f ≡ keptOf ps → f .count ≤ length ps
+few-entries b es f ps w k = omega (arith, pairs-count b es (f .count) (w .entries .count), ap (λ (k : Kept). length (k .pairs)) k, unreserved-few ps)
+
+-- ── the walk
 
 -- pairs, and then those of an answer
 abbrev andThen : List Pair → Answer (List Pair) → Answer (List Pair)
@@ -35,11 +63,12 @@ pub record Walking (m : Bytes) (n size : ℕ) (es : List ℕ) (f : Metadata) (k 
   pub room : length es ≡ size
   pub turns : i ≤ n
   pub place : 2 * k ≤ length m
-  pub counted : 8 * f .count + 4 ≤ k
-  pub keeps : Keeps (bytesOf m) pairs es f
+  pub counted : 8 * length pairs + 4 ≤ k
+  pub standing : EntriesStand (bytesOf m) es f
+  pub keeps : keptAt (bytesOf m) es f ≡ keptOf pairs
   pub read : takePairs n (drop 4 (bytesOf m)) ≡ andThen pairs (takePairs (n - i) (drop k (bytesOf m)))
 
-pub walk-start : (m : Bytes) (n : ℕ) (es : List ℕ) → 8 ≤ length m → Walking m n (length es) es (record { count = 0; name = 0; more = 0 }) 4 0
+pub walk-start : (m : Bytes) (n : ℕ) (es : List ℕ) → 8 ≤ length m → Walking m n (length es) es nothing 4 0
 walk-start m n es h =
     record {
       pairs = [];
@@ -47,7 +76,8 @@ walk-start m n es h =
       turns = omega arith;
       place = h;
       counted = omega arith;
-      keeps = keeps-none (bytesOf m) es;
+      standing = none-stand (bytesOf m) es;
+      keeps = kept-none (bytesOf m) es;
       read = then-nothing (takePairs n (drop 4 (bytesOf m))) ∙ ap (λ (j : ℕ). andThen [] (takePairs j (drop 4 (bytesOf m)))) none-yet;
     }
   where
@@ -55,46 +85,50 @@ walk-start m n es h =
     none-yet = omega arith
 
 module _ (m : Bytes) (n size : ℕ) (es : List ℕ) (f : Metadata) (k i : ℕ) (w : Walking m n size es f k i) where
-  pub walk-end : n ≤ i → (ps : List Pair) × (takePairs n (drop 4 (bytesOf m)) ≡ given ps) × Keeps (bytesOf m) ps es f
+  pub walk-end : n ≤ i → given (keptAt (bytesOf m) es f) ≡ keptPairs n (drop 4 (bytesOf m))
   walk-end l =
       let z : n - i ≡ 0 = omega arith in
-      (w .pairs, w .read ∙ ap (λ (j : ℕ). andThen (w .pairs) (takePairs j (drop k (bytesOf m)))) z ∙ ap given (append-nil (w .pairs)), w .keeps)
+      let all : takePairs n (drop 4 (bytesOf m)) ≡ given (w .pairs) = w .read ∙ ap (λ (j : ℕ). andThen (w .pairs) (takePairs j (drop k (bytesOf m)))) z ∙ ap given (append-nil (w .pairs)) in
+      ap given (w .keeps) ∙ sym (ap (λ (a : Answer (List Pair)). a >>= λ ps. given (keptOf ps)) all)
 
   module _ (l : i < n) where
     rest : takePairs n (drop 4 (bytesOf m)) ≡ andThen (w .pairs) (takePairs (suc (n - (i + 1))) (drop k (bytesOf m)))
     rest = let z : n - i ≡ suc (n - (i + 1)) = omega arith in w .read ∙ ap (λ (j : ℕ). andThen (w .pairs) (takePairs j (drop k (bytesOf m)))) z
 
-    pub walk-refused : (r : ℕ) → ((c : ℕ) → RefusedWith (takePairs (suc c) (drop k (bytesOf m))) r) → RefusedWith (takePairs n (drop 4 (bytesOf m))) r
-    walk-refused r h = let (x, e, g) = h (n - (i + 1)) in (x, rest ∙ ap (andThen (w .pairs)) e, g)
+    pub walk-refused : (q : Refusal) → pairPlaces (bytesOf m) k ≡ refused q → refused q ≡ keptPairs n (drop 4 (bytesOf m))
+    walk-refused q h =
+        sym (ap (λ (a : Answer (List Pair)). a >>= λ ps. given (keptOf ps)) (rest ∙ ap (andThen (w .pairs)) (pair-refused (bytesOf m) k q h (n - (i + 1)))))
 
     module _ (b : Block m) (key next : ℕ) (p : PairBetween (bytesOf m) k key next) where
       inside : 2 * (k + 4 + key + 4) ≤ length m
       inside = omega (arith, p .value .within, twice-length m (b .isText))
 
-      pub is-entry-size : IsEntry (k + 4) key
-      is-entry-size = (omega (arith, inside, b .short), omega (arith, inside, b .short))
+      pub is-entry : IsEntry (2 * (k + 4)) (2 * key)
+      is-entry = (omega (arith, inside, b .short), omega (arith, inside, b .short))
 
-      pub entry-stands : Stands (bytesOf m) (entryOf (k + 4) key)
-      entry-stands = stands (bytesOf m) k key next (is-entry-size .1) p
+      pub stands : EntryStands (bytesOf m) (entryOf (2 * (k + 4)) (2 * key))
+      stands = entry-stands (bytesOf m) k key next (is-entry .1) p
 
       pub room-left : length m / 16 ≤ size → f .count < length es
-      room-left h = omega (arith, inside, w .counted, w .room)
+      room-left h = omega (arith, inside, w .counted, w .room, few-entries (bytesOf m) es f (w .pairs) (w .standing) (w .keeps))
 
-      is-pair : pairFrom (bytesOf m) (k + 4) key ≡ pairAt (bytesOf m) (entryOf (k + 4) key)
-      is-pair = sym (pair-of-entry (bytesOf m) (k + 4) key (is-entry-size .1))
+      is-pair : pairFrom (bytesOf m) (k + 4) key ≡ pairAt (bytesOf m) (entryOf (2 * (k + 4)) (2 * key))
+      is-pair = sym (pair-of-entry (bytesOf m) (k + 4) key (is-entry .1))
 
-      pub walk-next : (es' : List ℕ) (g : Metadata) → length es' ≡ length es → Adds (bytesOf m) es f (entryOf (k + 4) key) es' g → Walking m n size es' g next (i + 1)
+      pub walk-next : (es' : List ℕ) (g : Metadata) → length es' ≡ length es → Adds (bytesOf m) es f (entryOf (2 * (k + 4)) (2 * key)) es' g → Walking m n size es' g next (i + 1)
       walk-next es' g e a =
+          let q = pairAt (bytesOf m) (entryOf (2 * (k + 4)) (2 * key)) in
           record {
-            pairs = w .pairs ++ (pairAt (bytesOf m) (entryOf (k + 4) key) ∷ []);
+            pairs = w .pairs ++ (q ∷ []);
             room = e ∙ w .room;
             turns = omega arith;
             place = omega (arith, p .end, p .value .within, twice-length m (b .isText));
-            counted = omega (arith, p .end, w .counted, a .0);
+            counted = omega (arith, p .end, w .counted, length-append (w .pairs) (q ∷ []));
+            standing = a .0;
             keeps = a .1 (w .pairs) (w .keeps);
             read =
                 rest
                 ∙ ap (andThen (w .pairs)) (pair-read (bytesOf m) k key next p (n - (i + 1)))
-                ∙ ap (λ (q : Pair). andThen (w .pairs) (takePairs (n - (i + 1)) (drop next (bytesOf m)) >>= λ qs. given (q ∷ qs))) is-pair
-                ∙ then-one (w .pairs) (pairAt (bytesOf m) (entryOf (k + 4) key)) (takePairs (n - (i + 1)) (drop next (bytesOf m)));
+                ∙ ap (λ (r : Pair). andThen (w .pairs) (takePairs (n - (i + 1)) (drop next (bytesOf m)) >>= λ qs. given (r ∷ qs))) is-pair
+                ∙ then-one (w .pairs) q (takePairs (n - (i + 1)) (drop next (bytesOf m)));
           }

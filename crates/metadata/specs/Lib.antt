@@ -1,1 +1,4 @@
+pub mod Entry
+pub mod PairReading
+pub mod Pairs
 pub mod Reading

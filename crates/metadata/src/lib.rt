@@ -1,19 +1,19 @@
 // `metadata_from_bytes` over the hexadecimal text of a schema line's metadata, in place: pairs are entries, numbers that say where they stand.
+pub mod pair;
+pub mod put;
+
 ghost use mathlib.Core.Path.{_≡_};
 ghost use mathlib.Core.Bool.{true};
+ghost use mathlib.Core.Option.{some};
+ghost use lib.ListN.{drop};
 ghost use Rattle.sheets.specs.Bytes.{same};
-ghost use Rattle.sheets.specs.Metadata.{countOf, nameKey, metadataKey};
+ghost use Rattle.sheets.specs.Metadata.{countOf, nameKey, metadataKey, metadataFromBytes};
 ghost use Rattle.hex.specs.Hex.{isHex, bytesOf};
 ghost use Rattle.little_endian.specs.Word.{HasWord};
-ghost use Rattle.read_pair.specs.Entry.{lengthAt, entryOf, IsEntry};
-ghost use Rattle.metadata.specs.Reading.{kindOf, RoomFor, Adds, CanOrder, Orders, Room, HasCount, Walks, Reads};
-use read_pair::PairRead;
-
-enum KeyKind {
-    Name,
-    More,
-    Ordinary,
-}
+ghost use Rattle.metadata.specs.Entry.{lengthAt};
+ghost use Rattle.metadata.specs.Reading.{keptPairs, keptAt, meaningOf, meaningAt, keptAnswer, metadataAnswer, EntriesStand, MetadataStands, Adds, RoomFor, Room, HasCount, CanOrder};
+use crate::pair::PairRead;
+use refusal::Refusal;
 
 // The first `count` entries are the pairs; `name` and `more` are the entries of the extension's name and metadata, or 0.
 pub struct Metadata {
@@ -22,10 +22,9 @@ pub struct Metadata {
     pub more: u32,
 }
 
-// A block, or the number of the refusal.
 pub enum MetadataRead {
     Found(Metadata),
-    Refused(u8),
+    Refused(Refusal),
 }
 
 // The length is tested first: most keys need no more.
@@ -49,58 +48,40 @@ fn is_more(text: &[u8]) -> bool
     hex::says(text, b"ARROW:extension:metadata")
 }
 
-fn key_kind(text: &[u8]) -> KeyKind
-    requires { ⌜ isHex (now text) ≡ true ⌝ }
-    ensures { λ r. ⌜ r ≡ kindOf (bytesOf (now (text .entry))) ⌝ }
-{
-    if is_name(text) {
-        return KeyKind::Name;
-    }
-    if is_more(text) {
-        return KeyKind::More;
-    }
-    KeyKind::Ordinary
-}
-
 // The reserved keys do not become pairs; of equal ones the last is kept.
 fn keep(m: &[u8], entries: &mut [u32], f: Metadata, e: u32) -> Metadata
     requires { ⌜ RoomFor (now m) (now entries) f e ⌝ }
     ensures { λ r. ⌜ Adds (bytesOf (now (m .entry))) (now (entries .entry)) f e (now (entries .exit)) r ⌝ }
 {
     let count = f.count;
-    match key_kind(put_pairs::key_of(m, e)) {
-        KeyKind::Name => Metadata {
+    let key = key_order::key_of(m, e);
+    if is_name(key) {
+        return Metadata {
             count,
             name: e,
             more: f.more,
-        },
-        KeyKind::More => Metadata {
+        };
+    }
+    if is_more(key) {
+        return Metadata {
             count,
             name: f.name,
             more: e,
-        },
-        KeyKind::Ordinary => {
-            entries[count] = e;
-            Metadata {
-                count: count + 1,
-                name: f.name,
-                more: f.more,
-            }
-        }
+        };
     }
-}
-
-fn entry_of(k: usize, n: usize) -> u32
-    requires { ⌜ IsEntry k n ⌝ }
-    ensures { λ r. ⌜ r ≡ entryOf k n ⌝ }
-{
-    (2 * k * 65536 + 2 * n) as u32
+    entries[count] = e;
+    Metadata {
+        count: count + 1,
+        name: f.name,
+        more: f.more,
+    }
 }
 
 // Reads n pairs, each once: tests them and records their entries.
 fn walk(m: &[u8], n: u32, entries: &mut [u32]) -> MetadataRead
     requires { ⌜ HasCount (now m) (now entries) ⌝ }
-    ensures { λ r. ⌜ Walks (bytesOf (now (m .entry))) n (now (entries .exit)) r ⌝ }
+    ensures { λ r. ⌜ keptAnswer (bytesOf (now (m .entry))) (now (entries .exit)) r ≡ keptPairs n (drop 4 (bytesOf (now (m .entry)))) ⌝ }
+    ensures { λ r. ⌜ MetadataStands (bytesOf (now (m .entry))) (now (entries .exit)) r ⌝ }
 {
     let mut f = Metadata {
         count: 0,
@@ -110,10 +91,10 @@ fn walk(m: &[u8], n: u32, entries: &mut [u32]) -> MetadataRead
     let mut k = 4;
     let mut i = 0;
     while i < n {
-        match read_pair::read_pair(m, k) {
-            PairRead::Refused(r) => return MetadataRead::Refused(r),
+        match crate::pair::read_pair(m, k) {
+            PairRead::Refused(q) => return MetadataRead::Refused(q),
             PairRead::Between(size, next) => {
-                f = keep(m, entries, f, entry_of(k + 4, size));
+                f = keep(m, entries, f, key_order::entry_of(2 * (k + 4), 2 * size));
                 k = next;
                 i += 1;
             }
@@ -122,6 +103,7 @@ fn walk(m: &[u8], n: u32, entries: &mut [u32]) -> MetadataRead
     MetadataRead::Found(f)
 }
 
+// "A count of 0 or less gives no pairs": a negative one is 2147483648 or more.
 fn count_of(m: &[u8]) -> u32
     requires { ⌜ HasWord (now m) 0 ⌝ }
     ensures { λ r. ⌜ r ≡ countOf (lengthAt (bytesOf (now (m .entry))) 0) ⌝ }
@@ -136,9 +118,10 @@ fn count_of(m: &[u8]) -> u32
 // Puts the entries into the order of their keys.
 fn in_order(m: &[u8], entries: &mut [u32], spare: &mut [u32], f: Metadata) -> Metadata
     requires { ⌜ CanOrder (now m) (now entries) (now spare) f ⌝ }
-    ensures { λ r. ⌜ Orders (bytesOf (now (m .entry))) (now (entries .entry)) f (now (entries .exit)) r ⌝ }
+    ensures { λ r. ⌜ meaningAt (bytesOf (now (m .entry))) (now (entries .exit)) r ≡ meaningOf (keptAt (bytesOf (now (m .entry))) (now (entries .entry)) f) ⌝ }
+    ensures { λ r. ⌜ EntriesStand (bytesOf (now (m .entry))) (now (entries .exit)) r ⌝ }
 {
-    let count = sort_keys::sort_keys(m, entries, spare, f.count);
+    let count = key_order::sort::sort_keys(m, entries, spare, f.count);
     Metadata {
         count,
         name: f.name,
@@ -149,13 +132,14 @@ fn in_order(m: &[u8], entries: &mut [u32], spare: &mut [u32], f: Metadata) -> Me
 // The pairs and the extension of a metadata block in hexadecimal text.
 pub fn metadata_from_bytes(m: &[u8], entries: &mut [u32], spare: &mut [u32]) -> MetadataRead
     requires { ⌜ Room (now m) (now entries) (now spare) ⌝ }
-    ensures { λ r. ⌜ Reads (bytesOf (now (m .entry))) (now (entries .exit)) r ⌝ }
+    ensures { λ r. ⌜ metadataAnswer (bytesOf (now (m .entry))) (now (entries .exit)) r ≡ metadataFromBytes (some (bytesOf (now (m .entry)))) ⌝ }
+    ensures { λ r. ⌜ MetadataStands (bytesOf (now (m .entry))) (now (entries .exit)) r ⌝ }
 {
     if m.len() < 8 {
-        return MetadataRead::Refused(11);
+        return MetadataRead::Refused(Refusal::BadMetadata);
     }
     match walk(m, count_of(m), entries) {
-        MetadataRead::Refused(r) => MetadataRead::Refused(r),
+        MetadataRead::Refused(q) => MetadataRead::Refused(q),
         MetadataRead::Found(f) => MetadataRead::Found(in_order(m, entries, spare, f)),
     }
 }

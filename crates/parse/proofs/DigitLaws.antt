@@ -15,7 +15,7 @@ use Rattle.sheets.specs.Bytes.{Bytes, all}
 use Rattle.sheets.specs.Number.{isDigit, valueFrom}
 use Rattle.sheets.specs.Format.{unsigned}
 use Rattle.sheets.proofs.Tests.{first-gave, met-when}
-use Rattle.digit.specs.Digits.{digitsBelow}
+use Rattle.decimal.specs.Digits.{digitsBelow}
 use Rattle.parse.specs.Parse.{numberBelow}
 
 -- no byte at all, and one or more

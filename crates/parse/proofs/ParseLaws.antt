@@ -1,36 +1,20 @@
--- `readSize` and `readId` of document 01's definitions through `numberBelow`, and signed numbers at any width. Assumes nothing.
+-- `readSize` and `readId` of document 01's definitions through `numberBelow`. Assumes nothing.
 use mathlib.Core.Path.{_≡_, refl, sym, ap, _∙_}
 use mathlib.Core.Bool.{Bool, true, false}
 use mathlib.Core.List.{[], _∷_}
-use Prim.Native.Nat.{ℕ, zero, suc, _+_, _-_, _^_, _≤_, _<_}
-use native.Mathlib.Nat.{not-suc-le-zero, zero-add}
+use Prim.Native.Nat.{ℕ, _+_, _^_, _<_}
+use native.Mathlib.Nat.{not-suc-le-zero}
 use native.Mathlib.Omega.{arith}
 use lib.Dec.{leb, ltb}
-use lib.IntN.{ℤ, pos, negsuc, _-ℤ_}
+use lib.IntN.{ℤ, pos}
 use lib.ListN.{length, getD, drop}
-use lib.Pow.{pow-pos}
-use mir.Syntax.{Width}
-use mir.Val.{hbits, SFits}
 use borrow.Author.Tests.{leb-true, leb-false, lt-ltb, le-ltb, eq-eqb, ne-eqb}
 use Rattle.sheets.specs.Refusal.{badNumber}
 use Rattle.sheets.specs.Answer.{Answer, refused, given, _>>=_, decide}
 use Rattle.sheets.specs.Bytes.{Bytes}
 use Rattle.sheets.specs.Format.{unsigned, dropPlus, readSize, minus, readId}
 use Rattle.sheets.proofs.Tests.{chain-same}
-use Rattle.parse.specs.Parse.{sizeOf, idOf, numberBelow}
-use Rattle.parse.proofs.DigitLaws.{within-limit}
-use Rattle.parse.specs.declared.Size.the-variants as S
-use Rattle.parse.specs.declared.Id.the-variants as I
-
--- ── what an answer tells of what was read
-
-is-given : (a : Answer ℕ) (n : ℕ) → sizeOf a ≡ S.Value n → a ≡ given n
-is-given (refused r) n e = cc
-is-given (given m) n e = cc
-
-is-refused : (a : Answer ℕ) (f : ℕ → ℤ) → sizeOf a ≡ S.Bad → idOf (a >>= λ n. given (f n)) ≡ I.Bad
-is-refused (refused r) f e = refl
-is-refused (given m) f e = cc
+use Rattle.parse.specs.Parse.{numberBelow}
 
 -- ── the plus
 
@@ -85,34 +69,15 @@ plain-id (x ∷ b) h e = rw (ne-eqb x 45 e) (made (unsigned (dropPlus (x ∷ b))
 
 -- ── the id by what the digits gave
 
-pub value-within : (limit n : ℕ) (b : Bytes) → sizeOf (numberBelow limit b) ≡ S.Value n → n < limit
-value-within limit n b e = within-limit limit b n (is-given (numberBelow limit b) n e)
-
 module _ (b : Bytes) (any : 0 < length b) where
-  pub minus-refused : getD b 0 0 ≡ 45 → sizeOf (numberBelow (2 ^ 31 + 1) (drop 1 b)) ≡ S.Bad → idOf (readId b) ≡ I.Bad
-  minus-refused h e = ap idOf (minus-id b any h) ∙ is-refused (numberBelow (2 ^ 31 + 1) (drop 1 b)) minus e
+  pub minus-refused : getD b 0 0 ≡ 45 → refused badNumber ≡ numberBelow (2 ^ 31 + 1) (drop 1 b) → refused badNumber ≡ readId b
+  minus-refused h e = ap (λ a. a >>= λ n. given (minus n)) e ∙ sym (minus-id b any h)
 
-  pub minus-given : (m : ℕ) → getD b 0 0 ≡ 45 → sizeOf (numberBelow (2 ^ 31 + 1) (drop 1 b)) ≡ S.Value m → idOf (readId b) ≡ I.Value (minus m)
-  minus-given m h e = ap idOf (minus-id b any h ∙ ap (λ a. a >>= λ n. given (minus n)) (is-given (numberBelow (2 ^ 31 + 1) (drop 1 b)) m e))
+  pub minus-given : (m : ℕ) → getD b 0 0 ≡ 45 → given m ≡ numberBelow (2 ^ 31 + 1) (drop 1 b) → given (minus m) ≡ readId b
+  minus-given m h e = ap (λ a. a >>= λ n. given (minus n)) e ∙ sym (minus-id b any h)
 
-  pub plain-refused : (p : Bytes) → p ≡ dropPlus b → (getD b 0 0 ≡ 45 → ⊥) → sizeOf (numberBelow (2 ^ 31) p) ≡ S.Bad → idOf (readId b) ≡ I.Bad
-  plain-refused p q h e =
-      ap idOf (plain-id b any h ∙ ap (λ x. numberBelow (2 ^ 31) x >>= λ n. given (pos n)) (sym q)) ∙ is-refused (numberBelow (2 ^ 31) p) pos e
+  pub plain-refused : (p : Bytes) → p ≡ dropPlus b → (getD b 0 0 ≡ 45 → ⊥) → refused badNumber ≡ numberBelow (2 ^ 31) p → refused badNumber ≡ readId b
+  plain-refused p q h e = ap (λ a. a >>= λ n. given (pos n)) (e ∙ ap (numberBelow (2 ^ 31)) q) ∙ sym (plain-id b any h)
 
-  pub plain-given : (p : Bytes) (n : ℕ) → p ≡ dropPlus b → (getD b 0 0 ≡ 45 → ⊥) → sizeOf (numberBelow (2 ^ 31) p) ≡ S.Value n → idOf (readId b) ≡ I.Value (pos n)
-  plain-given p n q h e =
-      ap idOf (plain-id b any h ∙ ap (λ x. numberBelow (2 ^ 31) x >>= λ n. given (pos n)) (sym q) ∙ ap (λ a. a >>= λ k. given (pos k)) (is-given (numberBelow (2 ^ 31) p) n e))
-
--- ── minus a number, at any width
-
-pub minus-fits : (w : Width) (m : ℕ) → m ≤ 2 ^ hbits w → SFits w (minus m)
-minus-fits w zero h = record { sfits = pow-pos (hbits w) }
-minus-fits w (suc m) h = record { sfits = h }
-
-pub one-less : (m : ℕ) → (m ≡ 0 → ⊥) → negsuc 0 -ℤ pos (m - 1) ≡ minus m
-one-less zero h = absurd (h refl)
-one-less (suc m) h = less (suc m - 1) ∙ ap negsuc (omega arith)
-  where
-    less : (k : ℕ) → negsuc 0 -ℤ pos k ≡ negsuc k
-    less zero = refl
-    less (suc k) = ap (λ (n : ℕ). negsuc (suc n)) (zero-add k)
+  pub plain-given : (p : Bytes) (n : ℕ) → p ≡ dropPlus b → (getD b 0 0 ≡ 45 → ⊥) → given n ≡ numberBelow (2 ^ 31) p → given (pos n) ≡ readId b
+  plain-given p n q h e = ap (λ a. a >>= λ n. given (pos n)) (e ∙ ap (numberBelow (2 ^ 31)) q) ∙ sym (plain-id b any h)

@@ -13,13 +13,14 @@ use Rattle.parse.specs.declared.Size.the-variants as S
 use Rattle.parse.specs.declared.Id.{Id}
 use Rattle.parse.specs.declared.Id.the-variants as I
 
-abbrev pub sizeOf : Answer ℕ → Size
-sizeOf (refused n) = S.Bad
-sizeOf (given n) = S.Value n
+-- "7 bad number in a format"
+abbrev pub sizeAnswer : Size → Answer ℕ
+sizeAnswer (S.Value n) = given n
+sizeAnswer S.Bad = refused badNumber
 
-abbrev pub idOf : Answer ℤ → Id
-idOf (refused n) = I.Bad
-idOf (given z) = I.Value z
+abbrev pub idAnswer : Id → Answer ℤ
+idAnswer (I.Value z) = given z
+idAnswer I.Bad = refused badNumber
 
 -- digits, at least one, as a number below the limit
 unfoldable pub numberBelow : ℕ → Bytes → Answer ℕ

@@ -10,7 +10,7 @@ use Rattle.sheets.specs.Answer.{Answer, refused, given}
 use Rattle.sheets.specs.Outcome.{Outcome, outcome, success, refusal, importOutcome}
 use Rattle.outcome.specs.Answers.{outcomeOf}
 use Rattle.outcome.specs.declared.Answered.{Answered}
-use Rattle.print_import.specs.Printed.{printedNumber}
+use Rattle.print_import.specs.Printed.{bufferSize, printedNumber}
 
 by-size : (a : Answer Bytes) (out lent : Bytes) → length out ≡ length lent → outcome a out .number ≡ outcome a lent .number
 unfolding outcome
@@ -24,6 +24,6 @@ by-size (given x) out lent e = pick (leb (length x) (length out)) ∙ ap (λ (n 
 zeros : (s out : Bytes) (n : ℕ) → n ≡ length out → importOutcome s out .number ≡ importOutcome s (replicate n 0) .number
 zeros s out n e = by-size _ out (replicate n 0) (sym e ∙ sym (length-replicate {A = ℕ} n 0))
 
-pub printed : (s out after : Bytes) (r : Answered) → 65536 ≡ length out → outcomeOf r after ≡ importOutcome s out → r .number ≡ printedNumber s
+pub printed : (s out after : Bytes) (r : Answered) → bufferSize ≡ length out → outcomeOf (r .number) (r .length) after ≡ importOutcome s out → r .number ≡ printedNumber s
 unfolding printedNumber
-printed s out after r e h = ap (λ (o : Outcome). o .number) h ∙ zeros s out 65536 e
+printed s out after r e h = ap (λ (o : Outcome). o .number) h ∙ zeros s out bufferSize e

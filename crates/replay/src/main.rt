@@ -1,15 +1,24 @@
 // Replays the recorded list of answers (differential/ANSWERS.md) that stands on standard input. Prints for each call how many records were
 // replayed and how many differ, and in full the first that does; or at which record the list is malformed. Records are counted from 0.
+ghost use mathlib.Core.Path.{_≡_};
+ghost use mathlib.Core.Option.{some};
 ghost use lib.ListN.{length};
 ghost use Rattle.sheets.specs.Outcome.{importOutcome};
-ghost use Rattle.judge_answer.specs.Judging.{filled, recorded, Judges, JudgesCall};
-ghost use Rattle.window.specs.Moving.{Within};
-ghost use Rattle.replay.specs.Reading.{Goes};
-use judge_answer::Replayed;
-use read_list::Next;
-use read_list::Start;
-use records::Header;
-use window::Window;
+ghost use Rattle.recorded_list.specs.Answers.{recordIn};
+ghost use Rattle.recorded_list.specs.Moving.{longestPart, Within};
+ghost use Rattle.judge.specs.Judging.{filled, recorded, difference, replayed, replayedOption};
+ghost use Rattle.replay.specs.Turns.{longestBuffer, recordOf, Lendable, proper, turnOption, ReplaysNext};
+use judge::Replayed;
+use judge::tally::COUNTS;
+use recorded_list::Next;
+use recorded_list::Start;
+use recorded_list::call;
+use recorded_list::records::Header;
+use recorded_list::window::LONGEST_PART;
+use recorded_list::window::Window;
+
+// The longest buffer that a record lends. It is longer than the text of any record, so a window of so many bytes holds one.
+const LONGEST_BUFFER: usize = 1048576;
 
 // What is still to be read after a record, its call, and what is told of it.
 enum Turn {
@@ -17,42 +26,64 @@ enum Turn {
     Bad,
 }
 
+// A buffer for the window, or to be lent. Its length is all that is told of it: its bytes are written before they are read.
+fn long_buffer() -> [u8; LONGEST_BUFFER]
+    ensures { λ r. ⌜ longestBuffer ≡ length r ⌝ }
+{
+    [0; LONGEST_BUFFER]
+}
+
+// A buffer for a part of a record.
+fn part_buffer() -> [u8; LONGEST_PART]
+    ensures { λ r. ⌜ longestPart ≡ length r ⌝ }
+{
+    [0; LONGEST_PART]
+}
+
 // Import replayed on a filled buffer.
 fn replay_import(h: Header, input: &[u8], output: &[u8], lent: &mut [u8]) -> Replayed
-    ensures { λ r. ⌜ Judges (importOutcome (now (input .entry)) (filled (length (now (lent .entry))))) (recorded h (now (output .entry)) (length (now (lent .entry)))) r ⌝ }
+    ensures { λ r. ⌜ replayedOption r ≡ some (difference (importOutcome (now (input .entry)) (filled (length (now (lent .entry))))) (recorded h (now (output .entry)) (length (now (lent .entry))))) ⌝ }
 {
-    judge_answer::fill(lent, judge_answer::FILLER);
+    judge::fill(lent, judge::FILLER);
     let a = import_sheet::import(input, lent);
-    judge_answer::judge(a.number as u64, a.length as u64, h, output, lent)
+    judge::judge(a.number as u64, a.length as u64, h, output, lent)
 }
 
 // A call that is replayed is one case here.
 fn replay(h: Header, input: &[u8], output: &[u8], lent: &mut [u8]) -> Replayed
-    ensures { λ r. ⌜ JudgesCall (h .call) h (now (input .entry)) (now (output .entry)) (length (now (lent .entry))) r ⌝ }
+    ensures { λ r. ⌜ replayedOption r ≡ replayed (length (now (lent .entry))) (recordOf h (now (input .entry)) (now (output .entry))) ⌝ }
 {
-    let call = h.call;
-    match call {
-        0 => replay_import(h, input, output, lent),
+    let code = h.call;
+    match code {
+        call::IMPORT => replay_import(h, input, output, lent),
         _ => Replayed::NotYet,
     }
 }
 
-// Replays a record; a difference is printed unless one was told before.
-fn replay_record(
-    place: u64,
-    told: bool,
-    h: Header,
-    input: &[u8],
-    output: &[u8],
-    lent: &mut [u8],
-) -> Replayed
-    ensures { λ r. ⌜ JudgesCall (h .call) h (now (input .entry)) (now (output .entry)) (length (now (lent .entry))) r ⌝ }
+// Replays a record whose parts stand in the first bytes of input and output; a difference is printed unless one was told before.
+fn replay_record(place: u64, told: bool, h: Header, input: &[u8], output: &[u8]) -> Replayed
+    requires { ⌜ Lendable h (length (now input)) (length (now output)) ⌝ }
+    ensures { λ r. ⌜ replayedOption r ≡ replayed (h .room) (recordIn (now (input .entry)) (now (output .entry)) h) ⌝ }
 {
-    let r = replay(h, input, output, lent);
+    let mut lent = long_buffer();
+    let i = h.input as usize;
+    let o = h.output as usize;
+    let room = h.room as usize;
+    let r = replay(h, &input[..i], &output[..o], &mut lent[..room]);
     if !told {
-        print_replay::difference(place, h, output, r, lent);
+        judge::print::difference(place, h, &output[..o], r, &lent[..room]);
     }
     r
+}
+
+// Whether there is such a call, and no longer buffer is lent than there may be.
+fn is_proper(h: Header) -> bool
+    ensures { λ r. ⌜ r ≡ proper h ⌝ }
+{
+    if call::CALLS as u64 <= h.call {
+        return false;
+    }
+    h.room as usize <= LONGEST_BUFFER
 }
 
 // Reads and replays the next record of the list.
@@ -63,64 +94,56 @@ fn replay_next(
     text: &mut [u8],
     input: &mut [u8],
     output: &mut [u8],
-    lent: &mut [u8],
 ) -> Turn
     requires { ⌜ Within before (length (now text)) ⌝ }
-    ensures { λ r. ⌜ Goes (length (now (text .exit))) r ⌝ }
+    ensures { λ r. ⌜ ReplaysNext (length (now (input .exit))) (length (now (output .exit))) (now (text .entry)) before (now (text .exit)) (turnOption r) ⌝ }
 {
-    let Next::Read(h, rest) = read_list::next_record(text, before, input, output) else {
+    let Next::Read(h, rest) = recorded_list::next_record(text, before, input, output) else {
         return Turn::Bad;
     };
-    let room = h.room as usize;
-    // The calls have the codes 0 to 12.
-    if 12 < h.call || lent.len() < room {
+    if !is_proper(h) {
         return Turn::Bad;
     }
-    let i = h.input as usize;
-    let o = h.output as usize;
-    let r = replay_record(place, told, h, &input[..i], &output[..o], &mut lent[..room]);
+    let r = replay_record(place, told, h, input, output);
     Turn::Done(rest, h.call, r)
 }
 
 // Replays so many records, after which nothing may follow, and prints what is told of them.
-fn replay_records(
-    records: u64,
-    from: Window,
-    text: &mut [u8],
-    input: &mut [u8],
-    output: &mut [u8],
-    lent: &mut [u8],
-)
+fn replay_records(records: u64, from: Window, text: &mut [u8], input: &mut [u8], output: &mut [u8])
     requires { ⌜ Within from (length (now text)) ⌝ }
 {
-    let mut counts = [0u64; 27];
+    let mut counts = [0u64; COUNTS];
     let mut told = false;
     let mut w = from;
     let mut place = 0;
     while place < records {
-        match replay_next(place, told, w, text, input, output, lent) {
+        match replay_next(place, told, w, text, input, output) {
             Turn::Bad => {
-                print_replay::bad_list(place);
+                judge::print::bad_list(place);
                 return;
             }
             Turn::Done(next, call, r) => {
                 w = next;
-                told = told | tally::tally(r, call, &mut counts);
+                told = told | judge::tally::tally(r, call, &mut counts);
             }
         }
         place += 1;
     }
-    if !read_list::is_read(text, w) {
-        print_replay::bad_list(place);
+    if !recorded_list::is_read(text, w) {
+        judge::print::bad_list(place);
         return;
     }
-    print_replay::counts(&counts);
+    judge::print::counts(&counts);
 }
 
 // Reads the first line, which says how many records there are, and replays them.
-fn replay_list(text: &mut [u8], input: &mut [u8], output: &mut [u8], lent: &mut [u8]) {
-    let Start::Read(line, from) = read_list::first_line(text, input.len(), output.len()) else {
-        print_replay::bad_list(0);
+fn main() {
+    let mut text = long_buffer();
+    let mut input = part_buffer();
+    let mut output = part_buffer();
+    let Start::Read(line, from) = recorded_list::first_line(&mut text, LONGEST_PART, LONGEST_PART)
+    else {
+        judge::print::bad_list(0);
         return;
     };
     let i = line.input as usize;
@@ -128,18 +151,8 @@ fn replay_list(text: &mut [u8], input: &mut [u8], output: &mut [u8], lent: &mut 
     replay_records(
         line.records,
         from,
-        text,
+        &mut text,
         &mut input[..i],
         &mut output[..o],
-        lent,
     );
-}
-
-fn main() {
-    // A window longer than any record, its parts, and the longest buffer that a record lends.
-    let mut text = [0u8; 1048576];
-    let mut input = [0u8; 131072];
-    let mut output = [0u8; 131072];
-    let mut lent = [0u8; 1048576];
-    replay_list(&mut text, &mut input, &mut output, &mut lent);
 }

@@ -1,4 +1,6 @@
 // A line of a schema sheet: its columns as parts of the sheet, the text of a column, and its flags.
+pub mod read;
+
 ghost use mathlib.Core.Path.{_≡_};
 ghost use Rattle.sheets.specs.Flags.{isOrdered, nullable, isSorted};
 ghost use Rattle.schema_line.specs.Texts.{textIn};

@@ -1,1 +1,4 @@
+pub mod SkipLaws
+pub mod ReadLaws
+pub mod WalkLaws
 pub mod SheetLaws

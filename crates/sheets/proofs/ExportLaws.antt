@@ -7,8 +7,9 @@ use Prim.Native.Nat.{ℕ, zero, suc, _+_, _/_, _%_, _^_, _≤_}
 use native.Mathlib.Omega.{arith}
 use lib.ListN.{length}
 use borrow.Author.Tests.{lt-ltb}
+use Rattle.sheets.specs.Sheet.{isSome}
 use Rattle.sheets.specs.Rule.{each, Meets}
-use Rattle.sheets.specs.Bytes.{Bytes, all}
+use Rattle.sheets.specs.Bytes.{Bytes, all, isByte}
 use Rattle.sheets.specs.Answer.{given, _>>=_}
 use Rattle.sheets.specs.Utf8.{isUtf8}
 use Rattle.sheets.specs.Schema.{Schema, Schemas, end, _&_, Dictionary, absent, present, schemaRule, childrenRule, dictionaryRule, schemaLevels, childrenLevels, dictionaryLevels}
@@ -18,12 +19,12 @@ use Rattle.sheets.specs.Metadata.{little, writeText32, writePairs, metad
 use Rattle.sheets.specs.Export.{flag, sortedFlag, schemaNode, valuesInfo, schemaNewOf, schemaChildren, schemaNew}
 use Rattle.sheets.proofs.Tests.{first-gave}
 use Rattle.sheets.proofs.BytesLaws.{all-append}
-use Rattle.sheets.proofs.TextLaws.{isByte, bytesRule}
+use Rattle.sheets.proofs.TextLaws.{bytesRule}
 use Rattle.sheets.proofs.Utf8Laws.{utf8-bytes}
 use Rattle.sheets.proofs.SchemaLaws.{schemaBytes, childrenBytes, dictionaryBytes}
 use Rattle.sheets.proofs.FormatLaws.{utf8-scalar, utf8-nesting, utf8-grouping}
 use Rattle.sheets.proofs.MetadataLaws.{extensionRule, textPair, pairs-text, pairs-ordered, all-text}
-use Rattle.sheets.proofs.RoundTrip.{isSome, index-leaf, node-gave, values-rule}
+use Rattle.sheets.proofs.RoundTrip.{index-leaf, node-gave, values-rule}
 
 -- ── the block is bytes
 

@@ -8,51 +8,56 @@ use Prim.Native.Nat.{ℕ, zero, suc, _+_, _^_, _<_, _≤_}
 use native.Mathlib.Omega.{arith}
 use lib.Dec.{eqb, ltb, leb}
 use lib.IntN.{ℤ, pos, negsuc}
-use borrow.Author.Tests.{ltb-true, lt-ltb, le-leb, leb-true, eqb-true, ne-eqb}
-use Rattle.sheets.specs.Refusal.{Refusal, noFormat}
+use borrow.Author.Tests.{lt-ltb, le-leb, leb-true, eqb-true, ne-eqb}
+use Rattle.sheets.specs.Refusal.{Refusal, badNumber, noFormat}
 use Rattle.sheets.specs.Rule.{Rule, is, _and_, each, Meets}
 use Rattle.sheets.specs.Bytes.{Bytes, ascii, all, lacks, same, join}
-use Rattle.sheets.specs.Answer.{Answer, refused, given, _>>=_, found}
+use Rattle.sheets.specs.Answer.{Answer, refused, given, _>>=_, found, when}
 use Rattle.sheets.specs.Number.{decimal, valueFrom, isDigit, lean, writeSigned}
 use Rattle.sheets.specs.Utf8.{isUtf8}
 use Rattle.sheets.specs.Field.{TimeUnit, second, millisecond, microsecond, nanosecond, Width, bits128, bits32, bits64, bits256, Scalar, leaf, timestamp, fixedSizeBinary, decimalType, Nesting, list, largeList, fixedSizeList, map, Grouping, struct, union, upFrom, scalarRule, nestingRule, groupingRule, sizeRule, idRule, textRule}
 use Rattle.sheets.specs.Demand3.{narrow}
 use Rattle.sheets.specs.Plain.{plainZone, plainScalar, plainGrouping}
 use Rattle.sheets.specs.Format.{Row, rows, rowNamed, rowOf, unitLetter, orEmpty, widthText, scalarFormat, nestingFormat, unionName, writeIds, groupingFormat, Format, ofScalar, ofNesting, ofGrouping, unsigned, dropPlus, readSize, readId, decimalParts, zone, readNamed, readFormat, toIntegerType, indexFormat}
-use Rattle.sheets.proofs.Tests.{passing, meets, first-gave, every, at-each, and-left, and-right, never, not-some, not-given}
+use Rattle.sheets.proofs.Tests.{passing, meets, when-met, first-gave, every, at-each, and-left, and-right, never, not-some, not-given}
 use Rattle.sheets.proofs.BytesLaws.{split-join, eachLacks, all-append, all-weaken}
 use Rattle.sheets.proofs.NumberLaws.{decimal-digits, decimal-lean, value-decimal, decimal-lacks, signed-lacks}
 use Rattle.sheets.proofs.Utf8Laws.{utf8-append, isAscii, ascii-utf8}
 use Rattle.sheets.proofs.ListLaws.{read-each, each-free}
 
--- ── numbers of a format
+-- ── numbers of a format, in range or not
 
 read-unsigned : (b : Bytes) → lean b ≡ true → Meets (all isDigit b) → unsigned (dropPlus b) ≡ given (valueFrom 0 b)
 read-unsigned [] l h = never l
 read-unsigned (c ∷ cs) l h =
     rw (ne-eqb c 43 (omega (arith, leb-true 48 c (and-left (leb 48 c) (leb c 57) (h .0)))), passing (all isDigit (c ∷ cs)) h)
 
-pub read-size : (n : ℕ) → Meets (sizeRule n) → readSize (decimal n) ≡ given n
-read-size n h = rw (read-unsigned (decimal n) (decimal-lean n) (decimal-digits n), value-decimal n, h)
+pub size-any : (n : ℕ) → readSize (decimal n) ≡ when badNumber (sizeRule n) n
+size-any n = rw (read-unsigned (decimal n) (decimal-lean n) (decimal-digits n), value-decimal n)
 
-read-positive : (b : Bytes) → lean b ≡ true → Meets (all isDigit b) → ltb (valueFrom 0 b) (2 ^ 31) ≡ true → readId b ≡ given (pos (valueFrom 0 b))
-read-positive [] l h k = never l
-read-positive (c ∷ cs) l h k =
+pub read-size : (n : ℕ) → Meets (sizeRule n) → readSize (decimal n) ≡ given n
+read-size n h = size-any n ∙ when-met badNumber (sizeRule n) n h
+
+-- a digit is no sign
+positive-any : (b : Bytes) → lean b ≡ true → Meets (all isDigit b) → readId b ≡ when badNumber (is (ltb (valueFrom 0 b) (2 ^ 31))) (pos (valueFrom 0 b))
+positive-any [] l h = never l
+positive-any (c ∷ cs) l h =
     let d : 48 ≤ c = leb-true 48 c (and-left (leb 48 c) (leb c 57) (h .0)) in
-    rw (ne-eqb c 45 (omega arith), read-unsigned (c ∷ cs) l h, k)
+    rw (ne-eqb c 45 (omega arith), read-unsigned (c ∷ cs) l h)
 
 unsigned-digits : (b : Bytes) → lean b ≡ true → Meets (all isDigit b) → unsigned b ≡ given (valueFrom 0 b)
 unsigned-digits [] l h = never l
 unsigned-digits (c ∷ cs) l h = rw (passing (all isDigit (c ∷ cs)) h)
 
-read-negative : (b : Bytes) (n : ℕ) → lean b ≡ true → Meets (all isDigit b) → valueFrom 0 b ≡ suc n → n < 2 ^ 31 → readId (45 ∷ b) ≡ given (negsuc n)
-read-negative b n l h v k = rw (unsigned-digits b l h, v, le-leb (suc n) (2 ^ 31) k)
+negative-any : (b : Bytes) (n : ℕ) → lean b ≡ true → Meets (all isDigit b) → valueFrom 0 b ≡ suc n → readId (45 ∷ b) ≡ when badNumber (is (leb (suc n) (2 ^ 31))) (negsuc n)
+negative-any b n l h v = rw (unsigned-digits b l h, v)
+
+pub id-any : (z : ℤ) → readId (writeSigned z) ≡ when badNumber (idRule z) z
+id-any (pos n) = positive-any (decimal n) (decimal-lean n) (decimal-digits n) ∙ ap (λ k. when badNumber (is (ltb k (2 ^ 31))) (pos k)) (value-decimal n)
+id-any (negsuc n) = negative-any (decimal (suc n)) n (decimal-lean (suc n)) (decimal-digits (suc n)) (value-decimal (suc n))
 
 pub read-id : (z : ℤ) → Meets (idRule z) → readId (writeSigned z) ≡ given z
-read-id (pos n) h =
-    read-positive (decimal n) (decimal-lean n) (decimal-digits n) (rw (value-decimal n) h) ∙ ap (λ k. given (pos k)) (value-decimal n)
-read-id (negsuc n) h =
-    read-negative (decimal (suc n)) n (decimal-lean (suc n)) (decimal-digits (suc n)) (value-decimal (suc n)) (ltb-true n (2 ^ 31) h)
+read-id z h = id-any z ∙ when-met badNumber (idRule z) z h
 
 -- ── fixed names: one test over the table
 

@@ -1,7 +1,7 @@
 -- The metadata block read back as the pairs and the extension it was written from. Assumes nothing.
 use mathlib.Core.Path.{_≡_, refl, sym, _∙_, ap}
 use mathlib.Core.Bool.{Bool, true, false, cond}
-use mathlib.Core.List.{List, [], _∷_, _++_}
+use mathlib.Core.List.{List, [], _∷_, _++_, append-assoc, append-nil}
 use mathlib.Core.Option.{Option, none, some}
 use Prim.Native.Nat.{ℕ, zero, suc, _+_, _/_, _^_, _<_, _≤_}
 use native.Mathlib.Omega.{arith}
@@ -11,7 +11,7 @@ use lib.ListN.{length, length-append}
 use borrow.Author.Tests.{ltb-true, lt-ltb, not-true}
 use Rattle.sheets.specs.Rule.{Rule, is, _and_, each, Meets}
 use Rattle.sheets.specs.Bytes.{Bytes, same}
-use Rattle.sheets.specs.Answer.{given}
+use Rattle.sheets.specs.Answer.{Answer, given, _>>=_}
 use Rattle.sheets.specs.Utf8.{isUtf8}
 use Rattle.sheets.specs.Field.{Pair, before, firstAfter, pairsRule, metadataRule, textRule}
 use Rattle.sheets.specs.Plain.{plainPairs}
@@ -46,10 +46,17 @@ textPair p = is (isUtf8 (p .0)) and is (isUtf8 (p .1))
 take-text : (t r : Bytes) → isUtf8 t ≡ true → Meets (shortText t) → takeText (writeText32 t ++ r) ≡ given (t, r)
 take-text t r u h = rw (little-value 4 (length t) (omega (arith, ltb-true (length t) (2 ^ 31) h)), h, cut-length t r, u)
 
-take-pairs : (ps : List Pair) → Meets (each textPair ps) → Meets (each shortPair ps) → takePairs (length ps) (writePairs ps) ≡ given ps
-take-pairs [] u h = refl
-take-pairs (p ∷ ps) u h =
-    rw (take-text (p .0) (writeText32 (p .1) ++ writePairs ps) (u .0 .0) (h .0 .0), take-text (p .1) (writePairs ps) (u .0 .1) (h .0 .1), take-pairs ps (u .1) (h .1))
+-- a key and a value are taken off what stands before other bytes
+take-pair : (n : ℕ) (p : Pair) (r : Bytes) → Meets (textPair p) → Meets (shortPair p) → takePairs (suc n) (writeText32 (p .0) ++ (writeText32 (p .1) ++ r)) ≡ (takePairs n r >>= λ ps. given (p ∷ ps))
+take-pair n p r u h = rw (take-text (p .0) (writeText32 (p .1) ++ r) (u .0) (h .0), take-text (p .1) r (u .1) (h .1))
+
+-- "Bytes past the last pair are ignored"
+take-pairs : (ps : List Pair) (past : Bytes) → Meets (each textPair ps) → Meets (each shortPair ps) → takePairs (length ps) (writePairs ps ++ past) ≡ given ps
+take-pairs [] past u h = refl
+take-pairs (p ∷ ps) past u h =
+    let bytes : writePairs (p ∷ ps) ++ past ≡ writeText32 (p .0) ++ (writeText32 (p .1) ++ (writePairs ps ++ past)) =
+    append-assoc (writeText32 (p .0)) (writeText32 (p .1) ++ writePairs ps) past ∙ ap (λ (r : Bytes). writeText32 (p .0) ++ r) (append-assoc (writeText32 (p .1)) (writePairs ps) past) in
+    ap (takePairs (suc (length ps))) bytes ∙ take-pair (length ps) p (writePairs ps ++ past) (u .0) (h .0) ∙ ap (λ (a : Answer (List Pair)). a >>= λ qs. given (p ∷ qs)) (take-pairs ps past (u .1) (h .1))
 
 -- a block that is short has short texts and few of them
 pairs-length : (p : Pair) (ps : List Pair) → length (writePairs (p ∷ ps)) ≡ 4 + length (p .0) + (4 + length (p .1) + length (writePairs ps))
@@ -62,12 +69,15 @@ short-pairs (p ∷ ps) h =
     let rest = short-pairs ps (omega arith) in
     (((lt-ltb (length (p .0)) (2 ^ 31) (omega arith), lt-ltb (length (p .1)) (2 ^ 31) (omega arith)), rest .0), omega (arith, rest .1))
 
-pub read-block : (ps : List Pair) → Meets (each textPair ps) → length (metadataToBytes ps) < 2 ^ 31 → readBlock (metadataToBytes ps) ≡ given ps
-read-block ps u h =
+pub read-past : (ps : List Pair) (past : Bytes) → Meets (each textPair ps) → length (metadataToBytes ps) < 2 ^ 31 → readBlock (metadataToBytes ps ++ past) ≡ given ps
+read-past ps past u h =
     let n : length (metadataToBytes ps) ≡ 4 + length (writePairs ps) = length-append (little 4 (length ps)) (writePairs ps) in
     let l = short-pairs ps (omega arith) in
     let few : length ps < 2 ^ 31 = omega (arith, l .1) in
-    rw (little-value 4 (length ps) (omega arith), lt-ltb (length ps) (2 ^ 31) few, take-pairs ps u (l .0))
+    rw (little-value 4 (length ps) (omega arith), lt-ltb (length ps) (2 ^ 31) few, take-pairs ps past u (l .0))
+
+pub read-block : (ps : List Pair) → Meets (each textPair ps) → length (metadataToBytes ps) < 2 ^ 31 → readBlock (metadataToBytes ps) ≡ given ps
+read-block ps u h = ap readBlock (sym (append-nil (metadataToBytes ps))) ∙ read-past ps [] u h
 
 -- ── pairs and reserved keys
 
@@ -98,7 +108,7 @@ value-none k r (p ∷ ps) h = rw (value-none k r ps (h .1), other (same (p .0) k
     other true e = sym r ∙ ap reserved (sym (same-eq (p .0) k e)) ∙ not-true (reserved (p .0)) (h .0)
     other false e = refl
 
-or-none : (x : Option Bytes) → orElse x none ≡ x
+pub or-none : (x : Option Bytes) → orElse x none ≡ x
 or-none none = refl
 or-none (some x) = refl
 

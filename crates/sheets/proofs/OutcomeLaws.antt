@@ -1,11 +1,12 @@
--- What every public call that answers a sheet keeps to (demand 1): its number is at most 16; a number that is not 0 comes with length 0 and
--- zeros; 0 comes with the sheet and with what the buffer held past it; 16 comes exactly if the sheet is longer than the buffer. By cases of the
--- answer and of the one test. Assumes nothing.
+-- What every public call keeps to (demand 1). One that answers a sheet: its number is at most 16; a number that is not 0 comes with length 0 and
+-- zeros; 0 comes with the sheet and with what the buffer held past it; 16 comes exactly if the sheet is longer than the buffer. One that answers
+-- numbers (`Keeps`): its number is at most 15, 0 exactly if there is an answer, and else all is 0. By cases of the answer and of the one test.
+-- Assumes nothing.
 use mathlib.Core.Path.{_≡_, refl, sym, _∙_, ap}
 use mathlib.Core.Logic.{_↔_, _≢_}
 use mathlib.Core.Bool.{Bool, true, false}
 use mathlib.Core.List.{[], _∷_, _++_}
-use Prim.Native.Nat.{zero, suc, _≤_, _<_}
+use Prim.Native.Nat.{ℕ, zero, suc, _≤_, _<_}
 use native.Mathlib.Omega.{arith}
 use lib.Dec.{leb}
 use lib.ListN.{length, take, drop, replicate}
@@ -13,7 +14,9 @@ use borrow.Author.Tests.{le-leb, lt-leb, leb-true, leb-false}
 use Rattle.sheets.specs.Bytes.{Bytes}
 use Rattle.sheets.specs.Refusal.{Refusal, notSheet, badLines, tooDeep, nullFormat, notUtf8, unsupportedFormat, badNumber, badDecimal, badIndex, noChild, badMetadata, noFormat, noUnionIds, zeroByte, undefinedMapping, numberOf, noRoom}
 use Rattle.sheets.specs.Answer.{Answer, refused, given}
-use Rattle.sheets.specs.Outcome.{Outcome, success, refusal, outcome}
+use Rattle.sheets.specs.Mappings.{PhysicalType}
+use Rattle.sheets.specs.Outcome.{Outcome, success, refusal, outcome, places, yesNo}
+use Rattle.sheets.proofs.Tests.{not-given}
 
 -- the numbers of refusals are 1 to 15
 pub number-range : (r : Refusal) → (1 ≤ numberOf r) × (numberOf r ≤ 15)
@@ -106,3 +109,30 @@ written-success x out = first x (drop (length x) out)
     first : (a b : Bytes) → take (length a) (a ++ b) ≡ a
     first [] b = refl
     first (y ∷ a) b = ap (λ l. y ∷ l) (first a b)
+
+-- ── calls that answer numbers
+
+-- They are lent no buffer, so the number is 0 to 15 and never 16; it is 0 exactly if there is an answer; "Refusal is the number with length 0, yes/no
+-- answers 0", and of a physical type "both 0 on refusal".
+pub record Keeps {A : Type 0} (a : Answer A) (number : ℕ) (AllZero : Type 0) : Type 0 where
+  pub atMost : number ≤ 15
+  pub exactly : (number ≡ 0) ↔ ((v : A) × (a ≡ given v))
+  pub zeros : number ≢ 0 → AllZero
+
+-- what a refusal and an answer keep to, whatever the values are
+refusal-keeps : {A : Type 0} (r : Refusal) (AllZero : Type 0) → AllZero → Keeps {A = A} (refused r) (numberOf r) AllZero
+refusal-keeps r AllZero z =
+    record { atMost = number-range r .1; exactly = (λ h. absurd (omega (arith, number-range r)), λ w. not-given (w .1)); zeros = λ h. z }
+
+answer-keeps : {A : Type 0} (v : A) (AllZero : Type 0) → Keeps (given v) 0 AllZero
+answer-keeps v AllZero = record { atMost = omega arith; exactly = (λ h. (v, refl), λ w. refl); zeros = λ h. absurd (h refl) }
+
+pub places-keep : (a : Answer PhysicalType) → Keeps a (places a .number) ((places a .place ≡ 0) × (places a .inner ≡ 0))
+places-keep (refused r) = refusal-keeps r ((places (refused r) .place ≡ 0) × (places (refused r) .inner ≡ 0)) (refl, refl)
+places-keep (given p) = answer-keeps p ((places (given p) .place ≡ 0) × (places (given p) .inner ≡ 0))
+
+-- besides, the answer is 0 or 1
+pub yes-no-keeps : (a : Answer Bool) → Keeps a (yesNo a .number) (yesNo a .answer ≡ 0) × (yesNo a .answer ≤ 1)
+yes-no-keeps (refused r) = (refusal-keeps r (yesNo (refused r) .answer ≡ 0) refl, omega arith)
+yes-no-keeps (given true) = (answer-keeps true (yesNo (given true) .answer ≡ 0), omega arith)
+yes-no-keeps (given false) = (answer-keeps false (yesNo (given false) .answer ≡ 0), omega arith)

@@ -3,7 +3,7 @@ use mathlib.Core.Path.{_≡_, refl}
 use mathlib.Core.Bool.{Bool, true, false}
 use mathlib.Core.List.{List, [], _∷_}
 use mathlib.Core.Option.{Option, none, some}
-use Prim.Native.Nat.{ℕ, zero, suc, _^_, _≤_}
+use Prim.Native.Nat.{ℕ, _^_, _≤_}
 use native.Mathlib.Omega.{arith}
 use lib.Dec.{leb}
 use borrow.Author.Tests.{leb-true}
@@ -11,6 +11,7 @@ use Rattle.sheets.specs.Rule.{Rule, is, _and_, Meets}
 use Rattle.sheets.specs.Bytes.{Bytes}
 use Rattle.sheets.specs.Answer.{_>>=_}
 use Rattle.sheets.specs.Schema.{Schemas, end, _&_, Dictionary, absent, present}
+use Rattle.sheets.specs.Sheet.{isSome}
 use Rattle.sheets.specs.Field.{Pair, Info, Scalar, leaf, timestamp, fixedSizeBinary, decimalType, Grouping, struct, union, ArrowDataType, scalar, nested, grouped, dictionary, extension, Fields, nil, add, Field, countFields, textRule, scalarRule, groupingRule, metadataRule, infoRule, typeRule, fieldsRule, fieldRule, typeLevels, fieldsLevels, fieldLevels}
 use Rattle.sheets.specs.Plain.{plainZone, plainPairs, plainInfo, plainScalar, plainGrouping, plainType, plainFields, plain}
 use Rattle.sheets.specs.Format.{orEmpty, scalarFormat, nestingFormat, groupingFormat, indexFormat}
@@ -18,7 +19,7 @@ use Rattle.sheets.specs.Metadata.{Extension, orNone, schemaMetadata}
 use Rattle.sheets.specs.Export.{flag, sortedFlag, schemaNode, valuesInfo, schemaNewOf, schemaChildren, schemaNew}
 use Rattle.sheets.proofs.Tests.{chain-same}
 use Rattle.sheets.proofs.FormatLaws.{up-from}
-use Rattle.sheets.proofs.RoundTrip.{isSome, index-leaf}
+use Rattle.sheets.proofs.RoundTrip.{index-leaf}
 
 -- ── exported alike
 

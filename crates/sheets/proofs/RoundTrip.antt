@@ -2,7 +2,7 @@
 use mathlib.Core.Path.{_≡_, refl, ap, subst}
 use mathlib.Core.Bool.{Bool, true, false}
 use mathlib.Core.Option.{Option, none, some}
-use Prim.Native.Nat.{ℕ, zero, suc, _+_, _^_}
+use Prim.Native.Nat.{ℕ, suc, _+_, _^_}
 use native.Mathlib.Omega.{arith}
 use lib.Dec.{ltb, leb}
 use lib.IntN.{pos}
@@ -13,6 +13,7 @@ use Rattle.sheets.specs.Bytes.{Bytes, lacks}
 use Rattle.sheets.specs.Answer.{Answer, given, _>>=_}
 use Rattle.sheets.specs.Utf8.{isUtf8}
 use Rattle.sheets.specs.Schema.{Node, Schema, schema, Schemas, end, _&_, Dictionary, absent, present, countSchemas}
+use Rattle.sheets.specs.Sheet.{isSome}
 use Rattle.sheets.specs.Field.{Info, leaf, Nesting, list, largeList, fixedSizeList, map, ArrowDataType, scalar, nested, grouped, dictionary, extension, Fields, nil, add, Field, countFields, infoRule, typeRule, fieldsRule, fieldRule, scalarRule, leafRule}
 use Rattle.sheets.specs.Demand3.{ownKeys as infoFree}
 use Rattle.sheets.proofs.ConditionLaws.{typeFree, fieldsFree, fieldFree}
@@ -117,10 +118,6 @@ pub index-leaf : (ix : ℕ) → ltb ix 10 ≡ true → Meets (scalarRule (leaf (
 index-leaf ix h = meets (leafRule (ix + 2) 0) (at-each 10 (λ k. passes (leafRule (k + 2) 0)) (meets (every 10 (λ k. passes (leafRule (k + 2) 0))) refl) ix (ltb-true ix 10 h))
 
 -- ── the tree
-
-abbrev pub isSome : Option Extension → Bool
-isSome none = false
-isSome (some e) = true
 
 pub values-rule : Meets (infoRule valuesInfo)
 values-rule = (refl, refl)

@@ -26,6 +26,9 @@ not-given h = absurd (let z : _≡_ {A = ℕ} 0 1 = cc in omega arith)
 pub same-given : {A : Type 0} {a b : A} → given a ≡ given b → a ≡ b
 same-given h = cc
 
+pub same-some : {A : Type 0} {a b : A} → some a ≡ some b → a ≡ b
+same-some h = cc
+
 pub and-left : (a b : Bool) → (a && b) ≡ true → a ≡ true
 and-left true b h = refl
 and-left false b h = h

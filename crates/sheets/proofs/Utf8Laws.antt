@@ -11,12 +11,12 @@ use native.Mathlib.Omega.{arith}
 use lib.Dec.{eqb, ltb, leb}
 use borrow.Author.Tests.{lt-ltb, ltb-true, le-leb, lt-leb, leb-true, eqb-true}
 use Rattle.sheets.specs.Rule.{Rule, is, _and_, each, passes, Meets}
-use Rattle.sheets.specs.Bytes.{Bytes, all}
+use Rattle.sheets.specs.Bytes.{Bytes, all, isByte}
 use Rattle.sheets.specs.Utf8.{Range, _to_, inRange, table, fits, isSequence, concat, WellFormed, following, sequences, isUtf8}
 use Rattle.sheets.specs.Utf8Classes.{classOf, nextOf, stateAfter}
 use Rattle.sheets.specs.Field.{textRule}
 use Rattle.sheets.proofs.Tests.{and-left, and-right, every, at-each, meets, never, not-some}
-use Rattle.sheets.proofs.TextLaws.{isByte, bytesRule}
+use Rattle.sheets.proofs.TextLaws.{bytesRule}
 
 -- what follows a first byte: nothing fits where it begins no row
 abbrev goOn : Option (List Range) → Bytes → Bool

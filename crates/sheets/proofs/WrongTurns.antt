@@ -1,17 +1,19 @@
 -- Sheets that tell the wrong turns of document 01 from the right ones, and each refusal from its neighbours in the order of visiting: one table,
 -- by computation. The answers are the source's. Assumes nothing.
-use mathlib.Core.Path.{refl}
-use mathlib.Core.List.{List, [], _∷_, _++_}
+use mathlib.Core.Path.{_≡_, refl}
+use mathlib.Core.List.{List, [], _∷_, _++_, map}
 use Prim.Native.Nat.{ℕ}
+use lib.ListN.{replicate}
 use Rattle.sheets.specs.Bytes.{Bytes, ascii}
-use Rattle.sheets.specs.Outcome.{imported, exported, plained}
-use Rattle.sheets.specs.Bench.{Case, Right, numbered, fieldSheet, imports, importRefuses, exports, times}
+use Rattle.sheets.specs.Refusal.{noRoom}
+use Rattle.sheets.specs.Outcome.{imported, exported, plained, outcome, importOutcome}
+use Rattle.sheets.specs.Bench.{Case, Right, numbered, schemaSheet, fieldSheet, imports, importRefuses, exports, times}
 
 abbrev exportRefuses : Bytes → ℕ → Case
-exportRefuses a n = record { got = numbered (exported (fieldSheet a)); wanted = (n, []) }
+exportRefuses a n = record { call = exported; sheet = fieldSheet a; wanted = (n, []) }
 
 abbrev plains : Bytes → Bytes → Case
-plains a b = record { got = numbered (plained (fieldSheet a)); wanted = (0, fieldSheet b) }
+plains a b = record { call = plained; sheet = fieldSheet a; wanted = (0, fieldSheet b) }
 
 -- import: flags, keys, ids
 abbrev pub importTurns : List Case
@@ -101,3 +103,8 @@ exportTurns =
 pub export-turns : Right exportTurns
 unfolding imported exported plained
 export-turns = refl
+
+-- "16 comes exactly if the sheet is longer than the buffer": a field sheet of 67 bytes into 66 bytes and into 67
+pub room-turns : map (λ (n : ℕ). importOutcome (schemaSheet (ascii "67 - 0 ~ 0 0\n")) (replicate n 7) .number) (66 ∷ 67 ∷ []) ≡ noRoom ∷ 0 ∷ []
+unfolding imported outcome
+room-turns = refl

@@ -6,11 +6,14 @@ use Prim.Native.Nat.{ℕ, zero, suc}
 use Prim.Native.String as S
 use Prim.Native.String.{String}
 use Prim.Native.Char as C
-use lib.Dec.{eqb}
+use lib.Dec.{eqb, ltb}
 use Rattle.sheets.specs.Rule.{Rule, is, _and_}
 
 abbrev pub Bytes : Type 0
 Bytes = List ℕ
+
+abbrev pub isByte : ℕ → Bool
+isByte b = ltb b 256
 
 -- the bytes that split
 abbrev pub lineEnd : ℕ

@@ -33,7 +33,7 @@ returns-2 c =
     let l = c .before .before .before .before in
     let a = (l .before .before) .args .a .now in
     let b = (l .before .before) .args .b .now in
-    sym (l .loop .inv .2 ∙ differ-at a b (l .loop .i) (search needs) (search needs) (c .if2 .taken))
+    sym (l .loop .inv .2 ∙ differ-at a b (l .loop .i) (search needs) (search needs) (search needs))
 
 add-i : tie.Need-add-i Inv-loop μ-loop
 add-i c = search needs
@@ -46,7 +46,7 @@ loop-again c =
     let l = c .before .before .before .before in
     let a = (l .before .before) .args .a .now in
     let b = (l .before .before) .args .b .now in
-    (l .loop .inv .0, search needs, l .loop .inv .2 ∙ same-more a b (l .loop .i) (search needs) (search needs) (c .if2 .left))
+    (l .loop .inv .0, search needs, l .loop .inv .2 ∙ same-more a b (l .loop .i) (search needs) (search needs) (search needs))
 
 returns-3 : tie.Need-returns-3 Inv-loop μ-loop
 returns-3 c =

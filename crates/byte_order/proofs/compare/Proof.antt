@@ -1,16 +1,16 @@
--- `byte_order::compare` meets its contract. The invariant: the comparison of the whole is that from `i` on; two words that differ decide it.
+-- `compare` meets its contract. The invariant: the comparison of the whole is that from `i` on; two words that differ decide it.
 -- Assumes nothing.
 use mathlib.Core.Path.{_≡_, refl, sym, _∙_}
 use Prim.Native.Nat.{_-_, _≤_}
 use borrow.Author.Needs.{needs}
 use lib.ListN.{drop}
-use Rattle.byte_order.specs.Compare.{compared}
+use Rattle.byte_order.specs.Compare.{ordering}
 use Rattle.byte_order.proofs.CompareLaws as Laws
 use Rattle.byte_order.proofs.compare.Statement.{statement}
 use Rattle.byte_order.proofs.compare.Tie as tie
 
 abbrev Inv-loop : tie.InvT-loop
-Inv-loop a b n i₀ i = (i ≤ n) × (compared a b ≡ compared (drop i a) (drop i b))
+Inv-loop a b n i₀ i = (i ≤ n) × (ordering a b ≡ ordering (drop i a) (drop i b))
 
 abbrev μ-loop : tie.MeasureT-loop
 μ-loop a b n i₀ i = n - i

@@ -1,16 +1,16 @@
--- `byte_order::compare_bytes` meets its contract. The invariant: the comparison from `from` on is that from `i` on; each way out is decided by the
+-- `compare_bytes` meets its contract. The invariant: the comparison from `from` on is that from `i` on; each way out is decided by the
 -- bytes at `i`, or by one string's end. Assumes nothing.
 use mathlib.Core.Path.{_≡_, refl, sym, _∙_}
 use Prim.Native.Nat.{_-_}
 use borrow.Author.Needs.{needs}
 use lib.ListN.{length, drop}
-use Rattle.byte_order.specs.Compare.{compared}
+use Rattle.byte_order.specs.Compare.{ordering}
 use Rattle.byte_order.proofs.CompareLaws as Laws
 use Rattle.byte_order.proofs.compare_bytes.Statement.{statement}
 use Rattle.byte_order.proofs.compare_bytes.Tie as tie
 
 abbrev Inv-loop : tie.InvT-loop
-Inv-loop a b from i₀ i = compared (drop from a) (drop from b) ≡ compared (drop i a) (drop i b)
+Inv-loop a b from i₀ i = ordering (drop from a) (drop from b) ≡ ordering (drop i a) (drop i b)
 
 abbrev μ-loop : tie.MeasureT-loop
 μ-loop a b from i₀ i = length a - i

@@ -1,6 +1,6 @@
--- `byte_order::is_before` meets its contract: the first comes before the second exactly if the comparison says Less. Assumes nothing.
+-- `is_before` meets its contract: the first comes before the second exactly if the comparison says Less. Assumes nothing.
 use mathlib.Core.Path.{sym}
-use Rattle.byte_order.proofs.CompareLaws.{is-less, not-less, not-less-either}
+use Rattle.byte_order.proofs.CompareLaws.{comes-before}
 use borrow.Author.Needs.{needs}
 use Rattle.byte_order.proofs.is_before.Statement.{statement}
 use Rattle.byte_order.proofs.is_before.Tie as tie
@@ -20,17 +20,17 @@ enum-told-3 c = search needs
 returns : tie.Need-returns
 returns c =
     let st = c .before .before .before .before .before in
-    sym (is-less (st .args .a .now) (st .args .b .now) (c .before .before .compare .result) (c .before .before .compare .ensures) (c .enum-told .given .1))
+    sym (comes-before (st .args .a .now) (st .args .b .now) (c .before .before .compare .result) (c .before .before .compare .ensures) _ (c .enum-told .given .1))
 
 returns-2 : tie.Need-returns-2
 returns-2 c =
     let st = c .before .before .before .before .before in
-    sym (not-less (st .args .a .now) (st .args .b .now) (c .before .before .compare .result) (c .before .before .compare .ensures) (c .enum-told2 .given .1))
+    sym (comes-before (st .args .a .now) (st .args .b .now) (c .before .before .compare .result) (c .before .before .compare .ensures) _ (c .enum-told2 .given .1))
 
 returns-3 : tie.Need-returns-3
 returns-3 c =
     let st = c .before .before .before .before .before in
-    sym (not-less-either (st .args .a .now) (st .args .b .now) (c .before .before .compare .result) (c .before .before .compare .ensures) (c .enum-told3 .given .1))
+    sym (comes-before (st .args .a .now) (st .args .b .now) (c .before .before .compare .result) (c .before .before .compare .ensures) _ (c .enum-told3 .given .1))
 
 pub is-before-spec : {M : Type 1} → statement M
 is-before-spec =

@@ -1,4 +1,4 @@
--- `byte_order::word_at` meets its contract: the value is the sum of the four bytes at their places, and each is below 256, so that nothing wraps.
+-- `word_at` meets its contract: the value is the sum of the four bytes at their places, and each is below 256, so that nothing wraps.
 -- Assumes nothing.
 use native.Mathlib.Omega.{arith}
 use borrow.Author.Needs.{needs}

@@ -1,17 +1,17 @@
 -- `columns::number_end` meets its contract. The loop's invariant: the column from `at` on ends where the one from `i` on does.
 -- The measure is what is left of the length. Assumes nothing.
 use mathlib.Core.Path.{_≡_, refl, sym, _∙_}
-use Prim.Native.Nat.{_+_, _-_}
-use lib.ListN.{length, drop}
+use Prim.Native.Nat.{_-_}
+use lib.ListN.{length}
 use native.Mathlib.Omega.{arith}
-use Rattle.columns.specs.Columns.{columnLength}
+use Rattle.columns.specs.Columns.{stopFrom}
 use Rattle.columns.proofs.ColumnLaws.{length-none, length-stop, length-more}
 use borrow.Author.Needs.{needs}
 use Rattle.columns.proofs.number_end.Statement.{statement}
 use Rattle.columns.proofs.number_end.Tie as tie
 
 abbrev Inv-loop : tie.InvT-loop
-Inv-loop s at i₀ i = at + columnLength (drop at s) ≡ i + columnLength (drop i s)
+Inv-loop s at i₀ i = stopFrom s at ≡ stopFrom s i
 
 abbrev μ-loop : tie.MeasureT-loop
 μ-loop s at i₀ i = length s - i

@@ -1,18 +1,18 @@
 -- `columns::pass_digits` meets its contract. The loop's invariant: no column ends before `i`. The measure is what is left of the length.
 -- Assumes nothing.
-use mathlib.Core.Path.{refl, sym, _∙_}
-use Prim.Native.Nat.{_+_, _-_}
+use mathlib.Core.Path.{_≡_, refl, sym, _∙_}
+use Prim.Native.Nat.{_+_, _-_, _≤_}
 use native.Mathlib.Omega.{arith}
 use lib.ListN.{length}
-use borrow.Author.Tests.{not-false}
-use Rattle.columns.specs.Columns.{Passes}
+use borrow.Author.Tests.{not-true, not-false}
+use Rattle.columns.specs.Columns.{stopFrom}
 use Rattle.columns.proofs.ColumnLaws.{digits-passed}
 use borrow.Author.Needs.{needs}
 use Rattle.columns.proofs.pass_digits.Statement.{statement}
 use Rattle.columns.proofs.pass_digits.Tie as tie
 
 abbrev Inv-loop : tie.InvT-loop
-Inv-loop s at i₀ i = Passes s at i
+Inv-loop s at i₀ i = (i ≤ length s) × (stopFrom s at ≡ stopFrom s i)
 
 abbrev μ-loop : tie.MeasureT-loop
 μ-loop s at i₀ i = length s - i
@@ -39,7 +39,9 @@ is-hex-requires : tie.Need-is-hex-requires Inv-loop μ-loop
 is-hex-requires c κs = search needs
 
 returns : tie.Need-returns Inv-loop μ-loop
-returns c = c .before .before .before .before .loop .inv
+returns c =
+    let l = c .before .before .before .before .loop in
+    record { within = l .inv .0; same = l .inv .1; last = λ h. sym (c .before .is-hex .ensures) ∙ not-true _ (c .if1 .taken) }
 
 loop-less : tie.Need-loop-less Inv-loop μ-loop
 loop-less c = omega arith
@@ -48,10 +50,12 @@ loop-again : tie.Need-loop-again Inv-loop μ-loop
 loop-again c =
     let l = c .before .before .before .before .loop in
     let d = digits-passed (c .before .before .before .before .before .before .args .s .now) (l .i) (l .i + 32) (omega arith) (omega arith) (sym (c .before .is-hex .ensures) ∙ not-false _ (c .if1 .left)) in
-    (d .0, l .inv .1 ∙ d .1)
+    (omega arith, l .inv .1 ∙ d)
 
 returns-2 : tie.Need-returns-2 Inv-loop μ-loop
-returns-2 c = c .before .loop .inv
+returns-2 c =
+    let l = c .before .loop in
+    record { within = l .inv .0; same = l .inv .1; last = λ h. absurd (omega arith) }
 
 pub pass-digits-spec : {M : Type 1} → statement M
 pass-digits-spec =

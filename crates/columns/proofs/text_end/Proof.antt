@@ -44,7 +44,7 @@ number-end-requires-2 : tie.Need-number-end-requires-2
 number-end-requires-2 c κs = search needs
 
 returns-3 : tie.Need-returns-3
-returns-3 c = omega (arith, c .number-end2 .ensures, c .before .pass-digits .ensures .1, near-passed (c .before .before .before .before .before .before .before .before .args .s .now) (c .before .before .before .before .before .before .before .before .args .at) (c .before .before .before .before .before .before .before .before .args .at + c .before .before .before .before .before .within .result) (omega arith) (omega (arith, c .before .before .before .before .before .within .ensures)) (omega (arith, c .before .before .before .number-end .ensures)) .1)
+returns-3 c = omega (arith, c .number-end2 .ensures, c .before .pass-digits .ensures .same, near-passed (c .before .before .before .before .before .before .before .before .args .s .now) (c .before .before .before .before .before .before .before .before .args .at) (c .before .before .before .before .before .before .before .before .args .at + c .before .before .before .before .before .within .result) (omega arith) (omega (arith, c .before .before .before .before .before .within .ensures)) (omega (arith, c .before .before .before .number-end .ensures)))
 
 pub text-end-spec : {M : Type 1} → statement M
 text-end-spec =

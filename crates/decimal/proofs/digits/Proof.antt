@@ -5,9 +5,9 @@ use native.Mathlib.Omega.{arith}
 use lib.ListN.{length, getD, drop}
 use borrow.Author.Needs.{needs}
 use Rattle.sheets.specs.Refusal.{badLines}
-use Rattle.digit.specs.Digits.{digitsBelow}
-use Rattle.digit.proofs.DigitLaws.{bad, next, within, done}
-use Rattle.decimal.specs.Answers.{toUnsigned64}
+use Rattle.decimal.specs.Digits.{digitsBelow}
+use Rattle.decimal.proofs.DigitLaws.{bad, next, within, done}
+use Rattle.decimal.specs.Answers.{numberOption}
 use Rattle.decimal.proofs.digits.Statement.{statement}
 use Rattle.decimal.proofs.digits.Tie as tie
 
@@ -36,8 +36,8 @@ returns : tie.Need-returns Inv-loop μ-loop
 returns c =
     let l = c .before .before .before .before .before .loop in
     let st = c .before .before .before .before .before .before .before .args in
-    let e = sym (c .before .before .after .ensures) ∙ c .enum-told .given .1 in
-    sym (ap toUnsigned64 (l .inv .1 ∙ bad badLines (st .max + 1) (l .v) (st .s .now) (l .i) (c .before .before .before .before .loop-test .taken) e))
+    let e = sym (c .before .before .after .ensures) ∙ ap numberOption (c .enum-told .given .1) in
+    sym (l .inv .1 ∙ bad badLines (st .max + 1) (l .v) (st .s .now) (l .i) (c .before .before .before .before .loop-test .taken) e)
 
 add-i : tie.Need-add-i Inv-loop μ-loop
 add-i c = search needs
@@ -50,14 +50,14 @@ loop-again c =
     let l = c .before .before .before .before .before .before .loop in
     let st = c .before .before .before .before .before .before .before .before .args in
     let n = c .before .n .given .0 .0 in
-    let e = sym (c .before .before .before .after .ensures) ∙ c .before .n .given .1 in
+    let e = sym (c .before .before .before .after .ensures) ∙ ap numberOption (c .before .n .given .1) in
     (omega (arith, within (st .max + 1) (l .v) (getD (st .s .now) (l .i) 0) n e), l .inv .1 ∙ next badLines (st .max + 1) (l .v) (st .s .now) (l .i) (c .before .before .before .before .before .loop-test .taken) n e)
 
 returns-2 : tie.Need-returns-2 Inv-loop μ-loop
 returns-2 c =
     let l = c .before .loop in
     let st = c .before .before .before .args in
-    sym (ap toUnsigned64 (l .inv .1 ∙ done badLines (st .max + 1) (l .v) (st .s .now) (l .i) (c .loop-test .left) (omega (arith, l .inv .0))))
+    sym (l .inv .1 ∙ done badLines (st .max + 1) (l .v) (st .s .now) (l .i) (c .loop-test .left) (omega (arith, l .inv .0)))
 
 pub digits-spec : {M : Type 1} → statement M
 digits-spec =

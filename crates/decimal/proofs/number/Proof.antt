@@ -3,8 +3,7 @@ use borrow.Author.Tests.{not-true, not-false}
 use Rattle.decimal.proofs.ColumnLaws.{column-lean, column-spare}
 use lib.ListN.{drop}
 use Prim.Native.Nat.{_+_}
-use Rattle.decimal.specs.Answers.{toUnsigned64}
-use mathlib.Core.Path.{sym, ap, _∙_}
+use mathlib.Core.Path.{sym, _∙_}
 use borrow.Author.Needs.{needs}
 use Rattle.decimal.proofs.number.Statement.{statement}
 use Rattle.decimal.proofs.number.Tie as tie
@@ -15,7 +14,7 @@ lean-requires c κs = search needs
 returns : tie.Need-returns
 returns c =
     let st = c .before .before .before .args in
-    sym (ap toUnsigned64 (column-spare (st .max + 1) (drop (st .at) (st .s .now)) (sym (c .before .lean .ensures) ∙ not-true (c .before .lean .result) (c .if1 .taken))))
+    sym (column-spare (st .max + 1) (drop (st .at) (st .s .now)) (sym (c .before .lean .ensures) ∙ not-true (c .before .lean .result) (c .if1 .taken)))
 
 digits-requires : tie.Need-digits-requires
 digits-requires c κs = search needs
@@ -23,7 +22,7 @@ digits-requires c κs = search needs
 returns-2 : tie.Need-returns-2
 returns-2 c =
     let st = c .before .before .before .before .args in
-    c .digits .ensures ∙ sym (ap toUnsigned64 (column-lean (st .max + 1) (drop (st .at) (st .s .now)) (sym (c .before .before .lean .ensures) ∙ not-false (c .before .before .lean .result) (c .before .if1 .left))))
+    c .digits .ensures ∙ sym (column-lean (st .max + 1) (drop (st .at) (st .s .now)) (sym (c .before .before .lean .ensures) ∙ not-false (c .before .before .lean .result) (c .before .if1 .left)))
 
 pub number-spec : {M : Type 1} → statement M
 number-spec = tie.close (tie.spec lean-requires returns digits-requires returns-2)

@@ -1,7 +1,6 @@
 -- `read_i32` meets its contract: what `signed` gives below 2 ^ 31 fits 32 bits. Assumes nothing.
-use Rattle.decimal.proofs.AnswerLaws.{i64-given, i64-bad}
 use Rattle.decimal.proofs.ColumnLaws.{signed-given}
-use Rattle.decimal.specs.Answers.{toSigned32}
+use Rattle.decimal.specs.Answers.{signedAnswer}
 use mir.Facts.{toZ-ofZ, sfits-widen}
 use mir.Val.{SFits}
 use mir.Syntax.{w32, w64}
@@ -23,13 +22,13 @@ enum-told c = search needs
 returns : tie.Need-returns
 returns c =
     let s = c .before .before .before .before .args .s .now in
-    sym (ap toSigned32 (i64-bad (2 ^ 31) s (sym (c .before .before .signed .ensures) ∙ c .enum-told .given .1)))
+    ap signedAnswer (sym (c .enum-told .given .1)) ∙ c .before .before .signed .ensures
 
 cast-t4 : tie.Need-cast-t4
 cast-t4 c =
     let s = c .before .before .before .before .before .args .s .now in
     let z = c .before .z .given .0 .0 in
-    let o = i64-given (2 ^ 31) s z (sym (c .before .before .before .signed .ensures) ∙ c .before .z .given .1) in
+    let o = sym (c .before .before .before .signed .ensures) ∙ ap signedAnswer (c .before .z .given .1) in
     let f : SFits w32 z = record { sfits = signed-given (2 ^ 31) s z o .1 } in
     let g : SFits w64 z = sfits-widen tt f in
     rw (toZ-ofZ g) f
@@ -38,10 +37,10 @@ returns-2 : tie.Need-returns-2
 returns-2 c =
     let s = c .before .before .before .before .before .args .s .now in
     let z = c .before .z .given .0 .0 in
-    let o = i64-given (2 ^ 31) s z (sym (c .before .before .before .signed .ensures) ∙ c .before .z .given .1) in
+    let o = sym (c .before .before .before .signed .ensures) ∙ ap signedAnswer (c .before .z .given .1) in
     let f : SFits w32 z = record { sfits = signed-given (2 ^ 31) s z o .1 } in
     let g : SFits w64 z = sfits-widen tt f in
-    rw (toZ-ofZ g, toZ-ofZ f) (sym (ap toSigned32 o))
+    rw (toZ-ofZ g, toZ-ofZ f) (sym o)
 
 pub read-i32-spec : {M : Type 1} → statement M
 read-i32-spec =

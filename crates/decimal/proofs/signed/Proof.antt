@@ -1,14 +1,13 @@
 -- `signed` meets its contract: by the first byte, and then by what `number` answers. Both bounds come from `column-given`. Assumes nothing.
-use Rattle.decimal.proofs.AnswerLaws.{u64-given, u64-bad}
 use Rattle.decimal.proofs.ColumnLaws.{column-given, signed-none, minus-bad, minus-zero, minus-given, plain-bad, plain-given}
-use Rattle.decimal.specs.declared.Signed64.the-variants as Long
-use Rattle.decimal.specs.Answers.{toSigned64}
+use Rattle.decimal.specs.Answers.{unsignedAnswer}
 use mir.Facts.{toZ-ofZ, toZ-pos}
 use mir.Syntax.{w64}
 use lib.ListN.{drop}
 use native.Mathlib.Omega.{arith}
 use Prim.Native.Nat.{_+_, _<_, _^_}
 use mathlib.Core.Path.{sym, ap, _∙_}
+use Rattle.sheets.specs.Answer.{given}
 use borrow.Author.Needs.{needs}
 use Rattle.decimal.proofs.signed.Statement.{statement}
 use Rattle.decimal.proofs.signed.Tie as tie
@@ -16,7 +15,7 @@ use Rattle.decimal.proofs.signed.Tie as tie
 returns : tie.Need-returns
 returns c =
     let st = c .before .before .args in
-    sym (ap toSigned64 (signed-none (st .max + 1) (st .s .now) (c .if1 .taken)))
+    sym (signed-none (st .max + 1) (st .s .now) (c .if1 .taken))
 
 shared-slice-read-if2 : tie.Need-shared-slice-read-if2
 shared-slice-read-if2 c = search needs
@@ -38,8 +37,8 @@ returns-2 c =
     let st = c .before .before .before .before .before .before .before .args in
     let s = st .s .now in
     let half = st .max + 1 in
-    let o = u64-bad (half + 1) (drop 1 s) (sym (c .before .before .number .ensures) ∙ c .enum-told .given .1) in
-    sym (ap toSigned64 (minus-bad half s (omega arith) (c .before .before .before .if2 .taken) o))
+    let o = sym (c .before .before .number .ensures) ∙ ap unsignedAnswer (c .enum-told .given .1) in
+    sym (minus-bad half s (omega arith) (c .before .before .before .if2 .taken) o)
 
 returns-3 : tie.Need-returns-3
 returns-3 c =
@@ -47,8 +46,8 @@ returns-3 c =
     let s = st .s .now in
     let half = st .max + 1 in
     let m = c .before .before .m .given .0 .0 in
-    let o = u64-given (half + 1) (drop 1 s) m (sym (c .before .before .before .before .number .ensures) ∙ c .before .before .m .given .1) in
-    sym (ap toSigned64 (minus-zero half s (omega arith) (c .before .before .before .before .before .if2 .taken) m o (c .if3 .taken)))
+    let o = sym (c .before .before .before .before .number .ensures) ∙ ap unsignedAnswer (c .before .before .m .given .1) in
+    sym (minus-zero half s (omega arith) (c .before .before .before .before .before .if2 .taken) m o (c .if3 .taken))
 
 negated-requires : tie.Need-negated-requires
 negated-requires c κs =
@@ -56,9 +55,9 @@ negated-requires c κs =
     let s = st .s .now in
     let half = st .max + 1 in
     let m = c .before .before .m .given .0 .0 in
-    let o = u64-given (half + 1) (drop 1 s) m (sym (c .before .before .before .before .number .ensures) ∙ c .before .before .m .given .1) in
+    let o = sym (c .before .before .before .before .number .ensures) ∙ ap unsignedAnswer (c .before .before .m .given .1) in
     let l : m < half + 1 = column-given (half + 1) (drop 1 s) m o .1 in
-    (omega arith, omega arith)
+    omega arith
 
 returns-4 : tie.Need-returns-4
 returns-4 c =
@@ -66,9 +65,9 @@ returns-4 c =
     let s = st .s .now in
     let half = st .max + 1 in
     let m = c .before .before .before .m .given .0 .0 in
-    let o = u64-given (half + 1) (drop 1 s) m (sym (c .before .before .before .before .before .number .ensures) ∙ c .before .before .before .m .given .1) in
-    ap Long.Value (toZ-ofZ {w = w64} (record { sfits = c .negated .ok }) ∙ c .negated .ensures)
-    ∙ sym (ap toSigned64 (minus-given half s (omega arith) (c .before .before .before .before .before .before .if2 .taken) m o (c .before .if3 .left)))
+    let o = sym (c .before .before .before .before .before .number .ensures) ∙ ap unsignedAnswer (c .before .before .before .m .given .1) in
+    ap given (toZ-ofZ {w = w64} (record { sfits = c .negated .ok }) ∙ c .negated .ensures)
+    ∙ sym (minus-given half s (omega arith) (c .before .before .before .before .before .before .if2 .taken) m o (c .before .if3 .left))
 
 number-requires-2 : tie.Need-number-requires-2
 number-requires-2 c κs = search needs
@@ -84,8 +83,8 @@ returns-5 c =
     let st = c .before .before .before .before .before .before .before .args in
     let s = st .s .now in
     let half = st .max + 1 in
-    let o = u64-bad half s (sym (c .before .before .number2 .ensures) ∙ c .enum-told2 .given .1) in
-    sym (ap toSigned64 (plain-bad half s (omega arith) (c .before .before .before .if2 .left) o))
+    let o = sym (c .before .before .number2 .ensures) ∙ ap unsignedAnswer (c .enum-told2 .given .1) in
+    sym (plain-bad half s (omega arith) (c .before .before .before .if2 .left) o)
 
 cast-t14 : tie.Need-cast-t14
 cast-t14 c =
@@ -93,7 +92,7 @@ cast-t14 c =
     let s = st .s .now in
     let half = st .max + 1 in
     let n = c .before .n .given .0 .0 in
-    let o = u64-given half s n (sym (c .before .before .before .number2 .ensures) ∙ c .before .n .given .1) in
+    let o = sym (c .before .before .before .number2 .ensures) ∙ ap unsignedAnswer (c .before .n .given .1) in
     let h : n < half = column-given half s n o .1 in
     let l : n < 2 ^ 63 = omega (arith, c .before .before .before .before .before .before .before .before .pre) in
     record { sfits = l }
@@ -104,10 +103,10 @@ returns-6 c =
     let s = st .s .now in
     let half = st .max + 1 in
     let n = c .before .n .given .0 .0 in
-    let o = u64-given half s n (sym (c .before .before .before .number2 .ensures) ∙ c .before .n .given .1) in
+    let o = sym (c .before .before .before .number2 .ensures) ∙ ap unsignedAnswer (c .before .n .given .1) in
     let h : n < half = column-given half s n o .1 in
     let l : n < 2 ^ 63 = omega (arith, c .before .before .before .before .before .before .before .before .pre) in
-    ap Long.Value (toZ-pos w64 l) ∙ sym (ap toSigned64 (plain-given half s (omega arith) (c .before .before .before .before .if2 .left) n o))
+    ap given (toZ-pos w64 l) ∙ sym (plain-given half s (omega arith) (c .before .before .before .before .if2 .left) n o)
 
 pub signed-spec : {M : Type 1} → statement M
 signed-spec =

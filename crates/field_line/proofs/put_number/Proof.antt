@@ -1,8 +1,10 @@
 -- `put_number` meets its contract: a chain of two writes. Assumes nothing.
 use mathlib.Core.List.{[], _∷_}
+use native.Mathlib.Omega.{arith}
 use Rattle.sheets.specs.Bytes.{space}
 use Rattle.sheets.specs.Number.{decimal}
 use Rattle.buffer.proofs.OverLaws.{none-yet, and-then}
+use Rattle.decimal.proofs.WriteLaws.{decimal-short}
 use Rattle.field_line.specs.Columns.{column}
 use borrow.Author.Needs.{needs}
 use Rattle.field_line.proofs.put_number.Statement.{statement}
@@ -12,7 +14,9 @@ put-u64-requires : tie.Need-put-u64-requires
 put-u64-requires c κs = search needs
 
 put-byte-requires : tie.Need-put-byte-requires
-put-byte-requires c κs = search needs
+put-byte-requires c κs =
+    let st = c .before .before .before .before .before .before in
+    omega (arith, c .before .before .before .put-u64 .ensures .0, decimal-short (st .args .n) (st .fits .n .fits), st .pre)
 
 same-length : tie.Need-same-length
 same-length c = search needs

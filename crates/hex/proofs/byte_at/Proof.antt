@@ -1,4 +1,4 @@
--- `hex::byte_at` meets its contract: both bytes of the pair are digits (`digit-at`), and their values make the byte (`byte-of-pair`). Assumes nothing.
+-- `byte_at` meets its contract: both bytes of the pair are digits (`digit-at`), and their values make the byte (`byte-of-pair`). Assumes nothing.
 use Prim.Native.Nat.{_+_, _*_}
 use native.Mathlib.Omega.{arith}
 use Rattle.hex.proofs.HexLaws.{digit-at, byte-of-pair}

@@ -1,4 +1,4 @@
--- `hex::is_digit` meets its contract, by the ranges of `DigitLaws`. Assumes nothing.
+-- `is_digit` meets its contract, by the ranges of `DigitLaws`. Assumes nothing.
 use mathlib.Core.Path.{sym}
 use native.Mathlib.Omega.{arith}
 use Rattle.hex.proofs.DigitLaws.{before-0, to-9, before-a, from-a}

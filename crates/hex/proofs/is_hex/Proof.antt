@@ -1,4 +1,4 @@
--- `hex::is_hex` meets its contract. The loop's invariant: the whole text is pairs of digits exactly if `ok` is true and the bytes from `i` on are digits.
+-- `is_hex` meets its contract. The loop's invariant: the whole text is pairs of digits exactly if `ok` is true and the bytes from `i` on are digits.
 -- The measure is what is left of the length. Assumes nothing.
 use mathlib.Core.Path.{_≡_, sym, _∙_, ap}
 use mathlib.Core.Bool.{_&&_}

@@ -1,4 +1,4 @@
--- `hex::says` meets its contract. The loop's invariant: the bytes of the text and `key` are the same exactly if they are from `k` on.
+-- `says` meets its contract. The loop's invariant: the bytes of the text and `key` are the same exactly if they are from `k` on.
 -- The measure is what is left of `key`. Assumes nothing.
 use mathlib.Core.Path.{_≡_, refl, sym, _∙_}
 use Prim.Native.Nat.{_≤_, _-_}

@@ -1,4 +1,4 @@
--- `hex::value_of` meets its contract, by `value-by-bits`. Assumes nothing.
+-- `value_of` meets its contract, by `value-by-bits`. Assumes nothing.
 use mathlib.Core.Path.{sym}
 use native.Mathlib.Omega.{arith}
 use Rattle.hex.proofs.DigitLaws.{value-by-bits, value-below}

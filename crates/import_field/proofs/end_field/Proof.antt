@@ -1,35 +1,23 @@
--- `end_field` meets its contract: the laws are in `EndLaws`. Assumes nothing.
-use native.Mathlib.Omega.{arith}
-use denote.Ref.{now}
-use Rattle.import_field.proofs.EndLaws.{left-low, left-skipped}
+-- `end_field` meets its contract: by the two cases of what is pending. Assumes nothing.
+use mathlib.Core.Path.{sym, ap}
+use Rattle.node.specs.declared.Pending.{Pending}
+use Rattle.node.specs.Nodes.{pendingAnswer}
+use Rattle.import_field.specs.Contracts.{endedField}
 use borrow.Author.Needs.{needs}
 use Rattle.import_field.proofs.end_field.Statement.{statement}
 use Rattle.import_field.proofs.end_field.Tie as tie
 
-skip-row-requires : tie.Need-skip-row-requires
-skip-row-requires c κs = search needs
-
-enum-known-next : tie.Need-enum-known-next
-enum-known-next c = search needs
-
 enum-told : tie.Need-enum-told
 enum-told c = search needs
 
+enum-known-pending : tie.Need-enum-known-pending
+enum-known-pending c = search needs
+
 returns : tie.Need-returns
-returns c =
-    let st = c .before .before .before .before in
-    let k = c .before .before .skip-row in
-    λ us ts h. absurd (left-low (now (st .args .s)) _ _ _ us ts h (k .result) (k .ensures) (c .enum-told .given .1))
+returns c = ap (λ (p : Pending). endedField (pendingAnswer p) (c .before .before .args .next) (c .before .before .args .len)) (sym (c .enum-told .given .1))
 
 returns-2 : tie.Need-returns-2
-returns-2 c = search needs
-
-returns-3 : tie.Need-returns-3
-returns-3 c =
-    let st = c .before .before .before .before .before .before in
-    let k = c .before .before .before .before .skip-row in
-    λ us ts h. left-skipped (now (st .args .s)) _ _ _ us ts h (k .result) (k .ensures) _ _ _ (c .before .before .next .given .1) (omega arith)
+returns-2 c = ap (λ (p : Pending). endedField (pendingAnswer p) (c .before .before .before .args .next) (c .before .before .before .args .len)) (sym (c .before .pending .given .1))
 
 pub end-field-spec : {M : Type 1} → statement M
-end-field-spec =
-    tie.close (tie.spec skip-row-requires enum-known-next enum-told returns returns-2 returns-3)
+end-field-spec = tie.close (tie.spec enum-told enum-known-pending returns returns-2)

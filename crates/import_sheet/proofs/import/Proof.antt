@@ -8,8 +8,8 @@ use Rattle.import_sheet.proofs.import.Tie as tie
 read-sheet-requires : tie.Need-read-sheet-requires
 read-sheet-requires c κs = search needs
 
-enum-known-n : tie.Need-enum-known-n
-enum-known-n c = search needs
+enum-known-r : tie.Need-enum-known-r
+enum-known-r c = search needs
 
 refuse-requires : tie.Need-refuse-requires
 refuse-requires c κs = search needs
@@ -23,8 +23,8 @@ put-by-length-requires c κs =
     let r = c .before .before .before .before .read-sheet in
     field-there (now (a .s)) (now (a .out)) (r .result) _ (c .before .before .at .given .1) (r .ensures)
 
-enum-known-n-2 : tie.Need-enum-known-n-2
-enum-known-n-2 c = search needs
+enum-known-r-2 : tie.Need-enum-known-r-2
+enum-known-r-2 c = search needs
 
 refuse-requires-2 : tie.Need-refuse-requires-2
 refuse-requires-2 c κs = search needs
@@ -42,7 +42,7 @@ returns : tie.Need-returns
 returns c =
     let a = c .before .before .before .before .before .before .before .before .before .before .args in
     let r = c .before .before .before .before .before .before .before .read-sheet in
-    import-unread (now (a .s)) (now (a .out)) (r .result) _ (c .before .before .before .before .before .n .given .1) (r .ensures) _ _ (c .before .before .refuse .ensures)
+    import-unread (now (a .s)) (now (a .out)) (r .result) _ (c .before .before .before .before .before .r .given .1) (r .ensures) _ (c .before .before .refuse .ensures)
 
 same-length-2 : tie.Need-same-length-2
 same-length-2 c = search needs
@@ -55,7 +55,7 @@ returns-2 c =
     let r = c .before .before .before .before .before .before .before .before .before .before .before .before .before .before .read-sheet in
     let e = c .before .before .before .before .before .before .before .before .before .before .before .before .at .given .1 in
     let p = c .before .before .before .before .before .before .before .before .before .put-by-length in
-    import-refused s out (r .result) _ e (r .ensures) _ (p .result) (p .ensures) _ _ _ (c .before .before .before .before .before .n2 .given .1) (p .kept .1 .1 .0) (c .before .before .refuse2 .ensures)
+    import-refused s out (r .result) _ e (r .ensures) _ (p .result) (p .ensures) _ (c .before .before .before .before .before .r2 .given .1) (p .kept .1 .1 .0) _ (c .before .before .refuse2 .ensures)
 
 same-length-3 : tie.Need-same-length-3
 same-length-3 c = search needs
@@ -68,18 +68,18 @@ returns-3 c =
     let r = c .before .before .before .before .before .before .before .before .before .before .before .before .before .before .read-sheet in
     let e = c .before .before .before .before .before .before .before .before .before .before .before .before .at .given .1 in
     let p = c .before .before .before .before .before .before .before .before .before .put-by-length in
-    import-done s out (r .result) _ e (r .ensures) _ (p .result) (p .ensures) _ _ _ _ (c .before .before .before .before .before .len .given .1) (c .before .before .written .ensures)
+    import-done s out (r .result) _ e (r .ensures) _ (p .result) (p .ensures) _ _ (c .before .before .before .before .before .len .given .1) _ _ (c .before .before .written .ensures)
 
 pub import-spec : {M : Type 1} → statement M
 import-spec =
     tie.close
     (tie.spec
     read-sheet-requires
-    enum-known-n
+    enum-known-r
     refuse-requires
     enum-known-at
     put-by-length-requires
-    enum-known-n-2
+    enum-known-r-2
     refuse-requires-2
     enum-known-len
     written-requires

@@ -28,17 +28,17 @@ part-to-first-field-end c = search needs
 to-first-field-requires : tie.Need-to-first-field-requires
 to-first-field-requires c κs = search needs
 
-enum-known-n : tie.Need-enum-known-n
-enum-known-n c = search needs
+enum-known-r : tie.Need-enum-known-r
+enum-known-r c = search needs
 
 enum-known-next : tie.Need-enum-known-next
 enum-known-next c = search needs
 
-add-t26 : tie.Need-add-t26
-add-t26 c =
+add-t27 : tie.Need-add-t27
+add-t27 c =
     let h = c .before .before .before .before .before .before .before .before .before .before .before .before .before .before .before .before .before .before .before .before .before .before .before .pre .0 in
     let r = c .before .before .before .before .before .before .before .before .before .to-first-field in
-    omega (arith, lines-long _ _ _ _ (h .2) _ (r .last .1 .1 .1 .1 .0) _ _ _ (c .before .next .given .1) (r .ensures), c .before .before .before .before .before .before .before .before .before .before .before .before .before .before .before .before .put-at .ensures .0)
+    omega (arith, lines-long _ _ _ _ (h .2) _ (r .last .1 .1 .0) _ _ _ (c .before .next .given .1) (r .ensures), c .before .before .before .before .before .before .before .before .before .before .before .before .before .before .before .before .put-at .ensures .0)
 
 same-length : tie.Need-same-length
 same-length c = search needs
@@ -52,7 +52,7 @@ same-length-3 c = search needs
 returns : tie.Need-returns
 returns c =
     let r = c .before .before .before .before .before .before .before .before .before .to-first-field in
-    λ t ts f. sheet-refused _ _ t ts f _ (r .last .1 .1 .1 .1 .0) _ _ (c .before .n .given .1) (r .ensures)
+    λ t ts f. sheet-refused _ _ t ts f _ (r .last .1 .1 .0) _ _ (c .before .r .given .1) (r .ensures)
 
 same-length-4 : tie.Need-same-length-4
 same-length-4 c = search needs
@@ -68,7 +68,7 @@ returns-2 c =
     let r = c .before .before .before .before .before .before .before .before .before .to-first-field in
     let w = c .before .before .before .before .before .before .before .before .before .before .before .before .before .within in
     let h = c .before .before .before .before .before .before .before .before .before .before .before .before .before .before .before .before .put-at in
-    λ t ts f. sheet-done _ _ t ts f _ (r .last .1 .1 .1 .1 .0) _ _ _ (c .before .next .given .1) (r .ensures)
+    λ t ts f. sheet-done _ _ t ts f _ (r .last .1 .1 .0) _ _ _ (c .before .next .given .1) (r .ensures)
     (now (c .before .before .before .before .before .before .before .before .before .before .before .before .before .before .before .before .before .before .before .before .before .before .before .args .out)) (h .last .0) (h .result) (w .result) (h .ensures) (w .ensures) refl
 
 pub put-sheet-spec : {M : Type 1} → statement M
@@ -82,9 +82,9 @@ put-sheet-spec =
     part-to-first-field-start
     part-to-first-field-end
     to-first-field-requires
-    enum-known-n
+    enum-known-r
     enum-known-next
-    add-t26
+    add-t27
     same-length
     same-length-2
     same-length-3

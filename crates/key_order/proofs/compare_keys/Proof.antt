@@ -1,4 +1,4 @@
--- `key_order::compare_keys` meets its contract: the two keys compared are those of the entries. Assumes nothing.
+-- `compare_keys` meets its contract: the two keys compared are those of the entries. Assumes nothing.
 use mathlib.Core.Path.{_∙_}
 use borrow.Author.Needs.{needs}
 use Rattle.key_order.proofs.compare_keys.Statement.{statement}

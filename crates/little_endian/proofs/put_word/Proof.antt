@@ -1,4 +1,4 @@
--- `little_endian::put_word` meets its contract: `put_hex` writes the text of the word's bytes. Assumes nothing.
+-- `put_word` meets its contract: `put_hex` writes the text of the word's bytes. Assumes nothing.
 use mathlib.Core.Path.{sym, ap, subst, _∙_}
 use mathlib.Core.List.{List}
 use Prim.Native.Nat.{ℕ, _+_}

@@ -1,4 +1,4 @@
--- `little_endian::word_at` meets its contract: the sum of the four bytes is the word's value (`word-sum`). Assumes nothing.
+-- `word_at` meets its contract: the sum of the four bytes is the word's value (`word-sum`). Assumes nothing.
 use mathlib.Core.Path.{sym}
 use Rattle.little_endian.proofs.WordLaws.{word-sum}
 use borrow.Author.Needs.{needs}

@@ -1,4 +1,4 @@
--- `little_endian::word_bytes` meets its contract. Assumes nothing.
+-- `word_bytes` meets its contract. Assumes nothing.
 use mathlib.Core.Path.{sym}
 use Rattle.little_endian.proofs.WordLaws.{bytes-one-by-one}
 use borrow.Author.Needs.{needs}

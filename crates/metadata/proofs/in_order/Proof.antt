@@ -1,6 +1,6 @@
 -- `in_order` meets its contract: keys in hexadecimal stand as the keys do. Assumes nothing.
 use native.Mathlib.Omega.{arith}
-use Rattle.metadata.proofs.MeaningLaws.{orders}
+use Rattle.metadata.proofs.MeaningLaws.{order-means, order-stands}
 use borrow.Author.Needs.{needs}
 use Rattle.metadata.proofs.in_order.Statement.{statement}
 use Rattle.metadata.proofs.in_order.Tie as tie
@@ -19,7 +19,10 @@ returns c =
     let a = c .before .before .before .before .before .before .before .before .before .before .args in
     let h = c .before .before .before .before .before .before .before .before .before .before .pre in
     let s = c .before .before .before .before .sort-keys in
-    orders (a .m .now) (h .isText) (a .entries .now) (a .f) (h .entries .each) (s .result) (s .last .1 .0) (s .ensures .0 .1) (omega (arith, s .ensures .0 .0, s .ensures .1 .0, h .entries .count))
+    let few = s .ensures .0 in (
+      order-means (a .m .now) (h .isText) (a .entries .now) (a .f) (h .standing) (s .result) (s .last .1 .0) (few .1) (h .free),
+      order-stands (a .m .now) (h .isText) (a .entries .now) (a .f) (h .standing) (s .result) (s .last .1 .0) (few .1) (omega (arith, few .0, s .ensures .1 .0, h .standing .entries .count)),
+    )
 
 pub in-order-spec : {M : Type 1} → statement M
 in-order-spec = tie.close (tie.spec sort-keys-requires same-length same-length-2 returns)

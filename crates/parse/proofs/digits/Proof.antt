@@ -1,15 +1,16 @@
 -- `parse::digits` meets its contract. The loop's invariant: the bytes from `at` on make what those from `i` on make of the value `v` so far.
 -- The measure is what is left of the bytes. Assumes nothing.
 use mathlib.Core.Path.{_≡_, sym, ap, _∙_}
-use Prim.Native.Nat.{ℕ, _≤_, _<_, _-_, _+_}
+use Prim.Native.Nat.{_≤_, _<_, _-_, _+_}
 use native.Mathlib.Omega.{arith}
 use lib.ListN.{length, getD, drop}
 use Rattle.sheets.specs.Refusal.{badNumber}
-use Rattle.digit.specs.Digits.{digitAfter, toNumber, digitsBelow}
-use Rattle.digit.proofs.DigitLaws.{bad, next, within, done}
 use Rattle.hex.specs.Hex.{bytesOf}
 use Rattle.hex.proofs.HexLaws.{length-bytes}
-use Rattle.parse.specs.Parse.{sizeOf, numberBelow}
+use Rattle.decimal.specs.Digits.{digitAfter, digitsBelow}
+use Rattle.decimal.specs.Answers.{numberOption}
+use Rattle.decimal.proofs.DigitLaws.{bad, next, within, done}
+use Rattle.parse.specs.Parse.{numberBelow}
 use Rattle.parse.proofs.DigitLaws.{no-digits, some-digits}
 use borrow.Author.Needs.{needs}
 use Rattle.parse.proofs.digits.Statement.{statement}
@@ -25,7 +26,7 @@ returns : tie.Need-returns Inv-loop μ-loop
 returns c =
     let st = c .before .before in
     let s = st .args .s .now in
-    sym (ap sizeOf (no-digits (st .args .max + 1) (bytesOf s) (st .args .at) (omega (arith, length-bytes s (st .pre)))))
+    sym (no-digits (st .args .max + 1) (bytesOf s) (st .args .at) (omega (arith, length-bytes s (st .pre))))
 
 loop-holds : tie.Need-loop-holds Inv-loop μ-loop
 loop-holds c =
@@ -50,10 +51,10 @@ returns-2 : tie.Need-returns-2 Inv-loop μ-loop
 returns-2 c =
     let l = c .before .before .before .before .before .loop in
     let st = c .before .before .before .before .before .before .before .before .args in
-    let byte = ap (λ (b : ℕ). toNumber (digitAfter (st .max + 1) (l .v) b)) (sym (c .before .before .before .byte-at .ensures)) in
-    let e = byte ∙ sym (c .before .before .after .ensures) ∙ c .enum-told .given .1 in
+    let byte = ap (digitAfter (st .max + 1) (l .v)) (sym (c .before .before .before .byte-at .ensures)) in
+    let e = byte ∙ sym (c .before .before .after .ensures) ∙ ap numberOption (c .enum-told .given .1) in
     let h : l .i < length (bytesOf (st .s .now)) = omega (arith, l .inv .0, c .before .before .before .before .loop-test .taken) in
-    sym (ap sizeOf (l .inv .2 ∙ bad badNumber (st .max + 1) (l .v) (bytesOf (st .s .now)) (l .i) h e))
+    sym (l .inv .2 ∙ bad badNumber (st .max + 1) (l .v) (bytesOf (st .s .now)) (l .i) h e)
 
 add-i : tie.Need-add-i Inv-loop μ-loop
 add-i c = search needs
@@ -67,8 +68,8 @@ loop-again c =
     let st = c .before .before .before .before .before .before .before .before .before .args in
     let bs = bytesOf (st .s .now) in
     let m = c .before .m .given .0 .0 in
-    let byte = ap (λ (b : ℕ). toNumber (digitAfter (st .max + 1) (l .v) b)) (sym (c .before .before .before .before .byte-at .ensures)) in
-    let e = byte ∙ sym (c .before .before .before .after .ensures) ∙ c .before .m .given .1 in
+    let byte = ap (digitAfter (st .max + 1) (l .v)) (sym (c .before .before .before .before .byte-at .ensures)) in
+    let e = byte ∙ sym (c .before .before .before .after .ensures) ∙ ap numberOption (c .before .m .given .1) in
     let h : l .i < length bs = omega (arith, l .inv .0, c .before .before .before .before .before .loop-test .taken) in
     (l .inv .0, omega (arith, within (st .max + 1) (l .v) (getD bs (l .i) 0) m e), l .inv .2 ∙ next badNumber (st .max + 1) (l .v) bs (l .i) h m e)
 
@@ -76,7 +77,7 @@ returns-3 : tie.Need-returns-3 Inv-loop μ-loop
 returns-3 c =
     let l = c .before .loop in
     let st = c .before .before .before .before .args in
-    sym (ap sizeOf (l .inv .2 ∙ done badNumber (st .max + 1) (l .v) (bytesOf (st .s .now)) (l .i) (omega (arith, l .inv .0, c .loop-test .left)) (omega (arith, l .inv .1))))
+    sym (l .inv .2 ∙ done badNumber (st .max + 1) (l .v) (bytesOf (st .s .now)) (l .i) (omega (arith, l .inv .0, c .loop-test .left)) (omega (arith, l .inv .1)))
 
 pub digits-spec : {M : Type 1} → statement M
 digits-spec =

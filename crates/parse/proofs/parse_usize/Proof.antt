@@ -1,9 +1,8 @@
 -- `parse::parse_usize` meets its contract: `readSize` is the digits after an optional plus, below 2 ^ 64. Assumes nothing.
 use mathlib.Core.Path.{sym, ap, _∙_}
-use mathlib.Core.List.{List}
-use Prim.Native.Nat.{ℕ, _^_}
+use Prim.Native.Nat.{_^_}
 use Rattle.hex.specs.Hex.{bytesOf}
-use Rattle.parse.specs.Parse.{sizeOf, numberBelow}
+use Rattle.parse.specs.Parse.{numberBelow}
 use Rattle.parse.proofs.ParseLaws.{read-size}
 use borrow.Author.Needs.{needs}
 use Rattle.parse.proofs.parse_usize.Statement.{statement}
@@ -18,7 +17,7 @@ digits-requires c κs = search needs
 returns : tie.Need-returns
 returns c =
     let st = c .before .before .before in
-    c .digits .ensures ∙ ap (λ (b : List ℕ). sizeOf (numberBelow (2 ^ 64) b)) (c .before .after-plus .ensures) ∙ sym (ap sizeOf (read-size (bytesOf (st .args .s .now))))
+    c .digits .ensures ∙ ap (numberBelow (2 ^ 64)) (c .before .after-plus .ensures) ∙ sym (read-size (bytesOf (st .args .s .now)))
 
 pub parse-usize-spec : {M : Type 1} → statement M
 parse-usize-spec = tie.close (tie.spec after-plus-requires digits-requires returns)

@@ -1,11 +1,12 @@
 -- `replay::replay_import` meets its contract: the answer with its buffer is the definition's outcome for the filled buffer, since import is
 -- proved to have it. Assumes nothing.
 use mathlib.Core.Path.{_≡_, ap, subst, _∙_}
+use mathlib.Core.Option.{some}
 use Prim.Native.Nat.{ℕ}
 use lib.ListN.{length}
 use borrow.Author.Needs.{needs}
 use Rattle.sheets.specs.Outcome.{Outcome, importOutcome}
-use Rattle.judge_answer.specs.Judging.{filled, recorded, Judges}
+use Rattle.judge.specs.Judging.{filled, recorded, difference, replayedOption}
 use Rattle.replay.proofs.replay_import.Statement.{statement}
 use Rattle.replay.proofs.replay_import.Tie as tie
 
@@ -31,8 +32,8 @@ returns c =
     let after = c .before .before .before .before .before .import .last .1 .0 in
     let size : length after ≡ room = c .before .before .before .before .before .import .kept .1 .0 ∙ c .before .before .before .before .before .before .before .before .before .fill .kept .0 in
     let came = c .before .before .before .before .before .import .ensures ∙ ap (importOutcome (a .input .now)) (c .before .before .before .before .before .before .before .before .before .fill .ensures) in
-    subst (λ (n : ℕ). Judges (importOutcome (a .input .now) (filled room)) (recorded (a .h) (a .output .now) n) (c .judge .result)) size
-    (subst (λ (o : Outcome). Judges o (recorded (a .h) (a .output .now) (length after)) (c .judge .result)) came (c .judge .ensures))
+    subst (λ (n : ℕ). replayedOption (c .judge .result) ≡ some (difference (importOutcome (a .input .now) (filled room)) (recorded (a .h) (a .output .now) n))) size
+    (subst (λ (o : Outcome). replayedOption (c .judge .result) ≡ some (difference o (recorded (a .h) (a .output .now) (length after)))) came (c .judge .ensures))
 
 pub replay-import-spec : {M : Type 1} → statement M
 replay-import-spec =

@@ -1,17 +1,14 @@
--- `replay::replay_next` meets its contract: the buffers hold the parts of the record that was read. Assumes nothing.
-use mathlib.Core.Path.{sym, subst}
-use lib.Seq.{length-take-le}
+-- `replay_next` meets its contract: a law for each way out (`TurnLaws`). Assumes nothing.
+use mathlib.Core.Path.{sym, subst, _∙_}
 use lib.ListN.{length}
-use borrow.Author.Tests.{ltb-false}
+use borrow.Author.Tests.{not-true, not-false}
 use borrow.Author.Needs.{needs}
-use Rattle.read_list.specs.Reading.{NextStands, ReadsNext}
+use Rattle.recorded_list.specs.Reading.{ReadsNext}
+use Rattle.recorded_list.specs.Answers.{nextOption, recordIn}
+use Rattle.recorded_list.specs.declared.Next.{Next}
+use Rattle.replay.proofs.TurnLaws.{no-record, not-proper, lendable, one-turn}
 use Rattle.replay.proofs.replay_next.Statement.{statement}
 use Rattle.replay.proofs.replay_next.Tie as tie
-
--- what was read of the record
-the-record : (c : tie.After-known-told) → NextStands (c .before .before .before .before .before .before .before .before .before .before .before .before .before .before .before .before .before .args .text .now) (c .before .before .before .before .before .before .before .before .before .before .before .before .before .before .before .before .before .args .before) (c .before .before .before .before .before .before .before .before .before .next-record .last .0) (c .before .before .before .before .before .before .before .before .before .next-record .last .1 .1 .0) (c .before .before .before .before .before .before .before .before .before .next-record .last .1 .1 .1 .0) (c .before .h .given .0 .0) (c .before .h .given .0 .1 .0)
-the-record c =
-    subst (ReadsNext (c .before .before .before .before .before .before .before .before .before .before .before .before .before .before .before .before .before .args .text .now) (c .before .before .before .before .before .before .before .before .before .before .before .before .before .before .before .before .before .args .before) (c .before .before .before .before .before .before .before .before .before .next-record .last .0) (c .before .before .before .before .before .before .before .before .before .next-record .last .1 .1 .0) (c .before .before .before .before .before .before .before .before .before .next-record .last .1 .1 .1 .0)) (c .before .h .given .1) (c .before .before .before .before .before .before .before .before .before .next-record .ensures)
 
 next-record-requires : tie.Need-next-record-requires
 next-record-requires c κs = search needs
@@ -32,7 +29,17 @@ same-length-3 : tie.Need-same-length-3
 same-length-3 c = search needs
 
 returns : tie.Need-returns
-returns c = search needs
+returns c =
+    let a = c .before .before .before .before .before .before .before .before .before .before .before .before .before .before .before .args in
+    let read = c .before .before .before .before .before .before .before .before .next-record in
+    let text = read .last .0 in
+    let ins = read .last .1 .1 .0 in
+    let outs = read .last .1 .1 .1 .0 in
+    let next = subst (λ (r : Next). ReadsNext (length ins) (length outs) (a .text .now) (a .before) text (nextOption ins outs r)) (c .enum-told .given .1) (read .ensures) in
+    no-record (length ins) (length outs) (a .text .now) (a .before) text next
+
+is-proper-requires : tie.Need-is-proper-requires
+is-proper-requires c κs = search needs
 
 same-length-4 : tie.Need-same-length-4
 same-length-4 c = search needs
@@ -44,33 +51,26 @@ same-length-6 : tie.Need-same-length-6
 same-length-6 c = search needs
 
 returns-2 : tie.Need-returns-2
-returns-2 c = search needs
-
-slice-reshare-prefix-replay-record : tie.Need-slice-reshare-prefix-replay-record
-slice-reshare-prefix-replay-record c = the-record (c .before .before .before) .reads .0
-
-slice-aggregate-replay-record : tie.Need-slice-aggregate-replay-record
-slice-aggregate-replay-record c =
-    let k = c .before .before .before .before in
-    sym (length-take-le (k .before .h .given .0 .0 .input) (k .before .before .before .before .before .before .before .before .before .next-record .last .1 .1 .0) (the-record k .reads .0))
-
-slice-reshare-prefix-replay-record-2 : tie.Need-slice-reshare-prefix-replay-record-2
-slice-reshare-prefix-replay-record-2 c = the-record (c .before .before .before .before) .reads .1
-
-slice-aggregate-replay-record-2 : tie.Need-slice-aggregate-replay-record-2
-slice-aggregate-replay-record-2 c =
-    let k = c .before .before .before .before .before in
-    sym (length-take-le (k .before .h .given .0 .0 .output) (k .before .before .before .before .before .before .before .before .before .next-record .last .1 .1 .1 .0) (the-record k .reads .1))
-
-slice-relend-prefix-replay-record : tie.Need-slice-relend-prefix-replay-record
-slice-relend-prefix-replay-record c = search needs
-
-slice-aggregate-replay-record-3 : tie.Need-slice-aggregate-replay-record-3
-slice-aggregate-replay-record-3 c =
-    sym (length-take-le (c .before .before .before .before .before .before .before .h .given .0 .0 .room) (c .before .before .before .before .before .before .before .before .before .before .before .before .before .before .before .before .before .before .before .before .before .before .before .args .lent .now) (ltb-false (length (c .before .before .before .before .before .before .before .before .before .before .before .before .before .before .before .before .before .before .before .before .before .before .before .args .lent .now)) (c .before .before .before .before .before .before .before .h .given .0 .0 .room) (c .before .before .before .if2 .left)))
+returns-2 c =
+    let a = c .before .before .before .before .before .before .before .before .before .before .before .before .before .before .before .before .before .before .args in
+    let read = c .before .before .before .before .before .before .before .before .before .before .before .next-record in
+    let text = read .last .0 in
+    let ins = read .last .1 .1 .0 in
+    let outs = read .last .1 .1 .1 .0 in
+    let next = subst (λ (r : Next). ReadsNext (length ins) (length outs) (a .text .now) (a .before) text (nextOption ins outs r)) (c .before .before .before .h .given .1) (read .ensures) in
+    let h = c .before .before .before .h .given in
+    not-proper (length ins) (length outs) (a .text .now) (a .before) text (recordIn ins outs (h .0 .0)) (h .0 .1 .0) next (sym (c .before .is-proper .ensures) ∙ not-true _ (c .if1 .taken))
 
 replay-record-requires : tie.Need-replay-record-requires
-replay-record-requires c κs = search needs
+replay-record-requires c κs =
+    let a = c .before .before .before .before .before .before .before .before .before .before .before .before .before .before .before .before .before .before .before .before .args in
+    let read = c .before .before .before .before .before .before .before .before .before .before .before .before .before .next-record in
+    let text = read .last .0 in
+    let ins = read .last .1 .1 .0 in
+    let outs = read .last .1 .1 .1 .0 in
+    let next = subst (λ (r : Next). ReadsNext (length ins) (length outs) (a .text .now) (a .before) text (nextOption ins outs r)) (c .before .before .before .before .before .h .given .1) (read .ensures) in
+    let h = c .before .before .before .before .before .h .given in
+    lendable (length ins) (length outs) (a .text .now) (a .before) text (recordIn ins outs (h .0 .0)) (h .0 .1 .0) next (sym (c .before .before .before .is-proper .ensures) ∙ not-false _ (c .before .before .if1 .left))
 
 same-length-7 : tie.Need-same-length-7
 same-length-7 c = search needs
@@ -81,12 +81,16 @@ same-length-8 c = search needs
 same-length-9 : tie.Need-same-length-9
 same-length-9 c = search needs
 
-same-length-10 : tie.Need-same-length-10
-same-length-10 c = search needs
-
 returns-3 : tie.Need-returns-3
 returns-3 c =
-    the-record (c .before .before .before .before .before .before .before .before .before) .within
+    let a = c .before .before .before .before .before .before .before .before .before .before .before .before .before .before .before .before .before .before .before .before .before .args in
+    let read = c .before .before .before .before .before .before .before .before .before .before .before .before .before .before .next-record in
+    let text = read .last .0 in
+    let ins = read .last .1 .1 .0 in
+    let outs = read .last .1 .1 .1 .0 in
+    let next = subst (λ (r : Next). ReadsNext (length ins) (length outs) (a .text .now) (a .before) text (nextOption ins outs r)) (c .before .before .before .before .before .before .h .given .1) (read .ensures) in
+    let h = c .before .before .before .before .before .before .h .given in
+    one-turn (length ins) (length outs) (a .text .now) (a .before) text (recordIn ins outs (h .0 .0)) (h .0 .1 .0) next (sym (c .before .before .before .before .is-proper .ensures) ∙ not-false _ (c .before .before .before .if1 .left)) _ (c .replay-record .ensures)
 
 pub replay-next-spec : {M : Type 1} → statement M
 replay-next-spec =
@@ -99,19 +103,13 @@ replay-next-spec =
     same-length-2
     same-length-3
     returns
+    is-proper-requires
     same-length-4
     same-length-5
     same-length-6
     returns-2
-    slice-reshare-prefix-replay-record
-    slice-aggregate-replay-record
-    slice-reshare-prefix-replay-record-2
-    slice-aggregate-replay-record-2
-    slice-relend-prefix-replay-record
-    slice-aggregate-replay-record-3
     replay-record-requires
     same-length-7
     same-length-8
     same-length-9
-    same-length-10
     returns-3)

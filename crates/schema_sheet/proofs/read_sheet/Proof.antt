@@ -1,9 +1,9 @@
--- `schema_sheet::read_sheet` meets its contract: each way out has its law in `SheetLaws`. Assumes nothing.
+-- `read_sheet` meets its contract: each way out has its law in `SheetLaws`. Assumes nothing.
 use mathlib.Core.Path.{sym, subst, _∙_}
-use Rattle.schema_trees.specs.Trees.{Forms}
 use borrow.Author.Tests.{not-true, not-false}
-use Rattle.schema_sheet.proofs.SheetLaws.{sheet-long, sheet-headless, sheet-broken, sheet-bad, sheet-deep, sheet-whole, sheet-left}
 use borrow.Author.Needs.{needs}
+use Rattle.schema_sheet.specs.Trees.{Forms}
+use Rattle.schema_sheet.proofs.SheetLaws.{sheet-long, sheet-headless, sheet-broken, sheet-bad, sheet-deep, sheet-whole, sheet-left}
 use Rattle.schema_sheet.proofs.read_sheet.Statement.{statement}
 use Rattle.schema_sheet.proofs.read_sheet.Tie as tie
 
@@ -29,22 +29,42 @@ form-requires : tie.Need-form-requires
 form-requires c κs = search needs
 
 returns-3 : tie.Need-returns-3
-returns-3 c = sheet-deep (c .before .before .before .before .before .before .before .before .before .args .s .now) (c .before .before .before .before .before .before .before .if1 .left) (sym (c .before .before .before .before .before .before .has-heading .ensures) ∙ not-false _ (c .before .before .before .before .before .if2 .left)) (subst (Forms (c .before .before .before .before .before .before .before .before .before .args .s .now) 47) (c .if3 .taken) (c .before .form .ensures)) _ (c .before .before .enum-told2 .given .1) (c .before .before .before .before .first-tree .ensures)
+returns-3 c =
+    let s = c .before .before .before .before .before .before .before .before .before .args .s .now in
+    let short = c .before .before .before .before .before .before .before .if1 .left in
+    let headed = sym (c .before .before .before .before .before .before .has-heading .ensures) ∙ not-false _ (c .before .before .before .before .before .if2 .left) in
+    sheet-deep s short headed _ (c .before .before .before .before .first-tree .ensures) (c .before .before .enum-told2 .given .1) (subst (Forms s 47) (c .if3 .taken) (c .before .form .ensures))
 
 enum-known-end : tie.Need-enum-known-end
 enum-known-end c = search needs
 
 returns-4 : tie.Need-returns-4
-returns-4 c = sheet-left (c .before .before .before .before .before .before .before .before .before .args .s .now) (c .before .before .before .before .before .before .before .if1 .left) (sym (c .before .before .before .before .before .before .has-heading .ensures) ∙ not-false _ (c .before .before .before .before .before .if2 .left)) (c .before .before .before .before .first-tree .result) _ (c .before .before .end .given .1) (c .before .before .before .before .first-tree .ensures) (c .if4 .taken)
+returns-4 c =
+    let s = c .before .before .before .before .before .before .before .before .before .args .s .now in
+    let short = c .before .before .before .before .before .before .before .if1 .left in
+    let headed = sym (c .before .before .before .before .before .before .has-heading .ensures) ∙ not-false _ (c .before .before .before .before .before .if2 .left) in
+    sheet-left s short headed _ (c .before .before .before .before .first-tree .ensures) _ (c .before .before .end .given .1) (c .if4 .taken)
 
 returns-5 : tie.Need-returns-5
-returns-5 c = sheet-bad (c .before .before .before .before .before .before .before .args .s .now) (c .before .before .before .before .before .if1 .left) (sym (c .before .before .before .before .has-heading .ensures) ∙ not-false _ (c .before .before .before .if2 .left)) _ (c .enum-told .given .1) (c .before .before .first-tree .ensures)
+returns-5 c =
+    let s = c .before .before .before .before .before .before .before .args .s .now in
+    let short = c .before .before .before .before .before .if1 .left in
+    let headed = sym (c .before .before .before .before .has-heading .ensures) ∙ not-false _ (c .before .before .before .if2 .left) in
+    sheet-bad s short headed _ (c .before .before .first-tree .ensures) (c .enum-told .given .1)
 
 returns-6 : tie.Need-returns-6
-returns-6 c = sheet-broken (c .before .before .before .before .before .before .before .before .before .args .s .now) (c .before .before .before .before .before .before .before .if1 .left) (sym (c .before .before .before .before .before .before .has-heading .ensures) ∙ not-false _ (c .before .before .before .before .before .if2 .left)) _ (c .if3 .left) (c .before .form .ensures)
+returns-6 c =
+    let s = c .before .before .before .before .before .before .before .before .before .args .s .now in
+    let short = c .before .before .before .before .before .before .before .if1 .left in
+    let headed = sym (c .before .before .before .before .before .before .has-heading .ensures) ∙ not-false _ (c .before .before .before .before .before .if2 .left) in
+    sheet-broken s short headed _ (c .if3 .left) (c .before .form .ensures)
 
 returns-7 : tie.Need-returns-7
-returns-7 c = sheet-whole (c .before .before .before .before .before .before .before .before .before .args .s .now) (c .before .before .before .before .before .before .before .if1 .left) (sym (c .before .before .before .before .before .before .has-heading .ensures) ∙ not-false _ (c .before .before .before .before .before .if2 .left)) (c .before .before .before .before .first-tree .result) _ (c .before .before .end .given .1) (c .before .before .before .before .first-tree .ensures) (c .if4 .left)
+returns-7 c =
+    let s = c .before .before .before .before .before .before .before .before .before .args .s .now in
+    let short = c .before .before .before .before .before .before .before .if1 .left in
+    let headed = sym (c .before .before .before .before .before .before .has-heading .ensures) ∙ not-false _ (c .before .before .before .before .before .if2 .left) in
+    sheet-whole s short headed _ (c .before .before .before .before .first-tree .ensures) _ (c .before .before .end .given .1) (c .if4 .left)
 
 pub read-sheet-spec : {M : Type 1} → statement M
 read-sheet-spec =

@@ -1,4 +1,4 @@
--- `utf8::decide` meets its contract. The loop's invariant: the whole is UTF-8 exactly if the bytes from `i` on are what the state `q` awaits.
+-- `decide` meets its contract. The loop's invariant: the whole is UTF-8 exactly if the bytes from `i` on are what the state `q` awaits.
 -- The measure is what is left of the length. Assumes nothing.
 use mathlib.Core.Path.{_≡_, refl, sym, ap, _∙_}
 use Prim.Native.Nat.{ℕ, _≤_, _<_, _-_, _+_}

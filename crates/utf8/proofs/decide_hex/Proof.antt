@@ -1,4 +1,4 @@
--- `utf8::decide_hex` meets its contract, as `decide` does, at the bytes of the text. Assumes nothing.
+-- `decide_hex` meets its contract, as `decide` does, at the bytes of the text. Assumes nothing.
 use mathlib.Core.Path.{_≡_, refl, sym, ap, subst, _∙_}
 use Prim.Native.Nat.{ℕ, _<_, _-_, _+_, _/_}
 use native.Mathlib.Omega.{arith}

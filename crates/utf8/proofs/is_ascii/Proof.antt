@@ -1,4 +1,4 @@
--- `utf8::is_ascii` meets its contract. The loop's invariant: all bytes are ASCII exactly if `ok` is true and those from `i` on are.
+-- `is_ascii` meets its contract. The loop's invariant: all bytes are ASCII exactly if `ok` is true and those from `i` on are.
 -- The measure is what is left of the length. Assumes nothing.
 use mathlib.Core.Path.{_≡_, refl, sym, _∙_}
 use mathlib.Core.Bool.{_&&_}

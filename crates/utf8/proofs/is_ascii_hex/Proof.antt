@@ -1,4 +1,4 @@
--- `utf8::is_ascii_hex` meets its contract, as `is_ascii` does, at the bytes of the text. Assumes nothing.
+-- `is_ascii_hex` meets its contract, as `is_ascii` does, at the bytes of the text. Assumes nothing.
 use mathlib.Core.Path.{_≡_, refl, sym, ap, _∙_}
 use mathlib.Core.Bool.{Bool, _&&_}
 use Prim.Native.Nat.{_<_, _+_, _-_, _/_}

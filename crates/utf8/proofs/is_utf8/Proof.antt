@@ -1,4 +1,4 @@
--- `utf8::is_utf8` meets its contract: ASCII is UTF-8. Assumes nothing.
+-- `is_utf8` meets its contract: ASCII is UTF-8. Assumes nothing.
 use mathlib.Core.Path.{sym, _∙_}
 use Rattle.utf8.proofs.AsciiLaws.{ascii-is-utf8}
 use borrow.Author.Needs.{needs}

@@ -1,4 +1,4 @@
--- `utf8::next_table` meets its contract, by one test computed over the whole table. Assumes nothing.
+-- `next_table` meets its contract, by one test computed over the whole table. Assumes nothing.
 use mathlib.Core.Path.{refl}
 use Rattle.sheets.specs.Utf8Classes.{classOf, nextOf}
 use Rattle.utf8.proofs.TableLaws.{next-rule}

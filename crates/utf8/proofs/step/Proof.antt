@@ -1,4 +1,4 @@
--- `utf8::step` meets its contract: by the rule of each table, at this byte and at this state. Assumes nothing.
+-- `step` meets its contract: by the rule of each table, at this byte and at this state. Assumes nothing.
 use mathlib.Core.Path.{ap, _∙_}
 use Prim.Native.Nat.{_<_}
 use native.Mathlib.Omega.{arith}

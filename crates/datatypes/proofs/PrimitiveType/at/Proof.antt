@@ -1,66 +1,64 @@
--- In each arm the place is the pattern, and the definition computes there; in `_` no case has it.
-use mathlib.Core.Path.{refl, sym, ap}
+-- `at` meets its contract: in each arm the place is the pattern, and the definition computes there; in `_` no case has it. Assumes nothing.
+use mathlib.Core.Path.{refl, sym}
 use Rattle.datatypes.specs.Places.{primitivePlace}
-use Rattle.datatypes.specs.At.{primitiveTypes, primitiveTypeOf, primitiveTypeAt}
-use Rattle.units.proofs.AtLaws.{below, nowhere}
+use Rattle.datatypes.specs.At.{primitiveTypes}
+use Rattle.datatypes.proofs.AtLaws.{below, case-at, nowhere}
 use Rattle.datatypes.proofs.PrimitiveType.at.Statement.{statement}
 use Rattle.datatypes.proofs.PrimitiveType.at.Tie as tie
-use Rattle.datatypes.proofs.PrimitiveType.at.Reads as reads
-use Rattle.datatypes.proofs.PrimitiveType.at.Lts as lts
 
 returns : tie.Need-returns
-returns c = sym (ap primitiveTypeAt (c .match .keys1))
+returns c = case-at primitivePlace _ _ (c .match .keys1) primitiveTypes
 
 returns-2 : tie.Need-returns-2
-returns-2 c = sym (ap primitiveTypeAt (c .match .keys2))
+returns-2 c = case-at primitivePlace _ _ (c .match .keys2) primitiveTypes
 
 returns-3 : tie.Need-returns-3
-returns-3 c = sym (ap primitiveTypeAt (c .match .keys3))
+returns-3 c = case-at primitivePlace _ _ (c .match .keys3) primitiveTypes
 
 returns-4 : tie.Need-returns-4
-returns-4 c = sym (ap primitiveTypeAt (c .match .keys4))
+returns-4 c = case-at primitivePlace _ _ (c .match .keys4) primitiveTypes
 
 returns-5 : tie.Need-returns-5
-returns-5 c = sym (ap primitiveTypeAt (c .match .keys5))
+returns-5 c = case-at primitivePlace _ _ (c .match .keys5) primitiveTypes
 
 returns-6 : tie.Need-returns-6
-returns-6 c = sym (ap primitiveTypeAt (c .match .keys6))
+returns-6 c = case-at primitivePlace _ _ (c .match .keys6) primitiveTypes
 
 returns-7 : tie.Need-returns-7
-returns-7 c = sym (ap primitiveTypeAt (c .match .keys7))
+returns-7 c = case-at primitivePlace _ _ (c .match .keys7) primitiveTypes
 
 returns-8 : tie.Need-returns-8
-returns-8 c = sym (ap primitiveTypeAt (c .match .keys8))
+returns-8 c = case-at primitivePlace _ _ (c .match .keys8) primitiveTypes
 
 returns-9 : tie.Need-returns-9
-returns-9 c = sym (ap primitiveTypeAt (c .match .keys9))
+returns-9 c = case-at primitivePlace _ _ (c .match .keys9) primitiveTypes
 
 returns-10 : tie.Need-returns-10
-returns-10 c = sym (ap primitiveTypeAt (c .match .keys10))
+returns-10 c = case-at primitivePlace _ _ (c .match .keys10) primitiveTypes
 
 returns-11 : tie.Need-returns-11
-returns-11 c = sym (ap primitiveTypeAt (c .match .keys11))
+returns-11 c = case-at primitivePlace _ _ (c .match .keys11) primitiveTypes
 
 returns-12 : tie.Need-returns-12
-returns-12 c = sym (ap primitiveTypeAt (c .match .keys12))
+returns-12 c = case-at primitivePlace _ _ (c .match .keys12) primitiveTypes
 
 returns-13 : tie.Need-returns-13
-returns-13 c = sym (ap primitiveTypeAt (c .match .keys13))
+returns-13 c = case-at primitivePlace _ _ (c .match .keys13) primitiveTypes
 
 returns-14 : tie.Need-returns-14
-returns-14 c = sym (ap primitiveTypeAt (c .match .keys14))
+returns-14 c = case-at primitivePlace _ _ (c .match .keys14) primitiveTypes
 
 returns-15 : tie.Need-returns-15
-returns-15 c = sym (ap primitiveTypeAt (c .match .keys15))
+returns-15 c = case-at primitivePlace _ _ (c .match .keys15) primitiveTypes
 
 returns-16 : tie.Need-returns-16
-returns-16 c = sym (ap primitiveTypeAt (c .match .keys16))
+returns-16 c = case-at primitivePlace _ _ (c .match .keys16) primitiveTypes
 
 returns-17 : tie.Need-returns-17
-returns-17 c = sym (ap primitiveTypeAt (c .match .keys17))
+returns-17 c = case-at primitivePlace _ _ (c .match .keys17) primitiveTypes
 
 returns-18 : tie.Need-returns-18
-returns-18 c = sym (ap primitiveTypeOf (nowhere primitivePlace (c .before .args .place) (below 17) (c .match .rest) primitiveTypes refl))
+returns-18 c = sym (nowhere primitivePlace (c .before .args .place) (below 17) (c .match .rest) primitiveTypes refl)
 
 pub at-spec : {M : Type 1} → statement M
 at-spec =

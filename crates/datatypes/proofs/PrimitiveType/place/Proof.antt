@@ -1,11 +1,9 @@
--- In each arm the case is known, and the definition computes there.
+-- `place` meets its contract: in each arm the case is known, and the definition computes there. Assumes nothing.
 use mathlib.Core.Path.{sym, ap}
 use Rattle.datatypes.specs.Places.{primitivePlace}
 use borrow.Author.Needs.{needs}
 use Rattle.datatypes.proofs.PrimitiveType.place.Statement.{statement}
 use Rattle.datatypes.proofs.PrimitiveType.place.Tie as tie
-use Rattle.datatypes.proofs.PrimitiveType.place.Reads as reads
-use Rattle.datatypes.proofs.PrimitiveType.place.Lts as lts
 
 enum-told : tie.Need-enum-told
 enum-told c = search needs

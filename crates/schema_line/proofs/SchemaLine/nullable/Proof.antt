@@ -1,4 +1,4 @@
--- Half of the flags, rounded toward zero, fits in 64 bits, and its lowest bit is what `nullable` of the definitions says.
+-- Half of the flags, rounded toward zero, fits in 64 bits, and its lowest bit is what `nullable` of the definitions says. Assumes nothing.
 use mir.Val.{SFits}
 use mir.Syntax.{w64}
 use mir.Facts.{toZ-ofZ}
@@ -6,8 +6,6 @@ use borrow.Author.Needs.{needs}
 use Rattle.schema_line.proofs.FlagLaws.{half-fits, half-lowest}
 use Rattle.schema_line.proofs.SchemaLine.nullable.Statement.{statement}
 use Rattle.schema_line.proofs.SchemaLine.nullable.Tie as tie
-use Rattle.schema_line.proofs.SchemaLine.nullable.Reads as reads
-use Rattle.schema_line.proofs.SchemaLine.nullable.Lts as lts
 
 div-result : tie.Need-div-result
 div-result c =

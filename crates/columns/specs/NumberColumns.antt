@@ -1,0 +1,50 @@
+-- The numbers in columns: what the column from a place on says, and where it ends. Assumes nothing.
+use mathlib.Core.Path.{_≡_}
+use Prim.Native.Nat.{ℕ, _^_, _≤_, _<_}
+use lib.IntN.{ℤ}
+use lib.Signed.{mag}
+use lib.ListN.{length}
+use Rattle.sheets.specs.Refusal.{badLines}
+use Rattle.sheets.specs.Bytes.{Bytes}
+use Rattle.sheets.specs.Answer.{Answer, refused, given, _>>=_, found}
+use Rattle.sheets.specs.Number.{readNumber, readSigned}
+use Rattle.decimal.specs.Column.{columnBelow, signedColumn}
+use Rattle.columns.specs.Columns.{part, columnEnd}
+use Rattle.columns.specs.declared.number.NumberColumn.{NumberColumn}
+use Rattle.columns.specs.declared.number.NumberColumn.the-variants as Unsigned
+use Rattle.columns.specs.declared.number.SignedColumn.{SignedColumn}
+use Rattle.columns.specs.declared.number.SignedColumn.the-variants as Signed
+
+-- the number of 64 bits in the column from a on that the byte stop ends, and the column's end
+unfoldable pub numberIn : ℕ → Bytes → ℕ → Answer (ℕ × ℕ)
+numberIn stop s a = do
+  e ← found badLines (columnEnd stop s a)
+  n ← columnBelow (2 ^ 64) (part s a e)
+  given (n, e)
+
+-- the same of a signed number
+unfoldable pub signedIn : ℕ → Bytes → ℕ → Answer (ℤ × ℕ)
+signedIn stop s a = do
+  e ← found badLines (columnEnd stop s a)
+  z ← signedColumn (2 ^ 63) (part s a e)
+  given (z, e)
+
+-- ── what the answers say
+
+abbrev pub numberAnswer : NumberColumn → Answer (ℕ × ℕ)
+numberAnswer (Unsigned.At n e) = given (n, e)
+numberAnswer Unsigned.Bad = refused badLines
+
+abbrev pub signedAnswer : SignedColumn → Answer (ℤ × ℕ)
+signedAnswer (Signed.At z e) = given (z, e)
+signedAnswer Signed.Bad = refused badLines
+
+-- ── numbers that are known to stand
+
+-- the bytes from a to b are a number of 64 bits
+abbrev pub HasNumber : Bytes → ℕ → ℕ → Type 0
+HasNumber s a b = (n : ℕ) × (readNumber (part s a b) ≡ given n) × (n < 2 ^ 64) × (b ≤ length s)
+
+-- the bytes from a to b are a signed number of 64 bits
+abbrev pub HasSigned : Bytes → ℕ → ℕ → Type 0
+HasSigned s a b = (z : ℤ) × (readSigned (part s a b) ≡ given z) × (mag z < 2 ^ 63) × (a ≤ b) × (b ≤ length s)

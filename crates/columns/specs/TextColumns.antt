@@ -1,0 +1,38 @@
+-- What a text's column is. Assumes nothing.
+use mathlib.Core.Bool.{Bool, true, false, _&&_, _||_, not}
+use mathlib.Core.List.{[], _∷_}
+use mathlib.Core.Option.{Option}
+use Prim.Native.Nat.{ℕ}
+use lib.Dec.{eqb}
+use Rattle.sheets.specs.Rule.{passes}
+use Rattle.sheets.specs.Bytes.{Bytes}
+use Rattle.sheets.specs.Answer.{Answer, refused, given}
+use Rattle.sheets.specs.Text.{readText}
+use Rattle.sheets.specs.Schema.{lacksZero}
+use Rattle.hex.specs.Hex.{gives}
+
+-- a text of one byte: `~`, a null pointer, or `-`, an empty text
+abbrev pub isMark : ℕ → Bool
+isMark b = eqb b 126 || eqb b 45
+
+-- the digits of byte 00
+abbrev pub isZero : ℕ → ℕ → Bool
+isZero a b = eqb a 48 && eqb b 48
+
+-- no two zeros adjoin
+abbrev pub zerosApart : Bytes → Bool
+zerosApart [] = true
+zerosApart (a ∷ []) = true
+zerosApart (a ∷ b ∷ bs) = not (isZero a b) && zerosApart (b ∷ bs)
+
+-- a text's column
+unfoldable pub isText : Bytes → Bool
+isText c = gives (readText c)
+
+abbrev pub lacksZeroIn : Answer (Option Bytes) → Bool
+lacksZeroIn (refused r) = false
+lacksZeroIn (given t) = passes (lacksZero t)
+
+-- a text's column without byte 00, as the format and the name are C strings
+unfoldable pub isCString : Bytes → Bool
+isCString c = lacksZeroIn (readText c)

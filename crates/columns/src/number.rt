@@ -1,0 +1,112 @@
+// The numbers in the columns of a line: read and tested, or read where they are known to stand.
+ghost use mathlib.Core.Path.{_≡_};
+ghost use mathlib.Core.Bool.{true};
+ghost use Prim.Native.Nat.{_<_};
+ghost use lib.ListN.{drop};
+ghost use Rattle.sheets.specs.Bytes.{space};
+ghost use Rattle.sheets.specs.Answer.{given};
+ghost use Rattle.sheets.specs.Number.{isDigit, readNumber, readSigned};
+ghost use Rattle.columns.specs.Columns.{isStop, part, oneOf};
+ghost use Rattle.columns.specs.NumberColumns.{numberIn, signedIn, numberAnswer, signedAnswer, HasNumber, HasSigned};
+use crate::Place;
+use decimal::Signed64;
+use decimal::Unsigned64;
+
+pub enum NumberColumn {
+    At(u64, usize),
+    Bad,
+}
+
+pub enum SignedColumn {
+    At(i64, usize),
+    Bad,
+}
+
+pub fn wide(b: u8) -> u64
+    ensures { λ r. ⌜ (r ≡ b) × (r < 256) ⌝ }
+{
+    b as u64
+}
+
+// Whether the column from place at on is one digit, and the byte stop ends it: so most numbers of a sheet are.
+fn one_digit(s: &[u8], at: usize, stop: u8) -> bool
+    ensures { λ r. ⌜ r ≡ oneOf isDigit stop (drop at (now (s .entry))) ⌝ }
+{
+    if !crate::one_byte(s, at, stop) {
+        return false;
+    }
+    if s[at] < b'0' {
+        return false;
+    }
+    s[at] <= b'9'
+}
+
+// The same as `signed_column`, for a number of any length.
+fn any_signed(s: &[u8], at: usize) -> SignedColumn
+    ensures { λ r. ⌜ signedAnswer r ≡ signedIn space (now (s .entry)) at ⌝ }
+{
+    let Place::At(e) = crate::column(s, at, crate::number_end(s, at), b' ') else {
+        return SignedColumn::Bad;
+    };
+    let Signed64::Value(z) = decimal::read_i64(&s[at..e]) else {
+        return SignedColumn::Bad;
+    };
+    SignedColumn::At(z, e)
+}
+
+pub fn signed_column(s: &[u8], at: usize) -> SignedColumn
+    ensures { λ r. ⌜ signedAnswer r ≡ signedIn space (now (s .entry)) at ⌝ }
+{
+    if one_digit(s, at, b' ') {
+        return SignedColumn::At(wide(s[at] - b'0') as i64, at + 1);
+    }
+    any_signed(s, at)
+}
+
+// The same as `number_column`, for a number of any length.
+fn any_number(s: &[u8], at: usize, stop: u8) -> NumberColumn
+    ensures { λ r. ⌜ numberAnswer r ≡ numberIn stop (now (s .entry)) at ⌝ }
+{
+    let Place::At(e) = crate::column(s, at, crate::number_end(s, at), stop) else {
+        return NumberColumn::Bad;
+    };
+    let Unsigned64::Value(n) = decimal::read_u64(&s[at..e]) else {
+        return NumberColumn::Bad;
+    };
+    NumberColumn::At(n, e)
+}
+
+pub fn number_column(s: &[u8], at: usize, stop: u8) -> NumberColumn
+    requires { ⌜ isStop stop ≡ true ⌝ }
+    ensures { λ r. ⌜ numberAnswer r ≡ numberIn stop (now (s .entry)) at ⌝ }
+{
+    if one_digit(s, at, stop) {
+        return NumberColumn::At(wide(s[at] - b'0'), at + 1);
+    }
+    any_number(s, at, stop)
+}
+
+// The number whose digits stand from place at up to end, read without a test.
+pub fn number_at(s: &[u8], at: usize, end: usize) -> u64
+    requires { ⌜ HasNumber (now s) at end ⌝ }
+    ensures { λ r. ⌜ readNumber (part (now (s .entry)) at end) ≡ given r ⌝ }
+{
+    let mut v: u64 = 0;
+    let mut i = at;
+    while i < end {
+        v = v * 10 + wide(s[i] - b'0');
+        i += 1;
+    }
+    v
+}
+
+// The signed number that stands from place at up to end.
+pub fn signed_at(s: &[u8], at: usize, end: usize) -> i64
+    requires { ⌜ HasSigned (now s) at end ⌝ }
+    ensures { λ r. ⌜ readSigned (part (now (s .entry)) at end) ≡ given r ⌝ }
+{
+    let Signed64::Value(z) = decimal::read_i64(&s[at..end]) else {
+        return 0;
+    };
+    z
+}

@@ -1,0 +1,4 @@
+pub mod Names
+pub mod Parts
+pub mod Formats
+pub mod Dictionary

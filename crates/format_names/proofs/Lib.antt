@@ -1,2 +1,0 @@
-pub mod PlaceLaws
-pub mod NameLaws

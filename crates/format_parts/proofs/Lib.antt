@@ -1,3 +1,0 @@
-pub mod PartLaws
-pub mod IdLaws
-pub mod IdsLaws

@@ -1,0 +1,471 @@
+-- The proof of the cycle of calls {next_field, to_dtype, to_field, to_fields}. `to_field` calls `to_dtype` at one level less, which calls `to_fields`, that
+-- `next_field`, and that `to_field` at the same number of levels: four times the levels for `to_field`, one more for `next_field`, two more for `to_fields`,
+-- three more for `to_dtype`. The laws are in `OwnLaws`, `TypeLaws`, `FieldsLaws` and `LeafLaws`. Assumes nothing.
+use mathlib.Core.Path.{_≡_, refl, subst, _∙_}
+use mathlib.Core.List.{List, _++_}
+use Prim.Native.Nat.{ℕ, _+_, _-_, _*_, _<_, _≤_}
+use native.Mathlib.Omega.{arith}
+use lib.ListN.{length, take, drop}
+use denote.Ref.{now}
+use borrow.Author.Needs.{needs}
+use Rattle.sheets.specs.Schema.{nodeOf, Schemas, Schema, schema}
+use Rattle.sheets.specs.ImportLines.{typeWritten}
+use Rattle.buffer.proofs.OverLaws.{length-lent}
+use Rattle.import_field.specs.declared.TypeBegun.the-variants.{Row}
+use Rattle.import_field.specs.Contracts.{FieldsAt, typeLength, Begins, TypeBegins}
+use Rattle.import_field.proofs.OwnLaws.{room-kept, some-level, node-there, type-there, type-turned, field-long, field-next, field-ended}
+use Rattle.import_field.proofs.TypeLaws.{type-short, fields-there, fields-refused, left-there, both-long, type-ended}
+use Rattle.import_field.proofs.FieldsLaws.{Going, going-none, going-field, going-more, going-refused, going-all}
+use Rattle.import_field.proofs.LeafLaws.{leaf-done, leaf-other}
+use borrow.Fn.Kinds.{In}
+use borrow.Fn.PlainCycle.{Measures, is, falls, and}
+use Rattle.import_field.proofs.next_field.Reads as next-field
+use Rattle.import_field.proofs.next_field.Kinds as next-field-kinds
+use Rattle.schema_line.proofs.KnownLaws.{line-told}
+use Rattle.import_field.proofs.+next_field+to_dtype+to_field+to_fields.Lts-next_field as next-field-lts
+use Rattle.import_field.proofs.to_dtype.Reads as to-dtype
+use Rattle.import_field.proofs.to_dtype.Kinds as to-dtype-kinds
+use Rattle.import_field.proofs.+next_field+to_dtype+to_field+to_fields.Lts-to_dtype as to-dtype-lts
+use Rattle.import_field.proofs.to_field.Reads as to-field
+use Rattle.import_field.proofs.to_field.Kinds as to-field-kinds
+use Rattle.import_field.proofs.+next_field+to_dtype+to_field+to_fields.Lts-to_field as to-field-lts
+use Rattle.import_field.proofs.to_fields.Reads as to-fields
+use Rattle.import_field.proofs.to_fields.Kinds as to-fields-kinds
+use Rattle.import_field.proofs.+next_field+to_dtype+to_field+to_fields.Lts-to_fields as to-fields-lts
+use Rattle.buffer.proofs.within.Reads as within-reads
+use Rattle.node.proofs.begin_field.Reads as begin-field-reads
+use Rattle.import_field.proofs.begin_type.Reads as begin-type-reads
+use Rattle.import_field.proofs.end_field.Reads as end-field-reads
+use Rattle.import_field.proofs.end_type.Reads as end-type-reads
+use Rattle.put_leaf.proofs.put_leaf.Reads as put-leaf-reads
+use Rattle.schema_line.proofs.read.line_at.Reads as line-at-reads
+use Rattle.import_field.proofs.+next_field+to_dtype+to_field+to_fields.{statement}
+use Rattle.import_field.proofs.+next_field+to_dtype+to_field+to_fields.Tie.{close}
+
+abbrev μ-next-field : Measures 4 next-field-kinds.ps ℕ
+μ-next-field κs a = 4 * a .1 .0 .levels + 1
+
+abbrev μ-to-dtype : Measures 4 to-dtype-kinds.ps ℕ
+μ-to-dtype κs a = 4 * a .1 .1 .1 .0 + 3
+
+abbrev μ-to-field : Measures 4 to-field-kinds.ps ℕ
+μ-to-field κs a = 4 * a .1 .0 .levels
+
+abbrev μ-to-fields : Measures 4 to-fields-kinds.ps ℕ
+μ-to-fields κs a = 4 * a .1 .0 .levels + 2
+
+abbrev next-field-at : ℕ → In 4 next-field-kinds.ps
+next-field-at t =
+    and 4 next-field-kinds.ps (is 4 next-field-kinds.ps μ-next-field t) next-field.Pre
+
+abbrev next-field-below : ℕ → In 4 next-field-kinds.ps
+next-field-below t =
+    and 4 next-field-kinds.ps (falls 4 next-field-kinds.ps _<_ μ-next-field t) next-field.Pre
+
+abbrev to-dtype-at : ℕ → In 4 to-dtype-kinds.ps
+to-dtype-at t = and 4 to-dtype-kinds.ps (is 4 to-dtype-kinds.ps μ-to-dtype t) to-dtype.Pre
+
+abbrev to-dtype-below : ℕ → In 4 to-dtype-kinds.ps
+to-dtype-below t =
+    and 4 to-dtype-kinds.ps (falls 4 to-dtype-kinds.ps _<_ μ-to-dtype t) to-dtype.Pre
+
+abbrev to-field-at : ℕ → In 4 to-field-kinds.ps
+to-field-at t = and 4 to-field-kinds.ps (is 4 to-field-kinds.ps μ-to-field t) to-field.Pre
+
+abbrev to-field-below : ℕ → In 4 to-field-kinds.ps
+to-field-below t =
+    and 4 to-field-kinds.ps (falls 4 to-field-kinds.ps _<_ μ-to-field t) to-field.Pre
+
+abbrev to-fields-at : ℕ → In 4 to-fields-kinds.ps
+to-fields-at t = and 4 to-fields-kinds.ps (is 4 to-fields-kinds.ps μ-to-fields t) to-fields.Pre
+
+abbrev to-fields-below : ℕ → In 4 to-fields-kinds.ps
+to-fields-below t =
+    and 4 to-fields-kinds.ps (falls 4 to-fields-kinds.ps _<_ μ-to-fields t) to-fields.Pre
+
+abbrev next-field-calls : ℕ → next-field-lts.Claims
+next-field-calls t = (put-leaf-reads.Asked, put-leaf-reads.Learnt, to-field-below t, to-field.Post)
+
+abbrev to-dtype-calls : ℕ → to-dtype-lts.Claims
+to-dtype-calls t = (begin-type-reads.Asked, begin-type-reads.Learnt, within-reads.Asked, within-reads.Learnt, to-fields-below t, to-fields.Post, end-type-reads.Asked, end-type-reads.Learnt)
+
+abbrev to-field-calls : ℕ → to-field-lts.Claims
+to-field-calls t = (line-at-reads.Asked, line-at-reads.Learnt, begin-field-reads.Asked, begin-field-reads.Learnt, within-reads.Asked, within-reads.Learnt, to-dtype-below t, to-dtype.Post, end-field-reads.Asked, end-field-reads.Learnt)
+
+abbrev to-fields-calls : ℕ → to-fields-lts.Claims
+to-fields-calls t = (within-reads.Asked, within-reads.Learnt, next-field-below t, next-field.Post)
+
+next-field-put-leaf-requires : (t : ℕ) → next-field-lts.Need-put-leaf-requires (next-field-calls t) (next-field-at t) next-field.Post
+next-field-put-leaf-requires t c κs = search needs
+
+next-field-enum-known-next : (t : ℕ) → next-field-lts.Need-enum-known-next (next-field-calls t) (next-field-at t) next-field.Post
+next-field-enum-known-next t c = search needs
+
+next-field-enum-told : (t : ℕ) → next-field-lts.Need-enum-told (next-field-calls t) (next-field-at t) next-field.Post
+next-field-enum-told t c = search needs
+
+next-field-to-field-requires : (t : ℕ) → next-field-lts.Need-to-field-requires (next-field-calls t) (next-field-at t) next-field.Post
+next-field-to-field-requires t c κs = let start = c .before .before .before .before .before .before .before .before .before .before .before .before .before in (omega (arith, start .pre .0), start .pre .1)
+
+next-field-same-length : (t : ℕ) → next-field-lts.Need-same-length (next-field-calls t) (next-field-at t) next-field.Post
+next-field-same-length t c = c .before .before .before .before .before .put-leaf .kept .1 .1 .1 .0
+
+next-field-returns : (t : ℕ) → next-field-lts.Need-returns (next-field-calls t) (next-field-at t) next-field.Post
+next-field-returns t c =
+    let a = c .before .before .before .before .before .before .before .before .before .before .before .args in
+    let r = c .before .before .before .before .before .put-leaf in
+    leaf-done (now (a .s)) (a .tree) (now (a .out)) (r .last .1 .1 .1 .0) (r .result) (r .ensures) _ _ (c .before .next .given .1)
+
+next-field-same-length-2 : (t : ℕ) → next-field-lts.Need-same-length-2 (next-field-calls t) (next-field-at t) next-field.Post
+next-field-same-length-2 t c = c .before .before .before .before .before .before .to-field .kept .1 .1 .0 ∙ c .before .before .before .before .before .before .before .before .before .before .before .before .before .before .put-leaf .kept .1 .1 .1 .0
+
+next-field-same-length-3 : (t : ℕ) → next-field-lts.Need-same-length-3 (next-field-calls t) (next-field-at t) next-field.Post
+next-field-same-length-3 t c = c .before .before .before .before .before .before .to-field .kept .1 .1 .1 .0
+
+next-field-same-length-4 : (t : ℕ) → next-field-lts.Need-same-length-4 (next-field-calls t) (next-field-at t) next-field.Post
+next-field-same-length-4 t c = c .before .before .before .before .before .before .to-field .kept .1 .1 .1 .1 .0
+
+next-field-returns-2 : (t : ℕ) → next-field-lts.Need-returns-2 (next-field-calls t) (next-field-at t) next-field.Post
+next-field-returns-2 t c =
+    let a = c .before .before .before .before .before .before .before .before .before .before .before .before .before .before .before .before .before .before .before .before .args in
+    let r = c .before .before .before .before .before .before .before .before .before .before .before .before .before .before .put-leaf in
+    let f = c .before .before .before .before .before .before .to-field in
+    leaf-other (now (a .s)) (a .tree) (now (a .out)) (r .last .1 .1 .1 .0) (r .result) (r .ensures) (c .before .before .before .before .before .before .before .before .before .before .enum-told .given .1) (f .last .1 .1 .0) (f .result) (f .ensures)
+
+-- the type's line is written, of any tree that stood there
+begun : (t : ℕ) (c : to-dtype-lts.After-known-told2 (to-dtype-calls t) (to-dtype-at t) to-dtype.Post)
+    → let a = c .before .before .before .before .before .before .before .before .before .before .before .before .args in
+    let r = c .before .before .before .before .before .begin-type in
+    let u = c .before .from .given .0 in
+    TypeBegins (now (a .s)) (a .line) (a .shown) (a .levels) (now (a .entries)) (now (a .out)) (r .last .1 .1 .1 .1 .0) (Row (u .0) (u .1 .0) (u .1 .1 .0))
+begun t c =
+    let a = c .before .before .before .before .before .before .before .before .before .before .before .before .args in
+    let r = c .before .before .before .before .before .begin-type in
+    subst (TypeBegins (now (a .s)) (a .line) (a .shown) (a .levels) (now (a .entries)) (now (a .out)) (r .last .1 .1 .1 .1 .0)) (c .before .from .given .1) (r .ensures)
+
+-- of the tree that the contract requires
+own : (t : ℕ) (c : to-dtype-lts.After-known-told2 (to-dtype-calls t) (to-dtype-at t) to-dtype.Post)
+    → let a = c .before .before .before .before .before .before .before .before .before .before .before .before .args in
+    let p = c .before .before .before .before .before .before .before .before .before .before .before .before .pre .1 .0 in
+    let r = c .before .before .before .before .before .begin-type in
+    let u = c .before .from .given .0 in
+    Begins (now (a .s)) (a .line) (a .levels) (typeWritten (p .info) (schema (nodeOf (p .line)) (p .children) (p .dictionary))) (typeLength (now (a .s)) (a .line) (a .shown) (now (a .entries))) (p .after)
+    (now (a .out)) (r .last .1 .1 .1 .1 .0) (u .0) (u .1 .0) (u .1 .1 .0)
+own t c = let p = c .before .before .before .before .before .before .before .before .before .before .before .before .pre .1 .0 in begun t c (p .line) (p .children) (p .dictionary) (p .after) (p .info) (p .there) (p .shows)
+
+to-dtype-begin-type-requires : (t : ℕ) → to-dtype-lts.Need-begin-type-requires (to-dtype-calls t) (to-dtype-at t) to-dtype.Post
+to-dtype-begin-type-requires t c κs = c .before .before .before .before .before .before .pre .1 .0
+
+to-dtype-enum-known-r : (t : ℕ) → to-dtype-lts.Need-enum-known-r (to-dtype-calls t) (to-dtype-at t) to-dtype.Post
+to-dtype-enum-known-r t c = search needs
+
+to-dtype-enum-known-from : (t : ℕ) → to-dtype-lts.Need-enum-known-from (to-dtype-calls t) (to-dtype-at t) to-dtype.Post
+to-dtype-enum-known-from t c = search needs
+
+to-dtype-within-requires : (t : ℕ) → to-dtype-lts.Need-within-requires (to-dtype-calls t) (to-dtype-at t) to-dtype.Post
+to-dtype-within-requires t c κs = search needs
+
+to-dtype-sub-to-fields : (t : ℕ) → to-dtype-lts.Need-sub-to-fields (to-dtype-calls t) (to-dtype-at t) to-dtype.Post
+to-dtype-sub-to-fields t c = omega arith
+
+to-dtype-part-to-fields-start : (t : ℕ) → to-dtype-lts.Need-part-to-fields-start (to-dtype-calls t) (to-dtype-at t) to-dtype.Post
+to-dtype-part-to-fields-start t c = omega arith
+
+to-dtype-part-to-fields-end : (t : ℕ) → to-dtype-lts.Need-part-to-fields-end (to-dtype-calls t) (to-dtype-at t) to-dtype.Post
+to-dtype-part-to-fields-end t c = omega arith
+
+to-dtype-to-fields-requires : (t : ℕ) → to-dtype-lts.Need-to-fields-requires (to-dtype-calls t) (to-dtype-at t) to-dtype.Post
+to-dtype-to-fields-requires t c κs =
+    let start = c .before .before .before .before .before .before .before .before .before .before .before .before .before .before .before .before in
+    (omega (arith, start .pre .0), (fields-there (own t (c .before .before .before .before)), start .pre .1 .1))
+
+to-dtype-enum-known-r-2 : (t : ℕ) → to-dtype-lts.Need-enum-known-r-2 (to-dtype-calls t) (to-dtype-at t) to-dtype.Post
+to-dtype-enum-known-r-2 t c = search needs
+
+to-dtype-enum-known-next : (t : ℕ) → to-dtype-lts.Need-enum-known-next (to-dtype-calls t) (to-dtype-at t) to-dtype.Post
+to-dtype-enum-known-next t c = search needs
+
+to-dtype-add-end-type : (t : ℕ) → to-dtype-lts.Need-add-end-type (to-dtype-calls t) (to-dtype-at t) to-dtype.Post
+to-dtype-add-end-type t c =
+    let r = c .before .before .before .before .before .before .before .before .before .to-fields in
+    omega (arith, type-short (c .before .before .before .before .before .before .before .before .before .before .before .before .before .before .before .before .before .before .before .before .before .before .before .before .before .before .pre .1 .0), both-long (own t (c .before .before .before .before .before .before .before .before .before .before .before .before .before .before)) _ (r .last .1 .1 .0) (r .result) _ _ (c .before .next .given .1) (r .ensures))
+
+to-dtype-end-type-requires : (t : ℕ) → to-dtype-lts.Need-end-type-requires (to-dtype-calls t) (to-dtype-at t) to-dtype.Post
+to-dtype-end-type-requires t c κs =
+    let r = c .before .before .before .before .before .before .before .before .before .to-fields in
+    left-there (own t (c .before .before .before .before .before .before .before .before .before .before .before .before .before .before)) _ (r .last .1 .1 .0) (r .result) _ _ (c .before .next .given .1) (r .ensures)
+
+to-dtype-same-length : (t : ℕ) → to-dtype-lts.Need-same-length (to-dtype-calls t) (to-dtype-at t) to-dtype.Post
+to-dtype-same-length t c = c .before .before .before .before .before .begin-type .kept .1 .1 .1 .1 .0
+
+to-dtype-same-length-2 : (t : ℕ) → to-dtype-lts.Need-same-length-2 (to-dtype-calls t) (to-dtype-at t) to-dtype.Post
+to-dtype-same-length-2 t c = search needs
+
+to-dtype-returns : (t : ℕ) → to-dtype-lts.Need-returns (to-dtype-calls t) (to-dtype-at t) to-dtype.Post
+to-dtype-returns t c =
+    let a = c .before .before .before .before .before .before .before .before .before .before .before .before .args in
+    let r = c .before .before .before .before .before .begin-type in
+    subst (TypeBegins (now (a .s)) (a .line) (a .shown) (a .levels) (now (a .entries)) (now (a .out)) (r .last .1 .1 .1 .1 .0)) (c .before .r .given .1) (r .ensures)
+
+to-dtype-same-length-3 : (t : ℕ) → to-dtype-lts.Need-same-length-3 (to-dtype-calls t) (to-dtype-at t) to-dtype.Post
+to-dtype-same-length-3 t c =
+    let r = c .before .before .before .before .before .before .before .before .before .before .before .before .before .before .before .before .before .before .before .begin-type in
+    let called = c .before .before .before .before .before .before .before .before .before .to-fields in
+    length-lent (c .before .before .before .before .before .before .before .before .before .before .before .before .before .within .result) (r .last .1 .1 .1 .1 .0) (called .last .1 .1 .0) (called .kept .1 .1 .0) ∙ r .kept .1 .1 .1 .1 .0
+
+to-dtype-same-length-4 : (t : ℕ) → to-dtype-lts.Need-same-length-4 (to-dtype-calls t) (to-dtype-at t) to-dtype.Post
+to-dtype-same-length-4 t c = c .before .before .before .before .before .before .before .before .before .to-fields .kept .1 .1 .1 .0
+
+to-dtype-same-length-5 : (t : ℕ) → to-dtype-lts.Need-same-length-5 (to-dtype-calls t) (to-dtype-at t) to-dtype.Post
+to-dtype-same-length-5 t c = c .before .before .before .before .before .before .before .before .before .to-fields .kept .1 .1 .1 .1 .0
+
+to-dtype-returns-2 : (t : ℕ) → to-dtype-lts.Need-returns-2 (to-dtype-calls t) (to-dtype-at t) to-dtype.Post
+to-dtype-returns-2 t c =
+    let r = c .before .before .before .before .before .before .before .before .before .to-fields in
+    λ x cs d ts j h shows. fields-refused (begun t (c .before .before .before .before .before .before .before .before .before .before .before .before .before .before) x cs d ts j h shows) _ (r .last .1 .1 .0) (r .result) _ (c .before .r2 .given .1) (r .ensures)
+
+to-dtype-same-length-6 : (t : ℕ) → to-dtype-lts.Need-same-length-6 (to-dtype-calls t) (to-dtype-at t) to-dtype.Post
+to-dtype-same-length-6 t c =
+    let r = c .before .before .before .before .before .before .before .before .before .before .before .before .before .before .before .before .before .before .before .before .begin-type in
+    let called = c .before .before .before .before .before .before .before .before .before .before .to-fields in
+    length-lent (c .before .before .before .before .before .before .before .before .before .before .before .before .before .before .within .result) (r .last .1 .1 .1 .1 .0) (called .last .1 .1 .0) (called .kept .1 .1 .0) ∙ r .kept .1 .1 .1 .1 .0
+
+to-dtype-same-length-7 : (t : ℕ) → to-dtype-lts.Need-same-length-7 (to-dtype-calls t) (to-dtype-at t) to-dtype.Post
+to-dtype-same-length-7 t c = c .before .before .before .before .before .before .before .before .before .before .to-fields .kept .1 .1 .1 .0
+
+to-dtype-same-length-8 : (t : ℕ) → to-dtype-lts.Need-same-length-8 (to-dtype-calls t) (to-dtype-at t) to-dtype.Post
+to-dtype-same-length-8 t c = c .before .before .before .before .before .before .before .before .before .before .to-fields .kept .1 .1 .1 .1 .0
+
+to-dtype-returns-3 : (t : ℕ) → to-dtype-lts.Need-returns-3 (to-dtype-calls t) (to-dtype-at t) to-dtype.Post
+to-dtype-returns-3 t c =
+    let r = c .before .before .before .before .before .before .before .before .before .before .to-fields in
+    let w = c .before .before .before .before .before .before .before .before .before .before .before .before .before .before .within in
+    λ x cs d ts j h shows. type-ended (begun t (c .before .before .before .before .before .before .before .before .before .before .before .before .before .before .before) x cs d ts j h shows) _ (r .last .1 .1 .0) (r .result) _ _ (c .before .before .next .given .1) (r .ensures)
+    (w .result) (w .ensures) refl (c .end-type .result) (c .end-type .ensures)
+
+to-field-line-at-requires : (t : ℕ) → to-field-lts.Need-line-at-requires (to-field-calls t) (to-field-at t) to-field.Post
+to-field-line-at-requires t c κs = let p = c .before .before .before .before .pre .1 .0 in (p .0, p .1, p .2 .stands)
+
+to-field-begin-field-requires : (t : ℕ) → to-field-lts.Need-begin-field-requires (to-field-calls t) (to-field-at t) to-field.Post
+to-field-begin-field-requires t c κs = let p = c .before .before .before .before .before .before .before .before .pre .1 in (node-there (line-told _ _ (c .before .before .before .line-at .ensures)) (p .0 .2 .short), p .1)
+
+to-field-within-requires : (t : ℕ) → to-field-lts.Need-within-requires (to-field-calls t) (to-field-at t) to-field.Post
+to-field-within-requires t c κs = search needs
+
+to-field-sub-to-dtype : (t : ℕ) → to-field-lts.Need-sub-to-dtype (to-field-calls t) (to-field-at t) to-field.Post
+to-field-sub-to-dtype t c = let start = c .before .before .before .before .before .before .before .before .before .before .before .before .before .before .before .before .before .before in omega (arith, some-level _ (start .args .tree) (start .pre .1 .0))
+
+to-field-sub-to-dtype-2 : (t : ℕ) → to-field-lts.Need-sub-to-dtype-2 (to-field-calls t) (to-field-at t) to-field.Post
+to-field-sub-to-dtype-2 t c = omega arith
+
+to-field-part-to-dtype-start : (t : ℕ) → to-field-lts.Need-part-to-dtype-start (to-field-calls t) (to-field-at t) to-field.Post
+to-field-part-to-dtype-start t c = omega arith
+
+to-field-part-to-dtype-end : (t : ℕ) → to-field-lts.Need-part-to-dtype-end (to-field-calls t) (to-field-at t) to-field.Post
+to-field-part-to-dtype-end t c = omega arith
+
+to-field-to-dtype-requires : (t : ℕ) → to-field-lts.Need-to-dtype-requires (to-field-calls t) (to-field-at t) to-field.Post
+to-field-to-dtype-requires t c κs =
+    let start = c .before .before .before .before .before .before .before .before .before .before .before .before .before .before .before .before .before .before .before .before .before in
+    let p = start .pre .1 in
+    let r = c .before .before .before .before .before .before .before .before .before .before .before .before .begin-field in (
+      omega (arith, start .pre .0, some-level _ (start .args .tree) (p .0)),
+      (type-there (line-told _ _ (c .before .before .before .before .before .before .before .before .before .before .before .before .before .before .before .before .line-at .ensures)) (p .0 .2) (r .ensures), room-kept (p .1) (r .kept .1 .1 .1 .1 .0) (r .kept .1 .1 .1 .1 .1 .0)),
+    )
+
+to-field-enum-known-r : (t : ℕ) → to-field-lts.Need-enum-known-r (to-field-calls t) (to-field-at t) to-field.Post
+to-field-enum-known-r t c = search needs
+
+to-field-enum-known-next : (t : ℕ) → to-field-lts.Need-enum-known-next (to-field-calls t) (to-field-at t) to-field.Post
+to-field-enum-known-next t c = search needs
+
+to-field-add-end-field : (t : ℕ) → to-field-lts.Need-add-end-field (to-field-calls t) (to-field-at t) to-field.Post
+to-field-add-end-field t c =
+    let p = line-told _ _ (c .before .before .before .before .before .before .before .before .before .before .before .before .before .before .before .before .before .before .before .before .before .before .before .before .before .before .before .line-at .ensures) in
+    let f = c .before .before .before .before .before .before .before .before .before .before .before .before .before .before .before .before .before .before .before .before .before .before .before .before .before .before .before .before .before .before .before .before .pre .1 .0 .2 in
+    let r = c .before .before .before .before .before .before .before .before .before .before .to-dtype in
+    let e = c .before .before .next .given .1 in
+    let b = c .before .before .before .before .before .before .before .before .before .before .before .before .before .before .before .before .before .before .before .before .before .before .before .begin-field .ensures in
+    omega (arith, f .short, field-long p f b _ (r .last .1 .1 .1 .1 .0) (r .result) (r .ensures) _ _ e, field-next p f b _ (r .last .1 .1 .1 .1 .0) (r .result) (r .ensures) _ _ e)
+
+to-field-end-field-requires : (t : ℕ) → to-field-lts.Need-end-field-requires (to-field-calls t) (to-field-at t) to-field.Post
+to-field-end-field-requires t c κs = search needs
+
+to-field-same-length : (t : ℕ) → to-field-lts.Need-same-length (to-field-calls t) (to-field-at t) to-field.Post
+to-field-same-length t c =
+    let r = c .before .before .before .before .before .before .before .before .before .before .before .before .before .before .before .before .before .before .before .before .before .before .begin-field in
+    let called = c .before .before .before .before .before .before .before .before .before .to-dtype in
+    length-lent (c .before .before .before .before .before .before .before .before .before .before .before .before .before .before .within .result) (r .last .1 .1 .1 .0) (called .last .1 .1 .1 .1 .0) (called .kept .1 .1 .1 .1 .0) ∙ r .kept .1 .1 .1 .0
+
+to-field-same-length-2 : (t : ℕ) → to-field-lts.Need-same-length-2 (to-field-calls t) (to-field-at t) to-field.Post
+to-field-same-length-2 t c = c .before .before .before .before .before .before .before .before .before .to-dtype .kept .1 .1 .1 .1 .1 .0 ∙ c .before .before .before .before .before .before .before .before .before .before .before .before .before .before .before .before .before .before .before .before .before .before .begin-field .kept .1 .1 .1 .1 .0
+
+to-field-same-length-3 : (t : ℕ) → to-field-lts.Need-same-length-3 (to-field-calls t) (to-field-at t) to-field.Post
+to-field-same-length-3 t c = c .before .before .before .before .before .before .before .before .before .to-dtype .kept .1 .1 .1 .1 .1 .1 .0 ∙ c .before .before .before .before .before .before .before .before .before .before .before .before .before .before .before .before .before .before .before .before .before .before .begin-field .kept .1 .1 .1 .1 .1 .0
+
+to-field-returns : (t : ℕ) → to-field-lts.Need-returns (to-field-calls t) (to-field-at t) to-field.Post
+to-field-returns t c =
+    let r = c .before .before .before .before .before .before .before .before .before .to-dtype in
+    λ u ts f. type-turned (line-told _ _ (c .before .before .before .before .before .before .before .before .before .before .before .before .before .before .before .before .before .before .before .before .before .before .before .before .before .before .line-at .ensures)) f (c .before .before .before .before .before .before .before .before .before .before .before .before .before .before .before .before .before .before .before .before .before .before .begin-field .ensures) _ (r .last .1 .1 .1 .1 .0) (r .result) (r .ensures) _ (c .before .r .given .1)
+
+to-field-same-length-4 : (t : ℕ) → to-field-lts.Need-same-length-4 (to-field-calls t) (to-field-at t) to-field.Post
+to-field-same-length-4 t c =
+    let r = c .before .before .before .before .before .before .before .before .before .before .before .before .before .before .before .before .before .before .before .before .before .before .before .before .begin-field in
+    let called = c .before .before .before .before .before .before .before .before .before .before .before .to-dtype in
+    length-lent (c .before .before .before .before .before .before .before .before .before .before .before .before .before .before .before .before .within .result) (r .last .1 .1 .1 .0) (called .last .1 .1 .1 .1 .0) (called .kept .1 .1 .1 .1 .0) ∙ r .kept .1 .1 .1 .0
+
+to-field-same-length-5 : (t : ℕ) → to-field-lts.Need-same-length-5 (to-field-calls t) (to-field-at t) to-field.Post
+to-field-same-length-5 t c = c .before .before .before .before .before .before .before .before .before .before .before .to-dtype .kept .1 .1 .1 .1 .1 .0 ∙ c .before .before .before .before .before .before .before .before .before .before .before .before .before .before .before .before .before .before .before .before .before .before .before .before .begin-field .kept .1 .1 .1 .1 .0
+
+to-field-same-length-6 : (t : ℕ) → to-field-lts.Need-same-length-6 (to-field-calls t) (to-field-at t) to-field.Post
+to-field-same-length-6 t c = c .before .before .before .before .before .before .before .before .before .before .before .to-dtype .kept .1 .1 .1 .1 .1 .1 .0 ∙ c .before .before .before .before .before .before .before .before .before .before .before .before .before .before .before .before .before .before .before .before .before .before .before .before .begin-field .kept .1 .1 .1 .1 .1 .0
+
+to-field-returns-2 : (t : ℕ) → to-field-lts.Need-returns-2 (to-field-calls t) (to-field-at t) to-field.Post
+to-field-returns-2 t c =
+    let r = c .before .before .before .before .before .before .before .before .before .before .before .to-dtype in
+    let w = c .before .before .before .before .before .before .before .before .before .before .before .before .before .before .before .before .within in
+    λ u ts f. field-ended (line-told _ _ (c .before .before .before .before .before .before .before .before .before .before .before .before .before .before .before .before .before .before .before .before .before .before .before .before .before .before .before .before .line-at .ensures)) f (c .before .before .before .before .before .before .before .before .before .before .before .before .before .before .before .before .before .before .before .before .before .before .before .before .begin-field .ensures) _ (r .last .1 .1 .1 .1 .0) (r .result) (r .ensures) _ _ (c .before .before .before .next .given .1)
+    (w .result) (w .ensures) refl (c .end-field .result) (c .end-field .ensures)
+
+abbrev to-fields-Inv-loop : to-fields-lts.InvT-loop
+to-fields-Inv-loop s row out₀ entries₀ spare₀ here₀ sum₀ i₀ out entries spare here sum i =
+    (i ≤ row .count)
+    × (length out ≡ length out₀)
+    × (length entries ≡ length entries₀)
+    × (length spare ≡ length spare₀)
+    × ((us : Schemas) (ts : List Schema) → FieldsAt s (row .at) (row .count) (row .levels) us ts
+    → Going s (row .at) (row .count) (row .levels) (row .bare) out₀ out here sum i us ts)
+
+abbrev to-fields-μ-loop : to-fields-lts.MeasureT-loop
+to-fields-μ-loop s row out₀ entries₀ spare₀ here₀ sum₀ i₀ out entries spare here sum i = row .count - i
+
+-- what the invariant says in a turn, of the trees that the contract requires
+going : (t : ℕ) (c : to-fields-lts.Then1 (to-fields-calls t) (to-fields-at t) to-fields.Post to-fields-Inv-loop to-fields-μ-loop)
+    → let a = c .before .before .before .before .before .before .before .args in
+    let p = c .before .before .before .before .before .before .before .pre .1 .0 in
+    let l = c .before .before .loop in
+    Going (now (a .s)) (a .row .at) (a .row .count) (a .row .levels) (a .row .bare) (now (a .out)) (l .out) (l .here) (l .sum) (l .i) (p .0) (p .1)
+going t c = let p = c .before .before .before .before .before .before .before .pre .1 .0 in c .before .before .loop .inv .4 (p .0) (p .1) (p .2)
+
+-- and after it, of any trees that stood there
+gone : (t : ℕ) (c : to-fields-lts.After-known-told2 (to-fields-calls t) (to-fields-at t) to-fields.Post to-fields-Inv-loop to-fields-μ-loop)
+    → let a = c .before .before .before .before .before .before .before .before .before .before .before .before .before .before .before .before .before .before .before .before .before .args in
+    let l = c .before .before .before .before .before .before .before .before .before .before .before .before .before .before .before .before .loop in
+    let w = c .before .before .before .before .before .before .before .before .before .before .before .before .before .within .result in
+    let r = c .before .before .before .before .before .before .before .before .before .next-field in
+    let u = c .before .next .given .0 in
+    (us : Schemas) (ts : List Schema) → FieldsAt (now (a .s)) (a .row .at) (a .row .count) (a .row .levels) us ts
+    → Going (now (a .s)) (a .row .at) (a .row .count) (a .row .levels) (a .row .bare) (now (a .out))
+    (take w (l .out) ++ (r .last .1 .1 .0 ++ drop (length (l .out) - w) (drop w (l .out)))) (u .0) (l .sum + u .1 .0) (l .i + 1) us ts
+gone t c us ts h =
+    let w = c .before .before .before .before .before .before .before .before .before .before .before .before .before .within in
+    let r = c .before .before .before .before .before .before .before .before .before .next-field in
+    going-more _ _ _ _ _ _ _ _ _ _ _ _ (c .before .before .before .before .before .before .before .before .before .before .before .before .before .before .before .before .loop .inv .4 us ts h) (c .before .before .before .before .before .before .before .before .before .before .before .before .before .before .if1 .taken)
+    (w .result) (w .ensures) (r .last .1 .1 .0) _ _ _ (c .before .next .given .1) (r .ensures)
+
+to-fields-loop-holds : (t : ℕ) → to-fields-lts.Need-loop-holds (to-fields-calls t) (to-fields-at t) to-fields.Post to-fields-Inv-loop to-fields-μ-loop
+to-fields-loop-holds t c = (search needs, refl, refl, refl, λ us ts h. going-none _ _ _ _ _ _ _ _ h)
+
+to-fields-within-requires : (t : ℕ) → to-fields-lts.Need-within-requires (to-fields-calls t) (to-fields-at t) to-fields.Post to-fields-Inv-loop to-fields-μ-loop
+to-fields-within-requires t c κs = search needs
+
+to-fields-sub-next-field : (t : ℕ) → to-fields-lts.Need-sub-next-field (to-fields-calls t) (to-fields-at t) to-fields.Post to-fields-Inv-loop to-fields-μ-loop
+to-fields-sub-next-field t c = omega arith
+
+to-fields-part-next-field-start : (t : ℕ) → to-fields-lts.Need-part-next-field-start (to-fields-calls t) (to-fields-at t) to-fields.Post to-fields-Inv-loop to-fields-μ-loop
+to-fields-part-next-field-start t c = omega arith
+
+to-fields-part-next-field-end : (t : ℕ) → to-fields-lts.Need-part-next-field-end (to-fields-calls t) (to-fields-at t) to-fields.Post to-fields-Inv-loop to-fields-μ-loop
+to-fields-part-next-field-end t c = omega arith
+
+to-fields-next-field-requires : (t : ℕ) → to-fields-lts.Need-next-field-requires (to-fields-calls t) (to-fields-at t) to-fields.Post to-fields-Inv-loop to-fields-μ-loop
+to-fields-next-field-requires t c κs =
+    let start = c .before .before .before .before .before .before .before .before .before .before .before in
+    let inv = c .before .before .before .before .before .before .loop .inv in (
+      omega (arith, start .pre .0),
+      (going-field _ _ _ _ _ _ _ _ _ _ _ _ (going t (c .before .before .before .before)) (c .before .before .before .before .if1 .taken), room-kept (start .pre .1 .1) (inv .2) (inv .3)),
+    )
+
+to-fields-enum-known-r : (t : ℕ) → to-fields-lts.Need-enum-known-r (to-fields-calls t) (to-fields-at t) to-fields.Post to-fields-Inv-loop to-fields-μ-loop
+to-fields-enum-known-r t c = search needs
+
+to-fields-same-length : (t : ℕ) → to-fields-lts.Need-same-length (to-fields-calls t) (to-fields-at t) to-fields.Post to-fields-Inv-loop to-fields-μ-loop
+to-fields-same-length t c =
+    let l = c .before .before .before .before .before .before .before .before .before .before .before .before .before .before .before .before .loop in
+    let r = c .before .before .before .before .before .before .before .before .before .next-field in
+    length-lent (c .before .before .before .before .before .before .before .before .before .before .before .before .before .within .result) (l .out) (r .last .1 .1 .0) (r .kept .1 .1 .0) ∙ l .inv .1
+
+to-fields-same-length-2 : (t : ℕ) → to-fields-lts.Need-same-length-2 (to-fields-calls t) (to-fields-at t) to-fields.Post to-fields-Inv-loop to-fields-μ-loop
+to-fields-same-length-2 t c = c .before .before .before .before .before .before .before .before .before .next-field .kept .1 .1 .1 .0 ∙ c .before .before .before .before .before .before .before .before .before .before .before .before .before .before .before .before .loop .inv .2
+
+to-fields-same-length-3 : (t : ℕ) → to-fields-lts.Need-same-length-3 (to-fields-calls t) (to-fields-at t) to-fields.Post to-fields-Inv-loop to-fields-μ-loop
+to-fields-same-length-3 t c = c .before .before .before .before .before .before .before .before .before .next-field .kept .1 .1 .1 .1 .0 ∙ c .before .before .before .before .before .before .before .before .before .before .before .before .before .before .before .before .loop .inv .3
+
+to-fields-returns : (t : ℕ) → to-fields-lts.Need-returns (to-fields-calls t) (to-fields-at t) to-fields.Post to-fields-Inv-loop to-fields-μ-loop
+to-fields-returns t c =
+    let r = c .before .before .before .before .before .before .before .before .before .next-field in
+    λ us ts h. going-refused _ _ _ _ _ _ _ _ _ _ _ _ (c .before .before .before .before .before .before .before .before .before .before .before .before .before .before .before .before .loop .inv .4 us ts h) (c .before .before .before .before .before .before .before .before .before .before .before .before .before .before .if1 .taken) _ (r .last .1 .1 .0) _ _ (c .before .r .given .1) (r .ensures)
+
+to-fields-enum-known-next : (t : ℕ) → to-fields-lts.Need-enum-known-next (to-fields-calls t) (to-fields-at t) to-fields.Post to-fields-Inv-loop to-fields-μ-loop
+to-fields-enum-known-next t c = search needs
+
+to-fields-add-sum : (t : ℕ) → to-fields-lts.Need-add-sum (to-fields-calls t) (to-fields-at t) to-fields.Post to-fields-Inv-loop to-fields-μ-loop
+to-fields-add-sum t c =
+    let p = c .before .before .before .before .before .before .before .before .before .before .before .before .before .before .before .before .before .before .before .before .before .pre .1 .0 in
+    let g = gone t c (p .0) (p .1) (p .2) in
+    omega (arith, g .long, g .left .within, g .left .short)
+
+to-fields-add-i : (t : ℕ) → to-fields-lts.Need-add-i (to-fields-calls t) (to-fields-at t) to-fields.Post to-fields-Inv-loop to-fields-μ-loop
+to-fields-add-i t c = omega arith
+
+to-fields-loop-less : (t : ℕ) → to-fields-lts.Need-loop-less (to-fields-calls t) (to-fields-at t) to-fields.Post to-fields-Inv-loop to-fields-μ-loop
+to-fields-loop-less t c = omega arith
+
+to-fields-loop-again : (t : ℕ) → to-fields-lts.Need-loop-again (to-fields-calls t) (to-fields-at t) to-fields.Post to-fields-Inv-loop to-fields-μ-loop
+to-fields-loop-again t c =
+    let l = c .before .before .before .before .before .before .before .before .before .before .before .before .before .before .before .before .loop in
+    let r = c .before .before .before .before .before .before .before .before .before .next-field in (
+      omega arith,
+      length-lent (c .before .before .before .before .before .before .before .before .before .before .before .before .before .within .result) (l .out) (r .last .1 .1 .0) (r .kept .1 .1 .0) ∙ l .inv .1,
+      r .kept .1 .1 .1 .0 ∙ l .inv .2,
+      r .kept .1 .1 .1 .1 .0 ∙ l .inv .3,
+      gone t c,
+    )
+
+to-fields-same-length-4 : (t : ℕ) → to-fields-lts.Need-same-length-4 (to-fields-calls t) (to-fields-at t) to-fields.Post to-fields-Inv-loop to-fields-μ-loop
+to-fields-same-length-4 t c = c .before .before .loop .inv .1
+
+to-fields-same-length-5 : (t : ℕ) → to-fields-lts.Need-same-length-5 (to-fields-calls t) (to-fields-at t) to-fields.Post to-fields-Inv-loop to-fields-μ-loop
+to-fields-same-length-5 t c = c .before .before .loop .inv .2
+
+to-fields-same-length-6 : (t : ℕ) → to-fields-lts.Need-same-length-6 (to-fields-calls t) (to-fields-at t) to-fields.Post to-fields-Inv-loop to-fields-μ-loop
+to-fields-same-length-6 t c = c .before .before .loop .inv .3
+
+to-fields-returns-2 : (t : ℕ) → to-fields-lts.Need-returns-2 (to-fields-calls t) (to-fields-at t) to-fields.Post to-fields-Inv-loop to-fields-μ-loop
+to-fields-returns-2 t c = λ us ts h. going-all _ _ _ _ _ _ _ _ _ _ _ _ (c .before .before .loop .inv .4 us ts h) (c .if1 .left)
+
+pub +next-field+to-dtype+to-field+to-fields-spec : {M : Type 1} → statement M
++next-field+to-dtype+to-field+to-fields-spec =
+    close μ-next-field μ-to-dtype μ-to-field μ-to-fields
+    (λ t. next-field-lts.spec (next-field-calls t) (next-field-at t) next-field.Post
+    (next-field-put-leaf-requires t) (next-field-enum-known-next t) (next-field-enum-told t) (next-field-to-field-requires t)
+    (next-field-same-length t) (next-field-returns t) (next-field-same-length-2 t) (next-field-same-length-3 t) (next-field-same-length-4 t)
+    (next-field-returns-2 t))
+    (λ t. to-dtype-lts.spec (to-dtype-calls t) (to-dtype-at t) to-dtype.Post
+    (to-dtype-begin-type-requires t) (to-dtype-enum-known-r t) (to-dtype-enum-known-from t) (to-dtype-within-requires t) (to-dtype-sub-to-fields t)
+    (to-dtype-part-to-fields-start t) (to-dtype-part-to-fields-end t) (to-dtype-to-fields-requires t) (to-dtype-enum-known-r-2 t)
+    (to-dtype-enum-known-next t) (to-dtype-add-end-type t) (to-dtype-end-type-requires t) (to-dtype-same-length t) (to-dtype-same-length-2 t)
+    (to-dtype-returns t) (to-dtype-same-length-3 t) (to-dtype-same-length-4 t) (to-dtype-same-length-5 t) (to-dtype-returns-2 t)
+    (to-dtype-same-length-6 t) (to-dtype-same-length-7 t) (to-dtype-same-length-8 t) (to-dtype-returns-3 t))
+    (λ t. to-field-lts.spec (to-field-calls t) (to-field-at t) to-field.Post
+    (to-field-line-at-requires t) (to-field-begin-field-requires t) (to-field-within-requires t) (to-field-sub-to-dtype t) (to-field-sub-to-dtype-2 t)
+    (to-field-part-to-dtype-start t) (to-field-part-to-dtype-end t) (to-field-to-dtype-requires t) (to-field-enum-known-r t)
+    (to-field-enum-known-next t) (to-field-add-end-field t) (to-field-end-field-requires t) (to-field-same-length t) (to-field-same-length-2 t)
+    (to-field-same-length-3 t) (to-field-returns t) (to-field-same-length-4 t) (to-field-same-length-5 t) (to-field-same-length-6 t)
+    (to-field-returns-2 t))
+    λ t. to-fields-lts.spec (to-fields-calls t) (to-fields-at t) to-fields.Post to-fields-Inv-loop to-fields-μ-loop
+    (to-fields-loop-holds t) (to-fields-within-requires t) (to-fields-sub-next-field t) (to-fields-part-next-field-start t)
+    (to-fields-part-next-field-end t) (to-fields-next-field-requires t) (to-fields-enum-known-r t) (to-fields-same-length t)
+    (to-fields-same-length-2 t) (to-fields-same-length-3 t) (to-fields-returns t) (to-fields-enum-known-next t) (to-fields-add-sum t)
+    (to-fields-add-i t) (to-fields-loop-less t) (to-fields-loop-again t) (to-fields-same-length-4 t) (to-fields-same-length-5 t)
+    (to-fields-same-length-6 t) (to-fields-returns-2 t)

@@ -1,0 +1,93 @@
+-- What is known at each place of `to_dtype` after its type's line is written: what its fields come to, and what is left to skip. Assumes nothing.
+use mathlib.Core.Path.{_≡_, sym, ap, subst, _∙_}
+use mathlib.Core.List.{List, [], _∷_, _++_}
+use Prim.Native.Nat.{ℕ, _+_, _-_, _≤_, min}
+use native.Mathlib.Omega.{arith}
+use lib.ListN.{length, take, drop, length-append, length-take, length-drop}
+use Rattle.sheets.specs.Bytes.{Bytes}
+use Rattle.sheets.specs.Answer.{Answer, refused, given, _>>=_}
+use Rattle.sheets.specs.Sheet.{ended}
+use Rattle.sheets.specs.Schema.{Schema}
+use Rattle.sheets.specs.ImportLines.{rowWritten}
+use Rattle.sheets.proofs.SheetLaws.{ended-append}
+use Rattle.buffer.specs.Over.{over}
+use Rattle.buffer.proofs.OverLaws.{over-lent}
+use Rattle.refusal.specs.declared.Refusal.{Refusal as Reason}
+use Rattle.refusal.specs.Refusals.{refusalOf}
+use Rattle.schema_line.specs.declared.SchemaLine.{SchemaLine}
+use Rattle.node.specs.declared.lines.Shown.{Shown}
+use Rattle.node.specs.Nodes.{columnIn, metadataIn}
+use Rattle.node.proofs.LineLaws.{shown-short}
+use Rattle.import_field.specs.declared.Row.{Row}
+use Rattle.import_field.specs.declared.Visit.{Visit}
+use Rattle.import_field.specs.declared.Step.{Step}
+use Rattle.import_field.specs.declared.Step.the-variants.{Done, Refused}
+use Rattle.import_field.specs.Contracts.{LeftAt, HasFields, HasLeft, HasType, typeLength, stepAnswer, WroteAs, Wrote, FieldsWrote, Begins, Ends, TypeEnds}
+
+-- the row that a type visits
+abbrev pub rowAt : ℕ → ℕ → Visit → Row
+rowAt from levels v = record { at = from; count = v .count; levels = levels; bare = v .bare }
+
+-- the line of a type is no longer than a sheet allows
+pub type-short : {s : Bytes} {l : SchemaLine} {w : Shown} {levels : ℕ} {es : List ℕ} → HasType s l w levels es → typeLength s l w es ≤ 1507420
+type-short {s = s} {l = l} {w = w} {es = es} h =
+    omega (
+      arith,
+      length-take (l .format .end - l .format .start) (drop (l .format .start) s),
+      length-drop (l .format .start) s,
+      h .there .short,
+      shown-short (columnIn s (l .name)) (metadataIn s l) es w (h .ready),
+      h .ready .named,
+      h .ready .pairs .short,
+    )
+
+module _ {s : Bytes} {l : SchemaLine} {levels : ℕ} {o : Answer (List Bytes)} {extra : ℕ} {ts : List Schema} {out mid : Bytes} {from len : ℕ} {v : Visit} (g : Begins s l levels o extra ts out mid from len v) where
+  -- the visited trees are there
+  pub fields-there : HasFields s (rowAt from levels v)
+  fields-there = (g .us, g .vs ++ ts, g .visited)
+
+  abbrev after : Answer (List Bytes) → Answer (List Bytes)
+  after m = m >>= λ ls. given (g .line ∷ ls)
+
+  -- one of them is refused
+  pub fields-refused : (lent part : Bytes) (r : Step) (q : Reason) → r ≡ Refused q → FieldsWrote s (rowAt from levels v) lent part r → o ≡ refused (refusalOf q)
+  fields-refused lent part r q e h =
+      let w : FieldsWrote s (rowAt from levels v) lent part (Refused q) = subst (λ (y : Step). FieldsWrote s (rowAt from levels v) lent part y) e h in
+      g .becomes ∙ ap after (w (g .us) (g .vs ++ ts) (g .visited))
+
+  module _ (lent part : Bytes) (r : Step) (next below : ℕ) (e : r ≡ Done next below) (h : FieldsWrote s (rowAt from levels v) lent part r) where
+    fields-done : Wrote s from 0 (g .vs ++ ts) (rowWritten (v .bare) (g .us)) lent part (Done next below)
+    fields-done = subst (λ (y : Step). FieldsWrote s (rowAt from levels v) lent part y) e h (g .us) (g .vs ++ ts) (g .visited)
+
+    -- the others are there
+    left-at : LeftAt s next (v .last) levels (g .vs) ts
+    left-at = let d = fields-done in record { stands = d .4; counted = g .others; deep = g .low; within = d .6 }
+
+    pub left-there : HasLeft s next (v .last) levels
+    left-there = (g .vs, ts, left-at)
+
+    -- the sum of both lengths does not wrap
+    pub both-long : len + below ≤ 2097120 + extra
+    both-long = let d = fields-done in omega (arith, g .long, d .5, d .6, g .visited .short)
+
+    -- all is written
+    pub type-ended : (w : ℕ) → w ≡ min len (length mid) → lent ≡ take (length mid - w) (drop w mid)
+        → (z : Step) → TypeEnds s next (v .last) levels (len + below) z
+        → Wrote s (l .end) extra ts o out (take w mid ++ (part ++ drop (length mid - w) (drop w mid))) z
+    type-ended w e₁ e₂ z k = go (stepAnswer z) (k (g .vs) ts left-at)
+      where
+        go : (y : Answer (ℕ × ℕ)) → Ends s next (len + below) ts y
+            → WroteAs s (l .end) extra ts o out (take w mid ++ (part ++ drop (length mid - w) (drop w mid))) y
+        go (refused q) k = absurd k
+        go (given (past, sum)) k =
+            let (ls, is, lenIs, laid, there, long, within) = fields-done in
+            let first : len ≡ length (ended (g .line ∷ [])) = omega (arith, g .lineLength, length-append (g .line) (10 ∷ [])) in (
+              g .line ∷ ls,
+              g .becomes ∙ ap after is,
+              omega (arith, k .0, first, lenIs, ap length (ended-append (g .line ∷ []) ls), length-append (ended (g .line ∷ [])) (ended ls)),
+              over-lent (ended (g .line ∷ [])) (ended ls) out mid part len w (g .laid) first e₁ (laid ∙ ap (over (ended ls)) e₂)
+                  ∙ ap (λ (x : Bytes). over x out) (sym (ended-append (g .line ∷ []) ls)),
+              k .1,
+              omega (arith, g .long, long, k .0, k .2),
+              k .3,
+            )

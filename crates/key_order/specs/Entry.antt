@@ -1,0 +1,31 @@
+-- Entries: an entry is a number that says where in a text a key stands, so that keys are put in order without being moved. It is the place where the
+-- key starts times 65536, and the key's length. Assumes nothing.
+use mathlib.Core.List.{List, [], _∷_}
+use Prim.Native.Nat.{ℕ, _+_, _*_, _/_, _%_, _<_}
+use lib.ListN.{take, drop}
+use Rattle.sheets.specs.Bytes.{Bytes}
+
+-- the entry of a key that starts there and is so long
+abbrev pub entryOf : ℕ → ℕ → ℕ
+entryOf start size = start * 65536 + size
+
+-- both numbers have 16 bits
+abbrev pub IsEntry : ℕ → ℕ → Type 0
+IsEntry start size = (start < 65536) × (size < 65536)
+
+-- where the key of an entry starts
+abbrev pub startOf : ℕ → ℕ
+startOf e = e / 65536
+
+-- how long it is
+abbrev pub sizeOf : ℕ → ℕ
+sizeOf e = e % 65536
+
+-- the key of an entry; it ends with the text if the entry tells of more
+unfoldable pub keyAt : Bytes → ℕ → Bytes
+keyAt text e = take (sizeOf e) (drop (startOf e) text)
+
+-- what holds of each entry
+abbrev pub Each : (ℕ → Type 0) → List ℕ → Type 0
+Each P [] = Unit {0}
+Each P (e ∷ es) = P e × Each P es

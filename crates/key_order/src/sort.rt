@@ -1,0 +1,33 @@
+// The entries of a metadata block's keys sorted without a heap: by merging, and by insertion where there are few.
+ghost use mathlib.Core.Path.{_≡_};
+ghost use Prim.Native.Nat.{_≤_};
+ghost use lib.ListN.{length, take};
+ghost use Rattle.key_order.specs.Entry.{keyAt};
+ghost use Rattle.key_order.specs.Order.{ordered, Room};
+ghost use Rattle.key_order.specs.Merge.{Sorts};
+
+// Sorts `to`, of which `from` is a copy; how many entries there are then. The halves are sorted into `from`, and merged into `to`.
+fn sort_into(text: &[u8], from: &mut [u32], to: &mut [u32]) -> usize
+    requires { ⌜ now from ≡ now to ⌝ }
+    ensures { λ r. ⌜ Sorts (keyAt (now (text .entry))) (now (to .entry)) (now (to .exit)) r ⌝ }
+{
+    let n = to.len();
+    // up to eight entries are sorted sooner by insertion than by merging
+    if n < 9 {
+        return crate::insert::sort_few(text, from, to);
+    }
+    let half = n / 2;
+    let a = sort_into(text, &mut to[..half], &mut from[..half]);
+    let b = sort_into(text, &mut to[half..], &mut from[half..]);
+    crate::merge::join_halves(text, from, to, half, a, b)
+}
+
+// Sorts the first n entries by their keys, the last of equal keys kept; how many there are then. No entry past those means anything.
+pub fn sort_keys(text: &[u8], entries: &mut [u32], spare: &mut [u32], n: usize) -> usize
+    requires { ⌜ Room (now entries) (now spare) n ⌝ }
+    ensures { λ r. ⌜ (r ≤ n) × (take r (now (entries .exit)) ≡ ordered (keyAt (now (text .entry))) (take n (now (entries .entry)))) ⌝ }
+    ensures { λ _. ⌜ (length (now (entries .exit)) ≡ length (now (entries .entry))) × (length (now (spare .exit)) ≡ length (now (spare .entry))) ⌝ }
+{
+    crate::merge::put_at(spare, 0, &entries[..n]);
+    sort_into(text, &mut spare[..n], &mut entries[..n])
+}

@@ -1,3 +1,0 @@
-pub mod NumberAtLaws
-pub mod NumberFindLaws
-pub mod OneDigitLaws

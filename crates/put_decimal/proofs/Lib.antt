@@ -1,2 +1,0 @@
-pub mod SignLaws
-pub mod WriteLaws

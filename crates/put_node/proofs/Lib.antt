@@ -1,3 +1,0 @@
-pub mod OwnLaws
-pub mod VisitLaws
-pub mod NodeLaws

@@ -1,4 +1,0 @@
-pub mod SplitLaws
-pub mod TailLaws
-pub mod LineLaws
-pub mod KnownLaws

@@ -1,3 +1,0 @@
-pub mod TextLaws
-pub mod ByteLaws
-pub mod PartLaws

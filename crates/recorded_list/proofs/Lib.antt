@@ -1,0 +1,9 @@
+pub mod TextLaws
+pub mod ByteLaws
+pub mod PartLaws
+pub mod NumbersLaws
+pub mod RecordLaws
+pub mod ReadsLaws
+pub mod LengthLaws
+pub mod WindowLaws
+pub mod ReadingLaws

@@ -1,0 +1,174 @@
+-- A line that is known to stand, walked from column to column: each end that `text_end` or `number_end` finds is the column's (`Ends`). So what `readLine`
+-- gives is found by looking at one column after the other, and where that fails there is no line (`walk-refused`). For callers: `line-told` and
+-- `line-refused`. Assumes nothing.
+use mathlib.Core.Path.{_≡_, refl, sym, ap, subst, _∙_}
+use mathlib.Core.List.{_∷_}
+use Prim.Native.Nat.{ℕ, suc, _+_, _^_, _<_}
+use native.Mathlib.Omega.{arith}
+use lib.IntN.{ℤ}
+use lib.Signed.{mag}
+use lib.ListN.{length, drop, length-append, length-drop}
+use borrow.Author.Tests.{ltb-true, lt-ltb}
+use Rattle.sheets.specs.Refusal.{badLines}
+use Rattle.sheets.specs.Rule.{Meets}
+use Rattle.sheets.specs.Bytes.{Bytes}
+use Rattle.sheets.specs.Answer.{refused, given}
+use Rattle.sheets.specs.Codec.{Codec, Row as Columns, number, signed, text, done, _▸_}
+use Rattle.sheets.specs.Number.{readNumber, readSigned}
+use Rattle.sheets.specs.Schema.{Line, childrenOf, dictionaryOf}
+use Rattle.sheets.specs.TreeWalks.{HasTree}
+use Rattle.sheets.specs.SchemaTrees.{Row, schemas}
+use Rattle.sheets.proofs.Tests.{not-given, same-given}
+use Rattle.sheets.proofs.FormLaws.{row-begins, standing-row}
+use Rattle.columns.specs.Columns.{part, stopFrom}
+use Rattle.columns.specs.NumberColumns.{HasNumber, HasSigned}
+use Rattle.columns.proofs.ColumnLaws.{ColumnAt, column-end}
+use Rattle.schema_line.specs.declared.SchemaLine.{SchemaLine}
+use Rattle.schema_line.specs.Lines.{lineRule, readLine, shownAt, Stands, LineAt}
+use Rattle.schema_line.proofs.TailLaws.{Tail, tail-column, tail-next, last-column, tail-last}
+use Rattle.schema_line.proofs.LineLaws.{Ends, shown, walk, ends-shown, ends-read, ends-walk, ends-line, read-stands, read-refused, stands-read}
+
+-- the column whose end was found, and the columns after it
+record Found {A B : Type 0} (k : Codec A) (row : Columns B) (s : Bytes) (p e : ℕ) (x : A × B) (rest : Bytes) : Type 0 where
+  pub column : ColumnAt s p e 32
+  pub reads : k .read (part s p e) ≡ given (x .0)
+  pub after : Tail row s (e + 1) (x .1) rest
+
+found : {A B C : Type 0} (k : Codec A) (j : Codec B) (row : Columns C) {s : Bytes} {p e : ℕ} {x : A × (B × C)} {rest : Bytes}
+    → Tail (k ▸ (j ▸ row)) s p x rest → e ≡ stopFrom s p → Found k (j ▸ row) s p e x rest
+found k j row {s} {p} {e} {x} {rest} t at =
+    let c = tail-column k j row t in
+    let here : c .0 ≡ e = column-end (c .1) refl ∙ sym at in
+    let column : ColumnAt s p e 32 = subst (λ (i : ℕ). ColumnAt s p i 32) here (c .1) in
+    let n = tail-next k (j ▸ row) t column in
+    record { column = column; reads = n .0; after = n .1 }
+
+module _ {s : Bytes} {at : ℕ} {x : Line} {rest : Bytes} (b : Stands s at x rest) (rule : Meets (lineRule x)) {f : ℕ} (ef : f ≡ stopFrom s at) where
+  format-found : Found text (text ▸ signed ▸ text ▸ number ▸ number ▸ done) s at f x rest
+  format-found = found text text (signed ▸ text ▸ number ▸ number ▸ done) (record { bytes = b .bytes; is = b .is; free = b .free; reads = b .reads }) ef
+
+  pub format-within : f < length s
+  format-within = format-found .column .high
+
+  module _ {n : ℕ} (en : n ≡ stopFrom s (f + 1)) where
+    name-found : Found text (signed ▸ text ▸ number ▸ number ▸ done) s (f + 1) n (x .1) rest
+    name-found = found text signed (text ▸ number ▸ number ▸ done) (format-found .after) en
+
+    pub name-within : n < length s
+    name-within = name-found .column .high
+
+    module _ {g : ℕ} (eg : g ≡ stopFrom s (n + 1)) where
+      flags-found : Found signed (text ▸ number ▸ number ▸ done) s (n + 1) g (x .1 .1) rest
+      flags-found = found signed text (number ▸ number ▸ done) (name-found .after) eg
+
+      pub flags-within : g < length s
+      flags-within = flags-found .column .high
+
+      flags-small : mag (x .1 .1 .0) < 2 ^ 63
+      flags-small = ltb-true (mag (x .1 .1 .0)) (2 ^ 63) (rule .0 .1 .1)
+
+      pub flags-signed : HasSigned s (n + 1) g
+      flags-signed = (x .1 .1 .0, flags-found .reads, flags-small, flags-found .column .low, omega (arith, flags-found .column .high))
+
+      pub flags-fit : {z : ℤ} → readSigned (part s (n + 1) g) ≡ given z → mag z < 2 ^ 63
+      flags-fit {z} r = subst (λ (y : ℤ). mag y < 2 ^ 63) (same-given (sym (flags-found .reads) ∙ r)) flags-small
+
+      module _ {m : ℕ} (em : m ≡ stopFrom s (g + 1)) where
+        metadata-found : Found text (number ▸ number ▸ done) s (g + 1) m (x .1 .1 .1) rest
+        metadata-found = found text number (number ▸ done) (flags-found .after) em
+
+        pub metadata-within : m < length s
+        metadata-within = metadata-found .column .high
+
+        module _ {h : ℕ} (eh : h ≡ stopFrom s (m + 1)) where
+          children-found : Found number (number ▸ done) s (m + 1) h (x .1 .1 .1 .1) rest
+          children-found = found number number done (metadata-found .after) eh
+
+          pub children-within : h < length s
+          children-within = children-found .column .high
+
+          pub children-number : HasNumber s (m + 1) h
+          children-number = (childrenOf x, children-found .reads, ltb-true (childrenOf x) (2 ^ 64) (rule .1 .0), omega (arith, children-within))
+
+          module _ {e : ℕ} (ee : e ≡ stopFrom s (h + 1)) where
+            last : ColumnAt s (h + 1) e 10
+            last =
+                let c = last-column number (children-found .after) in
+                let here : c .0 ≡ e = column-end (c .1) refl ∙ sym ee in
+                subst (λ (i : ℕ). ColumnAt s (h + 1) i 10) here (c .1)
+
+            pub dictionary-within : e < length s
+            dictionary-within = last .high
+
+            pub dictionary-number : HasNumber s (h + 1) e
+            dictionary-number = (dictionaryOf x, tail-last number (children-found .after) last .0, omega (arith, ltb-true (dictionaryOf x) 2 (rule .1 .1)), omega (arith, last .high))
+
+            pub ends : Ends s at x f n g m h e
+            ends =
+                record {
+                  format = format-found .column;
+                  name = name-found .column;
+                  flags = flags-found .column;
+                  metadata = metadata-found .column;
+                  children = children-found .column;
+                  dictionary = last;
+                  isFormat = format-found .reads;
+                  isName = name-found .reads;
+                  isFlags = flags-found .reads;
+                  isMetadata = metadata-found .reads;
+                  isChildren = children-found .reads;
+                  isDictionary = tail-last number (children-found .after) last .0;
+                }
+
+            -- the line with the numbers that were read
+            pub line-known : {z : ℤ} {c d : ℕ} → readSigned (part s (n + 1) g) ≡ given z → readNumber (part s (m + 1) h) ≡ given c → readNumber (part s (h + 1) e) ≡ given d
+                → readLine s at ≡ given (shown at f n g m e z c d)
+            line-known {z} {c} {d} rz rc rd =
+                let k = ends in
+                let pz : x .1 .1 .0 ≡ z = same-given (sym (k .isFlags) ∙ rz) in
+                let pc : childrenOf x ≡ c = same-given (sym (k .isChildren) ∙ rc) in
+                let pd : dictionaryOf x ≡ d = same-given (sym (k .isDictionary) ∙ rd) in
+                ends-read k rule ∙ (λ i. given (shown at f n g m e (pz i) (pc i) (pd i)))
+
+-- ── a line that stands
+
+module _ {s : Bytes} {at : ℕ} {x : Line} {rest : Bytes} (b : Stands s at x rest) (rule : Meets (lineRule x)) where
+  stands-ends : (f : ℕ) × (n : ℕ) × (g : ℕ) × (m : ℕ) × (h : ℕ) × (e : ℕ) × Ends s at x f n g m h e
+  stands-ends = (_, _, _, _, _, _, ends b rule refl refl refl refl refl refl)
+
+  stands-walk : (l : SchemaLine) × (walk s at ≡ given l)
+  stands-walk = let k = stands-ends in (_, ends-walk (k .6) rule)
+
+  stands-line : LineAt s at (shownAt at x)
+  stands-line = let k = stands-ends in subst (LineAt s at) (sym (ends-shown (k .6))) (ends-line (k .6) rule)
+
+-- a row of trees begins with a line
+pub row-stands : (s : Bytes) (at : ℕ) {p : ℕ} → length s < 2 ^ 64 → Row (suc p) (drop at s) → (x : Line) × (rest : Bytes) × Stands s at x rest × Meets (lineRule x)
+row-stands s at fits w =
+    let k = row-begins w in
+    let few : childrenOf (k .line) < 2 ^ 64 = omega (arith, k .few, ap length (k .is), length-append (k .bytes) (10 ∷ k .rest), length-drop at s) in
+    (k .line, k .rest, record { bytes = k .bytes; is = k .is; free = k .free; reads = k .reads }, (k .own, (lt-ltb (childrenOf (k .line)) (2 ^ 64) few, k .counts)))
+
+pub tree-stands : (s : Bytes) (at : ℕ) → length s < 2 ^ 64 → HasTree schemas s at → (x : Line) × (rest : Bytes) × Stands s at x rest × Meets (lineRule x)
+tree-stands s at fits h = row-stands s at fits (standing-row (h .2))
+
+-- ── what `readLine` tells
+
+module _ (s : Bytes) (at : ℕ) where
+  pub walk-refused : walk s at ≡ refused badLines → readLine s at ≡ refused badLines
+  walk-refused h =
+      read-refused s at (λ l e.
+      let w = read-stands s at e in
+      not-given (sym h ∙ stands-walk (w .2) (w .3) .1))
+
+  -- a line that keeps its rules
+  pub line-told : {l : SchemaLine} → readLine s at ≡ given l → LineAt s at l
+  line-told {l} e =
+      let w = read-stands s at e in
+      subst (LineAt s at) (w .4) (stands-line (w .2) (w .3))
+
+  -- no row of trees begins here
+  pub line-refused : readLine s at ≡ refused badLines → length s < 2 ^ 64 → (p : ℕ) → Row (suc p) (drop at s) → ⊥
+  line-refused e fits p w =
+      let k = row-stands s at fits w in
+      not-given (sym e ∙ stands-read s at (k .2) (k .3))

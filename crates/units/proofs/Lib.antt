@@ -1,2 +1,0 @@
-pub mod AtLaws
-pub mod EnumLaws
