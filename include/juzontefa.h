@@ -28,8 +28,8 @@
 extern "C" {
 #endif
 
-/* Bytes of stack to reserve for a call: what the greatest call used, 66,888 bytes (measured by host/stack, x86-64; not proved), with a margin
- * of a fifth. A sheet of one line used 34,956. */
+/* Bytes of stack to reserve for a call: what the greatest call used, 59,432 bytes (measured by host/stack, x86-64; not proved), with a margin
+ * of a third. A sheet of one leaf used 34,592. */
 #define JUZONTEFA_STACK 81920
 
 /* By value, in two registers. */
