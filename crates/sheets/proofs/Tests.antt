@@ -61,6 +61,11 @@ pub first-gave : {A B : Type 0} (m : Answer A) (f : A → Answer B) (b : B) → 
 first-gave (refused n) f b h = not-given h
 first-gave (given a) f b h = (a, refl, h)
 
+-- a chain of three steps
+pub chained : {A B C : Type 0} (m : Answer A) (f : A → Answer B) (g : B → Answer C) → ((m >>= f) >>= g) ≡ (m >>= λ a. f a >>= g)
+chained (refused r) f g = refl
+chained (given a) f g = refl
+
 -- chains whose steps agree
 pub chain-same : {A B : Type 0} (m n : Answer A) (f g : A → Answer B) → m ≡ n → ((a : A) → f a ≡ g a) → (m >>= f) ≡ (n >>= g)
 chain-same {A} m n f g e h = rw e (go n)

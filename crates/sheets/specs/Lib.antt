@@ -28,6 +28,10 @@ pub mod ImportLines
 pub mod Export
 pub mod Plain
 pub mod Mappings
+pub mod Walk
+pub mod ExportSteps
+pub mod PlainSteps
+pub mod MappingSteps
 pub mod Outcome
 pub mod Demand3
 pub mod Bench
