@@ -19,7 +19,7 @@ use Rattle.sheets.proofs.LineTrees.{Lawful}
 use Rattle.sheets.proofs.FieldTrees.{fields-lawful, levels-some}
 use Rattle.sheets.proofs.WalkLaws.{levels-below, row-falls}
 use Rattle.sheets.proofs.StorageLaws.{storage-levels}
-use Rattle.walks.specs.Places.{TypeAt, RowAt, Owns, Begins}
+use Rattle.walks.specs.Places.{ownLimit, TypeAt, RowAt, Owns, Begins}
 
 -- ── the row below a line, from where on it stands
 
@@ -60,7 +60,7 @@ module _ {S : Type 0} (step : S → Head → Answer (Step S)) (s : Bytes) (at le
   by-below x e = opened ∙ ap (λ (y : Below S). belowWritten y (λ τ. rowWalk step us τ) (entryLines us) >>= λ b. p .own >>= λ a. given (a ++ b)) e
 
   pub begin-visit : (τ : S) → p .below ≡ visit τ → (from count left : ℕ) (within : Bool) → RowAt s from count left within us es → rowMeasure left within < lineMeasure levels inside
-      → (out out' : Bytes) (len : ℕ) (pending : Answer (Unit {0})) → Owns (p .own) pending len out out' → len + 16 + 32 * at ≤ 32 * from + 16 * count
+      → (out out' : Bytes) (len : ℕ) (pending : Answer (Unit {0})) → Owns (p .own) pending len out out' → len + ownLimit * at ≤ ownLimit * from
       → Begins step s at levels inside o es out out' (record { from = from; count = count; levels = left; inside = within; state = τ; len = len; pending = pending })
   begin-visit τ v from count left within row smaller out out' len pending owns l =
       record { us = us; own = p .own; row = row; falls = smaller; becomes = by-below (visit τ) v; owns = owns; long = l }
@@ -71,15 +71,15 @@ module _ {S : Type 0} (step : S → Head → Answer (Step S)) (s : Bytes) (at le
     unfolding tallest
     none-left = record { stands = after; counted = refl; deep = omega arith; within = reach; short = short }
 
-    pub begin-skip : p .below ≡ skip → (out out' : Bytes) (len : ℕ) (pending : Answer (Unit {0})) → Owns (p .own) pending len out out' → len + 16 + 32 * at ≤ 32 * next
+    pub begin-skip : p .below ≡ skip → (out out' : Bytes) (len : ℕ) (pending : Answer (Unit {0})) → Owns (p .own) pending len out out' → len + ownLimit * at ≤ ownLimit * next
         → Begins step s at levels inside o es out out' (record { from = next; count = 0; levels = left; inside = within; state = τ; len = len; pending = pending })
     begin-skip v out out' len pending owns l =
-        record { us = []; own = p .own; row = none-left; falls = smaller; becomes = by-below skip v; owns = owns; long = omega arith }
+        record { us = []; own = p .own; row = none-left; falls = smaller; becomes = by-below skip v; owns = owns; long = l }
 
-    pub begin-copy : p .below ≡ copy → (out out' : Bytes) (len : ℕ) (pending : Answer (Unit {0})) → Owns (p .own >>= λ a. given (a ++ entryLines us)) pending len out out' → len + 16 + 32 * at ≤ 32 * next
+    pub begin-copy : p .below ≡ copy → (out out' : Bytes) (len : ℕ) (pending : Answer (Unit {0})) → Owns (p .own >>= λ a. given (a ++ entryLines us)) pending len out out' → len + ownLimit * at ≤ ownLimit * next
         → Begins step s at levels inside o es out out' (record { from = next; count = 0; levels = left; inside = within; state = τ; len = len; pending = pending })
     begin-copy v out out' len pending owns l =
-        record { us = []; own = p .own >>= λ a. given (a ++ entryLines us); row = none-left; falls = smaller; becomes = by-below copy v ∙ go (p .own); owns = owns; long = omega arith }
+        record { us = []; own = p .own >>= λ a. given (a ++ entryLines us); row = none-left; falls = smaller; becomes = by-below copy v ∙ go (p .own); owns = owns; long = l }
       where
         go : (a : Answer (List Bytes)) → (a >>= λ x. given (x ++ entryLines us)) ≡ ((a >>= λ x. given (x ++ entryLines us)) >>= λ x. given (x ++ []))
         go (refused r) = refl

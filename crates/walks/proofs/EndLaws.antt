@@ -15,7 +15,7 @@ use Rattle.sheets.specs.Walk.{Step, rowWalk}
 use Rattle.sheets.proofs.SheetLaws.{ended-append}
 use Rattle.buffer.specs.Over.{over}
 use Rattle.buffer.proofs.OverLaws.{over-lent}
-use Rattle.walks.specs.Places.{HasRow, WroteAs, RowWrote, Owns, endedType, Begun, Begins}
+use Rattle.walks.specs.Places.{ownLimit, HasRow, WroteAs, RowWrote, Owns, endedStep, Begun, Begins}
 
 module _ {S : Type 0} {step : S → Head → Answer (Step S)} {s : Bytes} {at levels : ℕ} {inside : Bool} {o : Answer (List Bytes)} {es : List Entry} {out mid : Bytes} {b : Begun S}
     (g : Begins step s at levels inside o es out mid b) where
@@ -34,23 +34,23 @@ module _ {S : Type 0} {step : S → Head → Answer (Step S)} {s : Bytes} {at le
       g .becomes ∙ ap after (w (g .us) es (g .row))
 
   module _ (lent part : Bytes) (a : Answer (ℕ × ℕ)) (next more : ℕ) (e : a ≡ given (next, more)) (h : RowWrote step s (b .from) (b .count) (b .levels) (b .inside) (b .state) lent part a) where
-    row-done : WroteAs s (b .from) (16 * b .count) es (rowWalk step (g .us) (b .state)) lent part (given (next, more))
+    row-done : WroteAs s (b .from) es (rowWalk step (g .us) (b .state)) lent part (given (next, more))
     row-done = subst (λ (y : Answer (ℕ × ℕ)). RowWrote step s (b .from) (b .count) (b .levels) (b .inside) (b .state) lent part y) e h (g .us) es (g .row)
 
     -- the sum of both lengths does not wrap
-    pub both-long : b .len + more ≤ 2097120
+    pub both-long : b .len + more ≤ ownLimit * 65535
     both-long = let d = row-done in omega (arith, g .long, d .5, d .6, g .row .short)
 
     -- all is written, or what was pending comes now
     pub type-ended : (w : ℕ) → w ≡ min (b .len) (length mid) → lent ≡ take (length mid - w) (drop w mid)
-        → WroteAs s at 16 es o out (take w mid ++ (part ++ drop (length mid - w) (drop w mid))) (endedType (b .pending) next (b .len + more))
+        → WroteAs s at es o out (take w mid ++ (part ++ drop (length mid - w) (drop w mid))) (endedStep (b .pending) next (b .len + more))
     type-ended w e₁ e₂ = go (g .own) (b .pending) refl (g .owns)
       where
         chain : (own : Answer (List Bytes)) → g .own ≡ own → o ≡ (own >>= λ x. given (x ++ row-done .0))
         chain own q = g .becomes ∙ ap after (row-done .1) ∙ ap (λ (m : Answer (List Bytes)). m >>= λ x. given (x ++ row-done .0)) q
 
         go : (own : Answer (List Bytes)) (pending : Answer (Unit {0})) → g .own ≡ own → Owns own pending (b .len) out mid
-            → WroteAs s at 16 es o out (take w mid ++ (part ++ drop (length mid - w) (drop w mid))) (endedType pending next (b .len + more))
+            → WroteAs s at es o out (take w mid ++ (part ++ drop (length mid - w) (drop w mid))) (endedStep pending next (b .len + more))
         go (given x) (refused q) c owns = absurd owns
         go (refused r) (given u) c owns = absurd owns
         go (refused r) (refused q) c owns = chain (refused r) c ∙ ap refused owns

@@ -17,7 +17,7 @@ use Rattle.sheets.proofs.SheetLaws.{ended-append}
 use Rattle.sheets.proofs.WalkLaws.{nothing-own}
 use Rattle.buffer.specs.Over.{over}
 use Rattle.buffer.proofs.OverLaws.{over-nothing, over-lent}
-use Rattle.walks.specs.Places.{TypeAt, RowAt, HasType, WroteAs, TypeWrote}
+use Rattle.walks.specs.Places.{ownLimit, TypeAt, RowAt, HasType, WroteAs, TypeWrote}
 
 both-before : (a b : List Bytes) (m : Answer (List Bytes)) → ((m >>= λ ls. given (b ++ ls)) >>= λ ls. given (a ++ ls)) ≡ (m >>= λ ls. given ((a ++ b) ++ ls))
 both-before a b (refused r) = refl
@@ -35,7 +35,7 @@ pub record Going {S : Type 0} (step : S → Head → Answer (Step S)) (s : Bytes
   pub becomes : rowWalk step us σ ≡ (rowWalk step vs σ >>= λ ls. given (lines ++ ls))
   pub sumIs : sum ≡ length (ended lines)
   pub laid : out ≡ over (ended lines) out₀
-  pub long : sum + 16 * k + 32 * at ≤ 32 * here
+  pub long : sum + ownLimit * at ≤ ownLimit * here
 
 module _ {S : Type 0} (step : S → Head → Answer (Step S)) (s : Bytes) (at n levels : ℕ) (inside : Bool) (σ : S) (out₀ : Bytes) (us es : List Entry) where
   pub going-none : RowAt s at n levels inside us es → Going step s at n levels inside σ out₀ out₀ at 0 0 us es
@@ -63,7 +63,7 @@ module _ {S : Type 0} (step : S → Head → Answer (Step S)) (s : Bytes) (at n 
         go (x ∷ vs) h = (x .0, x .1, vs ++ es, first-at x vs h)
 
     -- no sum wraps
-    pub going-short : sum ≤ 2097120
+    pub going-short : sum ≤ ownLimit * 65535
     going-short = omega (arith, g .long, g .left .within, g .left .short)
 
     -- it is written
@@ -105,9 +105,9 @@ module _ {S : Type 0} (step : S → Head → Answer (Step S)) (s : Bytes) (at n 
             b ∙ ap (λ (o : Answer (List Bytes)). (o >>= λ a. rowWalk step vs σ >>= λ b. given (a ++ b)) >>= λ b. given (g .lines ++ b)) (f (x .0) (x .1) (vs ++ es) (first-at x vs h))
 
     -- all are written
-    pub going-all : n ≤ k → k ≤ n → WroteAs s at (16 * n) es (rowWalk step us σ) out₀ out (given (here, sum))
-    going-all l m = go (g .vs) (g .left) (g .becomes)
+    pub going-all : n ≤ k → WroteAs s at es (rowWalk step us σ) out₀ out (given (here, sum))
+    going-all l = go (g .vs) (g .left) (g .becomes)
       where
-        go : (vs : List Entry) → RowAt s here (n - k) levels inside vs es → rowWalk step us σ ≡ (rowWalk step vs σ >>= λ ls. given (g .lines ++ ls)) → WroteAs s at (16 * n) es (rowWalk step us σ) out₀ out (given (here, sum))
+        go : (vs : List Entry) → RowAt s here (n - k) levels inside vs es → rowWalk step us σ ≡ (rowWalk step vs σ >>= λ ls. given (g .lines ++ ls)) → WroteAs s at es (rowWalk step us σ) out₀ out (given (here, sum))
         go [] h b = (g .lines, b ∙ ap given (append-nil (g .lines)), g .sumIs, g .laid, h .stands, omega (arith, g .long), h .within)
         go (x ∷ vs) h b = absurd (omega (arith, h .counted))

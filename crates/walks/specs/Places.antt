@@ -4,7 +4,7 @@
 use mathlib.Core.Path.{_≡_}
 use mathlib.Core.Bool.{Bool}
 use mathlib.Core.List.{List, _∷_, _++_}
-use mathlib.Core.Option.{Option}
+use mathlib.Core.Option.{Option, none, some}
 use Prim.Native.Nat.{ℕ, _+_, _*_, _≤_, _<_}
 use lib.ListN.{length, drop}
 use Rattle.sheets.specs.Bytes.{Bytes}
@@ -43,28 +43,36 @@ HasRow s at count levels inside = (us : List Entry) × (es : List Entry) × RowA
 
 -- ── what is told
 
--- The lines o were to be written, for what stands from `from` on with es after it: 32 bytes at most for each byte that was read, of which `kept` are not
--- used. 16 bytes for each type are kept for the id that a union's line may list for it.
-abbrev pub WroteAs : Bytes → ℕ → ℕ → List Entry → Answer (List Bytes) → Bytes → Bytes → Answer (ℕ × ℕ) → Type 0
-WroteAs s from kept es o out out' (refused q) = o ≡ refused q
-WroteAs s from kept es o out out' (given (next, len)) =
+-- More bytes than a line's own ever has, and few enough that the sum over the lines of a sheet does not wrap.
+abbrev pub ownLimit : ℕ
+ownLimit = 16777216
+
+-- The lines o were to be written, for what stands from `from` on with es after it: at most `ownLimit` bytes for each byte that was read.
+abbrev pub WroteAs : Bytes → ℕ → List Entry → Answer (List Bytes) → Bytes → Bytes → Answer (ℕ × ℕ) → Type 0
+WroteAs s from es o out out' (refused q) = o ≡ refused q
+WroteAs s from es o out out' (given (next, len)) =
     (ls : List Bytes)
     × (o ≡ given ls)
     × (len ≡ length (ended ls))
     × (out' ≡ over (ended ls) out)
     × Standing fields (drop next s) es
-    × (len + kept + 32 * from ≤ 32 * next)
+    × (len + ownLimit * from ≤ ownLimit * next)
     × (next ≤ length s)
 
 -- of a type that is visited in the state σ
 abbrev pub TypeWrote : {S : Type 0} → (S → Head → Answer (Step S)) → Bytes → ℕ → ℕ → Bool → S → Bytes → Bytes → Answer (ℕ × ℕ) → Type 0
 TypeWrote step s at levels inside σ out out' a =
-    (i : Option Info) (t : ArrowDataType) (es : List Entry) → TypeAt s at levels inside i t es → WroteAs s at 16 es (typeWalk step t i σ) out out' a
+    (i : Option Info) (t : ArrowDataType) (es : List Entry) → TypeAt s at levels inside i t es → WroteAs s at es (typeWalk step t i σ) out out' a
 
 -- of a row of so many types
 abbrev pub RowWrote : {S : Type 0} → (S → Head → Answer (Step S)) → Bytes → ℕ → ℕ → ℕ → Bool → S → Bytes → Bytes → Answer (ℕ × ℕ) → Type 0
 RowWrote step s at count levels inside σ out out' a =
-    (us es : List Entry) → RowAt s at count levels inside us es → WroteAs s at (16 * count) es (rowWalk step us σ) out out' a
+    (us es : List Entry) → RowAt s at count levels inside us es → WroteAs s at es (rowWalk step us σ) out out' a
+
+-- of a type whose one line is written at once, or not
+abbrev pub LeafWrote : {S : Type 0} → (S → Head → Answer (Step S)) → Bytes → ℕ → ℕ → Bool → S → Bytes → Bytes → Option (ℕ × ℕ) → Type 0
+LeafWrote step s at levels inside σ out out' (some p) = TypeWrote step s at levels inside σ out out' (given p)
+LeafWrote step s at levels inside σ out out' none = out' ≡ out
 
 -- ── what is left after a line
 
@@ -95,7 +103,7 @@ pub record Begins {S : Type 0} (step : S → Head → Answer (Step S)) (s : Byte
   pub falls : rowMeasure (b .levels) (b .inside) < lineMeasure levels inside
   pub becomes : o ≡ (rowWalk step us (b .state) >>= λ ls. own >>= λ a. given (a ++ ls))
   pub owns : Owns own (b .pending) (b .len) out out'
-  pub long : b .len + 16 + 32 * at ≤ 32 * b .from + 16 * b .count
+  pub long : b .len + ownLimit * at ≤ ownLimit * b .from
 
 abbrev pub BeginsAs : {S : Type 0} → (S → Head → Answer (Step S)) → Bytes → ℕ → ℕ → Bool → Answer (List Bytes) → List Entry → Bytes → Bytes → Answer (Begun S) → Type 0
 BeginsAs step s at levels inside o es out out' (given b) = Begins step s at levels inside o es out out' b
@@ -106,6 +114,6 @@ TypeBegins step s at levels inside σ out out' a =
     (i : Option Info) (t : ArrowDataType) (es : List Entry) → TypeAt s at levels inside i t es → BeginsAs step s at levels inside (typeWalk step t i σ) es out out' a
 
 -- what was pending is refused now
-abbrev pub endedType : Answer (Unit {0}) → ℕ → ℕ → Answer (ℕ × ℕ)
-endedType (given u) next len = given (next, len)
-endedType (refused q) next len = refused q
+abbrev pub endedStep : Answer (Unit {0}) → ℕ → ℕ → Answer (ℕ × ℕ)
+endedStep (given u) next len = given (next, len)
+endedStep (refused q) next len = refused q

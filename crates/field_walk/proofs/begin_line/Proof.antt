@@ -1,0 +1,49 @@
+-- `begin_line` meets its contract: each case of the call is that call's own. Assumes nothing.
+use mathlib.Core.Path.{sym, subst}
+use denote.Ref.{now}
+use Rattle.field_walk.specs.declared.Call.{Call}
+use Rattle.field_walk.specs.Calls.{CallBegins}
+use borrow.Author.Needs.{needs}
+use Rattle.field_walk.proofs.begin_line.Statement.{statement}
+use Rattle.field_walk.proofs.begin_line.Tie as tie
+use Rattle.field_walk.proofs.begin_line.Reads as reads
+use Rattle.field_walk.proofs.begin_line.Lts as lts
+use Rattle.field_walk.proofs.begin_export.Reads as begin-export-reads
+use Rattle.field_walk.proofs.begin_plain.Reads as begin-plain-reads
+
+enum-told : tie.Need-enum-told
+enum-told c = search needs
+
+begin-export-requires : tie.Need-begin-export-requires
+begin-export-requires c κs = search needs
+
+enum-told-2 : tie.Need-enum-told-2
+enum-told-2 c = search needs
+
+begin-plain-requires : tie.Need-begin-plain-requires
+begin-plain-requires c κs = search needs
+
+same-length : tie.Need-same-length
+same-length c = search needs
+
+returns : tie.Need-returns
+returns c = let a = c .before .before .before .before .before .before .before .before .args in let r = c .before .before .begin-export in subst (λ (x : Call). CallBegins x (now (a .s)) (a .tree) (now (a .out)) (r .last .1 .1 .0) (r .result)) (sym (c .before .before .before .before .enum-told .given .1)) (r .ensures)
+
+same-length-2 : tie.Need-same-length-2
+same-length-2 c = search needs
+
+returns-2 : tie.Need-returns-2
+returns-2 c = let a = c .before .before .before .before .before .before .before .before .args in let r = c .before .before .begin-plain in subst (λ (x : Call). CallBegins x (now (a .s)) (a .tree) (now (a .out)) (r .last .1 .1 .0) (r .result)) (sym (c .before .before .before .before .enum-told2 .given .1)) (r .ensures)
+
+pub begin-line-spec : {M : Type 1} → statement M
+begin-line-spec =
+    tie.close
+    (tie.spec
+    enum-told
+    begin-export-requires
+    enum-told-2
+    begin-plain-requires
+    same-length
+    returns
+    same-length-2
+    returns-2)

@@ -1,0 +1,57 @@
+-- The calls that answer a sheet for a field sheet: each has a step (sheets/specs/Walk) for a line, and what it tells is told of its step. Assumes nothing.
+use mathlib.Core.Bool.{Bool, false}
+use mathlib.Core.Option.{Option, none}
+use Rattle.sheets.specs.Bytes.{Bytes}
+use Rattle.sheets.specs.Answer.{Answer}
+use Rattle.sheets.specs.Schema.{schemaHeading}
+use Rattle.sheets.specs.FieldSheet.{fieldHeading}
+use Rattle.sheets.specs.FieldTrees.{Head}
+use Rattle.sheets.specs.Outcome.{Outcome, exportOutcome, plainOutcome}
+use Rattle.sheets.specs.Walk.{Step}
+use Rattle.sheets.specs.ExportSteps.{Bearer, schemaStep}
+use Rattle.sheets.specs.PlainSteps.{plainStep}
+use Rattle.walks.specs.Places.{TypeBegins, LeafWrote, TypeWrote, RowWrote}
+use Rattle.walks.specs.Answers.{begunAnswer, leafOption, stepAnswer}
+use Rattle.walks.specs.declared.LeafPut.{LeafPut}
+use Rattle.walks.specs.declared.LineBegun.{LineBegun}
+use Rattle.walks.specs.declared.Step.{Step as Stepped}
+use Rattle.walks.specs.declared.Subtree.{Subtree}
+use Rattle.walks.specs.declared.Subtrees.{Subtrees}
+use Rattle.field_walk.specs.declared.Call.{Call}
+use Rattle.field_walk.specs.declared.Call.the-variants.{Export, Plain}
+
+-- what a call carries from a line to those below it
+abbrev pub StateOf : Call → Type 0
+StateOf Export = Option Bearer
+StateOf Plain = Bool
+
+-- what it does with a line
+abbrev pub stepOf : (c : Call) → StateOf c → Head → Answer (Step (StateOf c))
+stepOf Export = schemaStep
+stepOf Plain = plainStep
+
+-- the state at a line that stands directly in an extension, or not. Export passes all extensions around a type at their first line, so it visits none
+-- in a state.
+abbrev pub stateOf : (c : Call) → Bool → StateOf c
+stateOf Export inside = none
+stateOf Plain inside = inside
+
+-- ── what the functions of the walk tell
+
+abbrev pub CallBegins : Call → Bytes → Subtree → Bytes → Bytes → LineBegun → Type 0
+CallBegins c s t out out' r = TypeBegins (stepOf c) s (t .at) (t .levels) (t .inside) (stateOf c (t .inside)) out out' (begunAnswer (stateOf c) r)
+
+abbrev pub CallLeafWrote : Call → Bytes → Subtree → Bytes → Bytes → LeafPut → Type 0
+CallLeafWrote c s t out out' r = LeafWrote (stepOf c) s (t .at) (t .levels) (t .inside) (stateOf c (t .inside)) out out' (leafOption r)
+
+abbrev pub CallWrote : Call → Bytes → Subtree → Bytes → Bytes → Stepped → Type 0
+CallWrote c s t out out' r = TypeWrote (stepOf c) s (t .at) (t .levels) (t .inside) (stateOf c (t .inside)) out out' (stepAnswer r)
+
+abbrev pub CallRowWrote : Call → Bytes → Subtrees → Bytes → Bytes → Stepped → Type 0
+CallRowWrote c s w out out' r = RowWrote (stepOf c) s (w .at) (w .count) (w .levels) (w .inside) (stateOf c (w .inside)) out out' (stepAnswer r)
+
+abbrev pub ExportBegins : Bytes → Subtree → Bytes → Bytes → LineBegun → Type 0
+ExportBegins s t out out' r = TypeBegins schemaStep s (t .at) (t .levels) (t .inside) none out out' (begunAnswer (λ (inside : Bool). none) r)
+
+abbrev pub PlainBegins : Bytes → Subtree → Bytes → Bytes → LineBegun → Type 0
+PlainBegins s t out out' r = TypeBegins plainStep s (t .at) (t .levels) (t .inside) (t .inside) out out' (begunAnswer (λ (inside : Bool). inside) r)

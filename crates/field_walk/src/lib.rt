@@ -1,0 +1,110 @@
+// The walk over the lines of a field sheet, once for every call that answers a sheet for it: the lines that a call makes of a type are written line by line
+// into a lent buffer, by a recursion on the levels left.
+ghost use Rattle.walks.specs.Places.{HasType, HasRow};
+ghost use Rattle.field_walk.specs.Calls.{ExportBegins, PlainBegins, CallBegins, CallLeafWrote, CallWrote, CallRowWrote};
+use walks::LeafPut;
+use walks::LineBegun;
+use walks::Step;
+use walks::Subtree;
+use walks::Subtrees;
+
+// Which lines are written.
+pub enum Call {
+    Export,
+    Plain,
+}
+
+fn begin_export(s: &[u8], tree: Subtree, out: &mut [u8]) -> LineBegun
+    requires { ⌜ HasType (now s) (tree .at) (tree .levels) (tree .inside) ⌝ }
+    ensures { λ r. ⌜ ExportBegins (now (s .entry)) tree (now (out .entry)) (now (out .exit)) r ⌝ }
+{
+    LineBegun::Refused(refusal::Refusal::NoFormat)
+}
+
+fn begin_plain(s: &[u8], tree: Subtree, out: &mut [u8]) -> LineBegun
+    requires { ⌜ HasType (now s) (tree .at) (tree .levels) (tree .inside) ⌝ }
+    ensures { λ r. ⌜ PlainBegins (now (s .entry)) tree (now (out .entry)) (now (out .exit)) r ⌝ }
+{
+    LineBegun::Refused(refusal::Refusal::NoFormat)
+}
+
+// A call is one case here: what it writes for the line at `at`, and what is left to be visited below.
+fn begin_line(call: Call, s: &[u8], tree: Subtree, out: &mut [u8]) -> LineBegun
+    requires { ⌜ HasType (now s) (tree .at) (tree .levels) (tree .inside) ⌝ }
+    ensures { λ r. ⌜ CallBegins call (now (s .entry)) tree (now (out .entry)) (now (out .exit)) r ⌝ }
+{
+    match call {
+        Call::Export => begin_export(s, tree, out),
+        Call::Plain => begin_plain(s, tree, out),
+    }
+}
+
+// The line of a leaf at once, where it is of the short kind and fits; else nothing is written.
+fn put_leaf(call: Call, s: &[u8], tree: Subtree, out: &mut [u8]) -> LeafPut
+    ensures { λ r. ⌜ CallLeafWrote call (now (s .entry)) tree (now (out .entry)) (now (out .exit)) r ⌝ }
+{
+    match call {
+        Call::Export => LeafPut::Other,
+        Call::Plain => LeafPut::Other,
+    }
+}
+
+// The same as `walk_type`; the line of a leaf is written at once, where it can be.
+fn next_type(call: Call, s: &[u8], tree: Subtree, out: &mut [u8]) -> Step
+    requires { ⌜ HasType (now s) (tree .at) (tree .levels) (tree .inside) ⌝ }
+    ensures { λ r. ⌜ CallWrote call (now (s .entry)) tree (now (out .entry)) (now (out .exit)) r ⌝ }
+{
+    match put_leaf(call, s, tree, out) {
+        LeafPut::Put(next, len) => Step::Done { next, len },
+        LeafPut::Other => walk_type(call, s, tree, out),
+    }
+}
+
+// Writes the lines for the type that stands at `at`, as far as they fit.
+pub fn walk_type(call: Call, s: &[u8], tree: Subtree, out: &mut [u8]) -> Step
+    requires { ⌜ HasType (now s) (tree .at) (tree .levels) (tree .inside) ⌝ }
+    ensures { λ r. ⌜ CallWrote call (now (s .entry)) tree (now (out .entry)) (now (out .exit)) r ⌝ }
+{
+    match begin_line(call, s, tree, out) {
+        LineBegun::Refused(r) => Step::Refused(r),
+        LineBegun::Below(row, len, pending) => {
+            let w = buffer::within(len, out.len());
+            match walk_row(call, s, row, &mut out[w..]) {
+                Step::Refused(r) => Step::Refused(r),
+                Step::Done { next, len: below } => walks::end_line(pending, next, len + below),
+            }
+        }
+    }
+}
+
+// Writes the lines for types that stand one after the other, as far as they fit.
+fn walk_row(call: Call, s: &[u8], row: Subtrees, out: &mut [u8]) -> Step
+    requires { ⌜ HasRow (now s) (row .at) (row .count) (row .levels) (row .inside) ⌝ }
+    ensures { λ r. ⌜ CallRowWrote call (now (s .entry)) row (now (out .entry)) (now (out .exit)) r ⌝ }
+{
+    let mut here = row.at;
+    let mut sum = 0;
+    let mut i = 0;
+    while i < row.count {
+        let w = buffer::within(sum, out.len());
+        let tree = Subtree {
+            at: here,
+            levels: row.levels,
+            inside: row.inside,
+        };
+        match next_type(call, s, tree, &mut out[w..]) {
+            Step::Refused(r) => {
+                return Step::Refused(r);
+            }
+            Step::Done { next, len } => {
+                here = next;
+                sum = sum + len;
+            }
+        }
+        i += 1;
+    }
+    Step::Done {
+        next: here,
+        len: sum,
+    }
+}

@@ -1,0 +1,36 @@
+-- What the cases of the enumerations of a walk say: values, or a reason of document 01. Assumes nothing.
+use mathlib.Core.Bool.{Bool}
+use Prim.Native.Nat.{ℕ}
+use Rattle.sheets.specs.Answer.{Answer, refused, given}
+use Rattle.refusal.specs.Refusals.{refusalOf}
+use Rattle.walks.specs.Places.{Begun}
+use Rattle.walks.specs.declared.Pending.{Pending}
+use Rattle.walks.specs.declared.Pending.the-variants as P
+use Rattle.walks.specs.declared.Step.{Step}
+use Rattle.walks.specs.declared.Step.the-variants as S
+use mathlib.Core.Option.{Option, none, some}
+use Rattle.walks.specs.declared.LeafPut.{LeafPut}
+use Rattle.walks.specs.declared.LeafPut.the-variants as L
+use Rattle.walks.specs.declared.LineBegun.{LineBegun}
+use Rattle.walks.specs.declared.LineBegun.the-variants as B
+
+-- the refusal that is pending, if there is one
+abbrev pub pendingAnswer : Pending → Answer (Unit {0})
+pendingAnswer P.Nothing = given tt
+pendingAnswer (P.Refused r) = refused (refusalOf r)
+
+-- where the reading goes on and how many bytes were written, or the refusal
+abbrev pub stepAnswer : Step → Answer (ℕ × ℕ)
+stepAnswer (S.Done next len) = given (next, len)
+stepAnswer (S.Refused r) = refused (refusalOf r)
+
+-- what is left after a line, or the refusal; the state of the types below is told by whether they stand directly in an extension
+abbrev pub begunAnswer : {S : Type 0} → (Bool → S) → LineBegun → Answer (Begun S)
+begunAnswer state (B.Below w len p) =
+    given (record { from = w .at; count = w .count; levels = w .levels; inside = w .inside; state = state (w .inside); len = len; pending = pendingAnswer p })
+begunAnswer state (B.Refused r) = refused (refusalOf r)
+
+-- where the reading goes on and how many bytes were written, if the line was written at once
+abbrev pub leafOption : LeafPut → Option (ℕ × ℕ)
+leafOption (L.Put next len) = some (next, len)
+leafOption L.Other = none
