@@ -68,13 +68,13 @@ import-schema f s h l k g short =
     let fit : leb (length (writeSchemaSheet s)) 65535 ≡ true = le-leb (length (writeSchemaSheet s)) 65535 short in
     rw (read-schema-sheet s (a .1) (a .0) (le-leb (schemaLevels s) 32 (omega (arith, a .2))) fit, import-export f s h k g (sheet-short s fit))
 
-comes-back : (e : Exportable) → imported (exportOf e) ≡ given (plainFormOf e)
+pub comes-back : (e : Exportable) → imported (exportOf e) ≡ given (plainFormOf e)
 comes-back e =
     let x = export-of e in
     subst (λ y. IsShort y → imported y ≡ given (plainFormOf e)) (x .isWritten)
     (import-schema (e .field) (x .schema) (rule-of e) (levels-of e) (free (e .field) (e .noReservedKey) (e .noWideIndex)) (x .isExported)) (e .shortExport)
 
-goes-again : (e : Exportable) → IsShort (plainFormOf e) → exported (plainFormOf e) ≡ given (exportOf e)
+pub goes-again : (e : Exportable) → IsShort (plainFormOf e) → exported (plainFormOf e) ≡ given (exportOf e)
 unfolding exported
 goes-again e short =
     let f = e .field in
@@ -82,12 +82,12 @@ goes-again e short =
     let levels : leb (fieldLevels (plain f)) 32 ≡ true = le-leb (fieldLevels (plain f)) 32 (omega (arith, plain-levels f, levels-of e)) in
     rw (read-field-sheet (plain f) (plain-of e) levels (le-leb (length (plainFormOf e)) 65535 short), export-plain f, x .isExported) (ap given (x .isWritten))
 
-same-plain : (d e : Exportable) → exportOf d ≡ exportOf e → plainFormOf d ≡ plainFormOf e
+pub same-plain : (d e : Exportable) → exportOf d ≡ exportOf e → plainFormOf d ≡ plainFormOf e
 same-plain d e p =
     let both : _≡_ {A = Answer Bytes} (given (plainFormOf d)) (given (plainFormOf e)) = sym (comes-back d) ∙ ap imported p ∙ comes-back e in
     cc
 
-same-export : (d e : Exportable) → plainFormOf d ≡ plainFormOf e → exportOf d ≡ exportOf e
+pub same-export : (d e : Exportable) → plainFormOf d ≡ plainFormOf e → exportOf d ≡ exportOf e
 same-export d e p =
     let x = export-of d in
     let y = export-of e in

@@ -34,6 +34,7 @@ pub mod PlainSteps
 pub mod MappingSteps
 pub mod Outcome
 pub mod Demand3
+pub mod RoundTrip
 pub mod Bench
 pub mod Impostors
 pub mod Standard
