@@ -1,7 +1,7 @@
 -- The list in a column: none, the empty list, or the elements between the commas. Once for every element. Assumes nothing.
 use mathlib.Core.Path.{_≡_, refl, sym, _∙_, ap₂}
 use mathlib.Core.Logic.{_≢_}
-use mathlib.Core.Bool.{Bool, true, false, _||_, _&&_, cond, true≢false, and-false, and-true}
+use mathlib.Core.Bool.{Bool, true, false, _||_, cond, true≢false, and-false, and-true}
 use mathlib.Core.List.{List, [], _∷_}
 use mathlib.Core.Option.{Option, none, some}
 use Prim.Native.Nat.{ℕ}

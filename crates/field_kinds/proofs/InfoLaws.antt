@@ -1,29 +1,26 @@
 -- The columns name nullable pairs of a line: they are a field's that keeps the rules, or a bare line's, exactly if they fit, column by column.
 -- Assumes nothing.
 use mathlib.Core.Path.{_≡_, refl, sym, _∙_, ap, ap₂, subst}
-use mathlib.Core.Bool.{Bool, true, false, _&&_, not}
+use mathlib.Core.Bool.{Bool, true, false}
 use mathlib.Core.List.{List, [], _∷_, _++_}
 use mathlib.Core.Option.{Option, none, some}
 use Prim.Native.Nat.{ℕ}
 use native.Mathlib.Omega.{arith}
-use lib.Dec.{eqb}
-use Rattle.sheets.specs.Refusal.{badLines}
-use Rattle.sheets.specs.Rule.{is, each, Meets}
-use Rattle.sheets.specs.Bytes.{Bytes, all, same, lacks, split, join}
-use Rattle.sheets.specs.Answer.{Answer, given, _>>=_, when}
+use Rattle.sheets.specs.Rule.{is, Meets}
+use Rattle.sheets.specs.Bytes.{Bytes, same, split, join}
+use Rattle.sheets.specs.Answer.{Answer, given, _>>=_}
 use Rattle.sheets.specs.Number.{decimal}
-use Rattle.sheets.specs.Text.{hex, unhex, writeText, readText}
+use Rattle.sheets.specs.Text.{unhex, writeText, readText}
 use Rattle.sheets.specs.Utf8.{isUtf8}
-use Rattle.sheets.specs.Field.{Pair, Info, pairsRule, metadataRule}
-use Rattle.sheets.specs.FieldSheet.{Own, noText, toNat, boolAt, pairText, pairOf, readPair, readList, writeList, infoColumns, infoNamed, sameOwn, readInfo}
+use Rattle.sheets.specs.Field.{Pair, Info, metadataRule}
+use Rattle.sheets.specs.FieldSheet.{Own, noText, toNat, pairText, pairOf, readPair, readList, writeList, infoColumns, readInfo}
 use Rattle.sheets.specs.FieldTrees.{ownRule, isBare}
-use Rattle.sheets.proofs.Tests.{first-gave, met-when, and-left, and-right, same-given, not-given, passing}
-use Rattle.sheets.proofs.BytesLaws.{same-refl, same-eq, split-next, split-last, all-append}
+use Rattle.sheets.proofs.Tests.{first-gave, same-given, not-given, passing}
+use Rattle.sheets.proofs.BytesLaws.{same-eq}
 use Rattle.sheets.proofs.NumberLaws.{read-decimal}
-use Rattle.sheets.proofs.TextLaws.{isByte, read-text, unhex-hex, hex-lacks}
+use Rattle.sheets.proofs.TextLaws.{read-text}
 use Rattle.sheets.proofs.InverseLaws.{number-read, unhex-read, join-split}
 use Rattle.sheets.proofs.Utf8Laws.{utf8-bytes}
-use Rattle.sheets.proofs.ListLaws.{read-list, listRule}
 use Rattle.sheets.proofs.FieldSheetLaws.{bool-at, pairs-listed, read-pairs, read-info, info-read}
 use Rattle.field_columns.specs.Lists.{keeps, isPairs}
 use Rattle.field_columns.specs.FieldColumns.{isNothing, isSomeText, isOptionalText, isFlag, isContent}

@@ -1,7 +1,7 @@
 -- The columns kind p q text more of a line: they are a type's that keeps the rules exactly if they fit the kind, column by column. One way goes
 -- by the shape, the other by the kind. Assumes nothing.
 use mathlib.Core.Path.{_≡_, refl, sym, _∙_, ap, subst}
-use mathlib.Core.Bool.{Bool, true, false, _&&_, _||_, cond, true≢false}
+use mathlib.Core.Bool.{Bool, true, false, _||_, cond, true≢false}
 use mathlib.Core.List.{List, [], _∷_}
 use mathlib.Core.Option.{Option, none, some}
 use Prim.Native.Nat.{ℕ, zero, suc, _^_, _<_}
@@ -9,24 +9,22 @@ use native.Mathlib.Omega.{arith}
 use lib.Dec.{eqb, leb, ltb}
 use lib.IntN.{ℤ}
 use borrow.Author.Tests.{eqb-true, ltb-true, leb-true, leb-false, ne-eqb, le-leb, lt-leb}
-use Rattle.sheets.specs.Refusal.{badLines}
-use Rattle.sheets.specs.Rule.{is, Meets}
-use Rattle.sheets.specs.Bytes.{Bytes, same}
-use Rattle.sheets.specs.Answer.{Answer, given, _>>=_, when}
+use Rattle.sheets.specs.Rule.{is, passes, Meets}
+use Rattle.sheets.specs.Bytes.{Bytes}
+use Rattle.sheets.specs.Answer.{Answer, given, _>>=_}
 use Rattle.sheets.specs.Number.{writeSigned, readSigned}
 use Rattle.sheets.specs.Text.{writeText, readText}
 use Rattle.sheets.specs.Utf8.{isUtf8}
 use Rattle.sheets.specs.Kind
 use Rattle.sheets.specs.Field.{TimeUnit, unitPlace, second, millisecond, microsecond, nanosecond, bits128, bits32, bits64, bits256, leaf, timestamp, fixedSizeBinary, decimalType, list, largeList, fixedSizeList, map, struct, union, isLeaf, hasUnit, textRule, idRule, groupingRule}
-use Rattle.sheets.specs.FieldSheet.{Columns, Shape, ofScalar, ofNesting, ofGrouping, ofDictionary, ofExtension, noText, toNat, boolAt, unitAt, readSome, columns, readList, writeList, shapeAt, sameColumns, readShape}
+use Rattle.sheets.specs.FieldSheet.{Columns, Shape, ofScalar, ofNesting, ofGrouping, ofDictionary, ofExtension, noText, toNat, readSome, columns, readList, writeList, readShape}
 use Rattle.sheets.specs.FieldTrees.{shapeRule, childrenRule}
-use Rattle.sheets.proofs.Tests.{first-gave, met-when, same-number, and-left, and-right, same-given, every, at-each, meets, passing}
-use Rattle.sheets.proofs.BytesLaws.{same-refl, same-eq}
-use Rattle.sheets.proofs.NumberLaws.{read-signed, signed-lacks}
+use Rattle.sheets.proofs.Tests.{first-gave, same-given, every, at-each, meets, passing}
+use Rattle.sheets.proofs.BytesLaws.{same-eq}
 use Rattle.sheets.proofs.TextLaws.{read-text}
 use Rattle.sheets.proofs.InverseLaws.{text-read, signed-read}
 use Rattle.sheets.proofs.Utf8Laws.{utf8-bytes, text-bytes}
-use Rattle.sheets.proofs.ListLaws.{read-list, listRule}
+use Rattle.sheets.proofs.ListLaws.{listRule}
 use Rattle.sheets.proofs.FieldSheetLaws.{ids-listed, read-ids, read-shape, shape-read}
 use Rattle.sheets.proofs.FieldTrees.{leaf-other}
 use Rattle.field_columns.specs.Lists.{keeps, idsRule, isIds}

@@ -3,8 +3,8 @@ ghost use mathlib.Core.Path.{_≡_};
 ghost use Rattle.sheets.specs.Field.{isLeaf};
 ghost use Rattle.sheets.specs.FieldTrees.{kindBare};
 ghost use Rattle.field_kinds.specs.FieldKinds.{unitFits, isDecimal, isSized, pFits, qFits, textContent, moreContent, hasOne, childrenFit};
-use field_columns::Content;
 use datatypes::kind;
+use field_columns::Content;
 
 // Whether a type is told by its place and a unit. Most lines' types are.
 fn is_leaf(kind: u64) -> bool
