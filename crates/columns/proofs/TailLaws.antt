@@ -73,6 +73,10 @@ module _ {A B C : Type 0} (k : Codec A) (j : Codec B) (row : Columns C) {s : Byt
           let free : Meets (lacks 10 (w .front ++ (32 ∷ w .back))) = subst (λ (b : Bytes). Meets (lacks 10 b)) (w .is) (t .free) in
           (p + length (w .front), column-of s p (w .front) (w .back ++ (10 ∷ rest)) 32 is (w .free) (lacks-front 10 (w .front) (32 ∷ w .back) free))
 
+  -- so a column that is missing or does not read contradicts the line
+  pub tail-bad : ((e : ℕ) → ColumnAt s p e 32 → k .read (part s p e) ≡ given (x .0) → ⊥) → ⊥
+  tail-bad miss = let c = tail-column in miss (c .0) (c .1) (tail-next k (j ▸ row) t (c .1) .0)
+
 -- ── the last column
 
 module _ {A : Type 0} (k : Codec A) {s : Bytes} {p : ℕ} where
@@ -104,6 +108,9 @@ module _ {A : Type 0} (k : Codec A) {s : Bytes} {p : ℕ} where
             ap (split 32) (w .is) ∙ split-next 32 (w .front) (w .back) (w .free) ∙ ap (λ (l : List Bytes). w .front ∷ l) (more .2) in
             let two : readColumn (k .read) noColumns (w .front ∷ more .0 ∷ more .1) ≡ given x = sym (ap (readColumn (k .read) noColumns) parts) ∙ t .reads in
             absurd (never (first-read k done (w .front) (more .0 ∷ more .1) x two .1))
+
+    pub last-bad : ((e : ℕ) → ColumnAt s p e 10 → k .read (part s p e) ≡ given (x .0) → ⊥) → ⊥
+    last-bad miss = let c = last-column in miss (c .0) (c .1) (tail-last t (c .1) .0)
 
 -- ── a column whose end was found by looking at one byte after the other
 
