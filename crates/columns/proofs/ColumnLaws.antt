@@ -17,7 +17,7 @@ use Rattle.sheets.proofs.Tests.{not-some, and-left, and-right}
 use Rattle.hex.specs.Hex.{isDigit, isHex}
 use Rattle.hex.proofs.DigitLaws.{low}
 use Rattle.hex.proofs.HexLaws.{allDigits, even-digits}
-use Rattle.columns.specs.Columns.{part, isStop, columnLength, stopFrom, columnEnd}
+use Rattle.columns.specs.Columns.{part, isStop, columnLength, stopFrom, columnEnd, ColumnAt}
 
 -- ── one byte
 
@@ -125,14 +125,6 @@ module _ (s : Bytes) (a e : ℕ) (below : a ≤ e) (high : e ≤ length s) where
       near-passed (omega (arith, digits-pass (part s a e) (and-right (eqb (length (part s a e) % 2) 0) (allDigits (part s a e)) (sym (even-digits (part s a e)) ∙ h)), near-size))
 
 -- ── columns
-
--- a column stands from a to e, and the byte stop ends it
-pub record ColumnAt (s : Bytes) (a e stop : ℕ) : Type 0 where
-  pub low : a ≤ e
-  pub high : e < length s
-  pub is : drop a s ≡ part s a e ++ (stop ∷ drop (e + 1) s)
-  pub spaces : Meets (lacks 32 (part s a e))
-  pub ends : Meets (lacks 10 (part s a e))
 
 -- bytes in front of the byte that ends them are a column
 module _ (s : Bytes) (a : ℕ) (c r : Bytes) (stop : ℕ) (is : drop a s ≡ c ++ (stop ∷ r)) where

@@ -6,8 +6,8 @@ use mathlib.Core.Option.{Option, none, some}
 use Prim.Native.Nat.{ℕ}
 use Rattle.sheets.specs.Bytes.{Bytes}
 use Rattle.sheets.proofs.Tests.{not-some}
-use Rattle.columns.specs.Columns.{part, isStop, columnEnd, keep, columnOf}
-use Rattle.columns.proofs.ColumnLaws.{ColumnAt, column-there, column-same}
+use Rattle.columns.specs.Columns.{part, isStop, columnEnd, keep, columnOf, ColumnAt}
+use Rattle.columns.proofs.ColumnLaws.{column-there, column-same}
 
 module _ (f : Bytes → Bool) (stop : ℕ) (s : Bytes) (a : ℕ) where
   pub of-none : columnEnd stop s a ≡ none → columnOf f stop s a ≡ none

@@ -6,3 +6,5 @@ pub mod NumberAtLaws
 pub mod NumberFindLaws
 pub mod OneDigitLaws
 pub mod PairsLaws
+pub mod SplitLaws
+pub mod TailLaws

@@ -14,9 +14,9 @@ use Rattle.sheets.proofs.Tests.{not-given, same-given, first-gave}
 use Rattle.sheets.proofs.FormatLaws.{found-some}
 use Rattle.decimal.specs.Column.{columnBelow, signedColumn}
 use Rattle.decimal.proofs.ColumnLaws.{column-within, column-given, signed-within, signed-given}
-use Rattle.columns.specs.Columns.{part, isStop, columnEnd}
+use Rattle.columns.specs.Columns.{part, isStop, columnEnd, ColumnAt}
 use Rattle.columns.specs.NumberColumns.{numberIn, signedIn, HasSigned}
-use Rattle.columns.proofs.ColumnLaws.{ColumnAt, column-there, column-same}
+use Rattle.columns.proofs.ColumnLaws.{column-there, column-same}
 
 module _ (stop : ℕ) (s : Bytes) (a : ℕ) where
   pub number-none : columnEnd stop s a ≡ none → numberIn stop s a ≡ refused badLines

@@ -12,8 +12,8 @@ use lib.Seq.{drop-cons}
 use borrow.Author.Tests.{eq-eqb, ne-eqb, eqb-true, ltb-true, ltb-false}
 use Rattle.sheets.specs.Bytes.{Bytes}
 use Rattle.sheets.proofs.Tests.{never, and-left, and-right}
-use Rattle.columns.specs.Columns.{part, oneOf, pastSpace}
-use Rattle.columns.proofs.ColumnLaws.{ColumnAt, column-of, column-part}
+use Rattle.columns.specs.Columns.{part, oneOf, pastSpace, ColumnAt}
+use Rattle.columns.proofs.ColumnLaws.{column-of, column-part}
 
 one-few : (f : ℕ → Bool) (stop : ℕ) (b : Bytes) → length b ≤ 1 → oneOf f stop b ≡ false
 unfolding oneOf

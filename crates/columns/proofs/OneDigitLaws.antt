@@ -14,9 +14,8 @@ use Rattle.sheets.specs.Bytes.{Bytes, all}
 use Rattle.sheets.specs.Answer.{Answer, given, _>>=_}
 use Rattle.sheets.specs.Number.{isDigit, valueFrom, lean, readNumber, readSigned}
 use Rattle.sheets.proofs.Tests.{and-left, and-right, when-met}
-use Rattle.columns.specs.Columns.{part, isStop, pastSpace}
+use Rattle.columns.specs.Columns.{part, isStop, pastSpace, ColumnAt}
 use Rattle.columns.specs.NumberColumns.{numberIn, signedIn}
-use Rattle.columns.proofs.ColumnLaws.{ColumnAt}
 use Rattle.columns.proofs.OneByteLaws.{One, one-past, one-part, one-column}
 use Rattle.columns.proofs.NumberFindLaws.{column-number, column-signed}
 

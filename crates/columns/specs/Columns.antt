@@ -2,19 +2,24 @@
 -- line. Assumes nothing.
 use mathlib.Core.Path.{_≡_}
 use mathlib.Core.Bool.{Bool, false, _&&_, _||_, cond}
-use mathlib.Core.List.{[], _∷_}
+use mathlib.Core.List.{[], _∷_, _++_}
 use mathlib.Core.Option.{Option, none, some}
-use Prim.Native.Nat.{ℕ, suc, _+_, _-_, _≤_}
+use Prim.Native.Nat.{ℕ, suc, _+_, _-_, _≤_, _<_}
 use lib.Dec.{eqb, ltb}
 use lib.ListN.{length, getD, take, drop}
-use Rattle.sheets.specs.Bytes.{Bytes, lineEnd, space}
+use Rattle.sheets.specs.Rule.{Meets}
+use Rattle.sheets.specs.Bytes.{Bytes, lineEnd, space, lacks}
 use Rattle.hex.specs.Hex.{isHex}
+use Rattle.columns.specs.declared.Part.{Part}
 use Rattle.columns.specs.declared.Place.{Place}
 use Rattle.columns.specs.declared.Place.the-variants.{At, Nowhere}
 
 -- the bytes from a to b
 abbrev pub part : Bytes → ℕ → ℕ → Bytes
 part s a b = take (b - a) (drop a s)
+
+abbrev pub partOf : ℕ → ℕ → Part
+partOf a b = record { start = a; end = b }
 
 -- a byte that ends a column: the space between two columns, the end of a line
 abbrev pub isStop : ℕ → Bool
@@ -32,6 +37,14 @@ stopFrom s a = a + columnLength (drop a s)
 -- where the column from a on ends, if the byte stop ends it
 unfoldable pub columnEnd : ℕ → Bytes → ℕ → Option ℕ
 columnEnd stop s a = cond (ltb (stopFrom s a) (length s) && eqb (getD s (stopFrom s a) 0) stop) (some (stopFrom s a)) none
+
+-- a column stands from a to e, and the byte stop ends it
+pub record ColumnAt (s : Bytes) (a e stop : ℕ) : Type 0 where
+  pub low : a ≤ e
+  pub high : e < length s
+  pub is : drop a s ≡ part s a e ++ (stop ∷ drop (e + 1) s)
+  pub spaces : Meets (lacks space (part s a e))
+  pub ends : Meets (lacks lineEnd (part s a e))
 
 -- a place at which the test holds
 abbrev pub keep : (ℕ → Bool) → Option ℕ → Option ℕ

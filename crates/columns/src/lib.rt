@@ -1,4 +1,4 @@
-// The columns of a line: where one ends.
+// The columns of a line: where one ends, and the part of the sheet that it is.
 pub mod ascii_pairs;
 pub mod number;
 pub mod text;
@@ -6,7 +6,7 @@ pub mod text;
 ghost use mathlib.Core.Path.{_≡_};
 ghost use Prim.Native.Nat.{_≤_};
 ghost use lib.ListN.{length, drop};
-ghost use Rattle.columns.specs.Columns.{isStop, stopFrom, columnEnd, oneOf, pastSpace, placeOption, Passes};
+ghost use Rattle.columns.specs.Columns.{isStop, stopFrom, columnEnd, oneOf, pastSpace, partOf, placeOption, Passes};
 
 // How many bytes the vector instructions test at once.
 const BLOCK: usize = 32;
@@ -14,9 +14,21 @@ const BLOCK: usize = 32;
 // Most texts are shorter, and end before a block would pay.
 const NEAR: usize = 16;
 
+// The bytes of a sheet from `start` up to `end`.
+pub struct Part {
+    pub start: usize,
+    pub end: usize,
+}
+
 pub enum Place {
     At(usize),
     Nowhere,
+}
+
+pub fn between(start: usize, end: usize) -> Part
+    ensures { λ r. ⌜ r ≡ partOf start end ⌝ }
+{
+    Part { start, end }
 }
 
 // Most bytes are past the space, so that one test is enough for them.

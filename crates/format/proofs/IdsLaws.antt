@@ -16,9 +16,10 @@ use Rattle.sheets.specs.Format.{readId}
 use Rattle.buffer.specs.Over.{PutAt}
 use Rattle.buffer.proofs.OverLaws.{Written, none-yet, and-then}
 use Rattle.field_line.proofs.ColumnLaws.{put-same}
-use Rattle.format.specs.Parts.{readIds, part, partsFrom}
+use Rattle.sheets.specs.Parts.{partsFrom}
+use Rattle.format.specs.Parts.{readIds, part}
 use Rattle.format.specs.Formats.{IdsPuts}
-use Rattle.format.proofs.PartLaws.{PartEnds, parts-here, parts-past}
+use Rattle.sheets.proofs.PartLaws.{PartEnds, parts-here, parts-past}
 use Rattle.format.specs.declared.put.IdsPut.the-variants as Ids
 
 -- ── as they are written

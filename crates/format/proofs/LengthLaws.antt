@@ -33,7 +33,8 @@ use Rattle.datatypes.specs.declared.IntegerType.{IntegerType}
 use Rattle.datatypes.specs.declared.IntegerType.the-variants as IntegerTypes
 use Rattle.field_line.specs.Columns.{shapePiece, columnsPiece}
 use Rattle.field_line.proofs.LengthLaws.{shape-short}
-use Rattle.format.specs.Parts.{bytesBefore, readIds}
+use Rattle.sheets.specs.Parts.{bytesBefore}
+use Rattle.format.specs.Parts.{readIds}
 use Rattle.format.specs.Formats.{shapeOf}
 use Rattle.format.proofs.PartLaws.{cut-at, cut-none}
 

@@ -18,10 +18,12 @@ use Rattle.datatypes.specs.declared.units.TimeUnit.the-variants as TimeUnits
 use Rattle.datatypes.specs.declared.units.UnionMode.{UnionMode}
 use Rattle.datatypes.specs.declared.units.UnionMode.the-variants as UnionModes
 use Rattle.format.specs.Names.{leafOf, leafNamed, headUnit, headMode}
-use Rattle.format.specs.Parts.{part, partsFrom}
+use Rattle.sheets.specs.Parts.{partsFrom}
+use Rattle.format.specs.Parts.{part}
 use Rattle.format.specs.Formats.{timestampFormat, unionFormat, Reads, decimalOf, decimalFormat}
 use Rattle.format.specs.declared.read.FormatRead.{FormatRead}
-use Rattle.format.proofs.PartLaws.{PartEnds, parts-here, last-part, split-some}
+use Rattle.sheets.proofs.PartLaws.{PartEnds, parts-here, last-part}
+use Rattle.sheets.proofs.InverseLaws.{split-some}
 
 -- the same answer was read
 pub reads-as : (f : Bytes) (r : FormatRead) (a b : Answer Format) → a ≡ b → Reads f a r → Reads f b r

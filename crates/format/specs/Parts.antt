@@ -1,20 +1,14 @@
 -- The parts of a format after its colon, between commas, and the ids of a union. Assumes nothing.
 use mathlib.Core.Path.{_≡_}
-use mathlib.Core.Bool.{true, cond}
-use mathlib.Core.List.{List, [], _∷_}
-use Prim.Native.Nat.{ℕ, suc, _-_, _≤_}
-use lib.Dec.{eqb, leb}
+use mathlib.Core.Bool.{true}
+use mathlib.Core.List.{List}
+use Prim.Native.Nat.{ℕ, _-_, _≤_}
 use lib.IntN.{ℤ}
 use lib.ListN.{length, take, drop}
 use Rattle.sheets.specs.Bytes.{Bytes, comma, split}
 use Rattle.sheets.specs.Answer.{Answer, readEach}
 use Rattle.sheets.specs.Format.{readId}
 use Rattle.hex.specs.Hex.{isHex, bytesOf}
-
--- how many bytes stand before the first that is x
-abbrev pub bytesBefore : ℕ → Bytes → ℕ
-bytesBefore x [] = 0
-bytesBefore x (b ∷ bs) = cond (eqb b x) 0 (suc (bytesBefore x bs))
 
 -- pairs of digits that say k bytes or more
 abbrev pub HasBytes : Bytes → ℕ → Type 0
@@ -30,10 +24,6 @@ part from to b = take (to - from) (drop from b)
 -- t is the text of that part
 abbrev pub IsPart : Bytes → ℕ → ℕ → Bytes → Type 0
 IsPart f from to t = (isHex t ≡ true) × (bytesOf t ≡ part from to (bytesOf f))
-
--- the parts between commas from `from` on; none past the end
-abbrev pub partsFrom : Bytes → ℕ → List Bytes
-partsFrom b from = cond (leb from (length b)) (split comma (drop from b)) []
 
 -- the ids between the commas
 abbrev pub readIds : Bytes → Answer (List ℤ)

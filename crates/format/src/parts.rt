@@ -4,7 +4,8 @@ ghost use mathlib.Core.Bool.{true};
 ghost use Prim.Native.Nat.{_+_};
 ghost use lib.ListN.{drop};
 ghost use Rattle.hex.specs.Hex.{isHex, bytesOf};
-ghost use Rattle.format.specs.Parts.{bytesBefore, HasPart, IsPart};
+ghost use Rattle.sheets.specs.Parts.{bytesBefore};
+ghost use Rattle.format.specs.Parts.{HasPart, IsPart};
 
 // The place of the first byte from `from` on that is b, or the end.
 pub fn place_of(f: &[u8], from: usize, b: u8) -> usize

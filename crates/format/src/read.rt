@@ -15,7 +15,8 @@ ghost use Prim.Native.Nat.{_+_};
 ghost use lib.ListN.{take, drop};
 ghost use Rattle.sheets.specs.Format.{readCut, readOther, readFormat, cut};
 ghost use Rattle.hex.specs.Hex.{isHex, bytesOf};
-ghost use Rattle.format.specs.Parts.{HasBytes, HasPart, part, partsFrom};
+ghost use Rattle.sheets.specs.Parts.{partsFrom};
+ghost use Rattle.format.specs.Parts.{HasBytes, HasPart, part};
 ghost use Rattle.format.specs.Formats.{Reads, decimalOf, decimalFormat, IsOtherHead};
 
 // A type that needs no text.

@@ -30,7 +30,7 @@ use Rattle.hex.proofs.HexLaws.{twice-length}
 use Rattle.field_line.specs.Columns.{endPiece}
 use Rattle.field_line.proofs.LengthLaws.{bare-length, end-length}
 use Rattle.columns.specs.Columns.{part}
-use Rattle.schema_line.specs.declared.Part.{Part}
+use Rattle.columns.specs.declared.Part.{Part}
 use Rattle.schema_line.specs.declared.SchemaLine.{SchemaLine}
 use Rattle.schema_line.specs.Lines.{TextAt, Shows}
 use Rattle.schema_line.specs.Texts.{textIn}

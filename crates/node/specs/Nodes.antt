@@ -19,7 +19,7 @@ use Rattle.refusal.specs.Refusals.{refusalOf}
 use Rattle.buffer.specs.Over.{over, PutAt}
 use Rattle.columns.specs.Columns.{part}
 use Rattle.field_line.specs.Columns.{columnsPiece, endPiece}
-use Rattle.schema_line.specs.declared.Part.{Part}
+use Rattle.columns.specs.declared.Part.{Part}
 use Rattle.schema_line.specs.declared.SchemaLine.{SchemaLine}
 use Rattle.schema_line.specs.Texts.{textIn}
 use Rattle.schema_line.specs.Lines.{Shows}

@@ -9,11 +9,11 @@ ghost use Rattle.node.specs.Info.{HasRoom};
 ghost use Rattle.node.specs.Pieces.{CanShow};
 ghost use Rattle.node.specs.Nodes.{columnIn, metadataIn, nothingShown, IsPart, childrenBelow, NodeIn, FieldBegins, TypeLinePuts};
 use crate::lines::Shown;
+use columns::Part;
 use format::Below;
 use format::FormatPut;
 use metadata::MetadataRead;
 use refusal::Refusal;
-use schema_line::Part;
 use schema_line::SchemaLine;
 
 // A refusal that comes after what stands below a node.

@@ -6,7 +6,8 @@ use Rattle.sheets.specs.Refusal.{badLines}
 use Rattle.sheets.specs.Bytes.{lineEnd, ascii}
 use Rattle.sheets.specs.Answer.{refused, given}
 use Rattle.sheets.specs.Number.{decimal}
-use Rattle.schema_line.specs.Lines.{partOf, shownAt, readLine}
+use Rattle.columns.specs.Columns.{partOf}
+use Rattle.schema_line.specs.Lines.{shownAt, readLine}
 
 -- A1
 peak : readLine (ascii "2b6c 7065616b 2 ~ 1 0" ++ (lineEnd ∷ [])) 0

@@ -13,35 +13,19 @@ use Rattle.sheets.specs.Refusal.{badLines}
 use Rattle.sheets.specs.Rule.{Meets}
 use Rattle.sheets.specs.Bytes.{Bytes}
 use Rattle.sheets.specs.Answer.{refused, given}
-use Rattle.sheets.specs.Codec.{Codec, Row as Columns, number, signed, text, done, _▸_}
+use Rattle.sheets.specs.Codec.{number, signed, text, done, _▸_}
 use Rattle.sheets.specs.Number.{readNumber, readSigned}
 use Rattle.sheets.specs.Schema.{Line, childrenOf, dictionaryOf}
 use Rattle.sheets.specs.TreeWalks.{HasTree}
 use Rattle.sheets.specs.SchemaTrees.{Row, schemas}
 use Rattle.sheets.proofs.Tests.{not-given, same-given}
 use Rattle.sheets.proofs.FormLaws.{row-begins, standing-row}
-use Rattle.columns.specs.Columns.{part, stopFrom}
+use Rattle.columns.specs.Columns.{part, stopFrom, ColumnAt}
 use Rattle.columns.specs.NumberColumns.{HasNumber, HasSigned}
-use Rattle.columns.proofs.ColumnLaws.{ColumnAt, column-end}
+use Rattle.columns.proofs.TailLaws.{Found, found, last-found, tail-last}
 use Rattle.schema_line.specs.declared.SchemaLine.{SchemaLine}
 use Rattle.schema_line.specs.Lines.{lineRule, readLine, shownAt, Stands, LineAt}
-use Rattle.schema_line.proofs.TailLaws.{Tail, tail-column, tail-next, last-column, tail-last}
 use Rattle.schema_line.proofs.LineLaws.{Ends, shown, walk, ends-shown, ends-read, ends-walk, ends-line, read-stands, read-refused, stands-read}
-
--- the column whose end was found, and the columns after it
-record Found {A B : Type 0} (k : Codec A) (row : Columns B) (s : Bytes) (p e : ℕ) (x : A × B) (rest : Bytes) : Type 0 where
-  pub column : ColumnAt s p e 32
-  pub reads : k .read (part s p e) ≡ given (x .0)
-  pub after : Tail row s (e + 1) (x .1) rest
-
-found : {A B C : Type 0} (k : Codec A) (j : Codec B) (row : Columns C) {s : Bytes} {p e : ℕ} {x : A × (B × C)} {rest : Bytes}
-    → Tail (k ▸ (j ▸ row)) s p x rest → e ≡ stopFrom s p → Found k (j ▸ row) s p e x rest
-found k j row {s} {p} {e} {x} {rest} t at =
-    let c = tail-column k j row t in
-    let here : c .0 ≡ e = column-end (c .1) refl ∙ sym at in
-    let column : ColumnAt s p e 32 = subst (λ (i : ℕ). ColumnAt s p i 32) here (c .1) in
-    let n = tail-next k (j ▸ row) t column in
-    record { column = column; reads = n .0; after = n .1 }
 
 module _ {s : Bytes} {at : ℕ} {x : Line} {rest : Bytes} (b : Stands s at x rest) (rule : Meets (lineRule x)) {f : ℕ} (ef : f ≡ stopFrom s at) where
   format-found : Found text (text ▸ signed ▸ text ▸ number ▸ number ▸ done) s at f x rest
@@ -92,10 +76,7 @@ module _ {s : Bytes} {at : ℕ} {x : Line} {rest : Bytes} (b : Stands s at x res
 
           module _ {e : ℕ} (ee : e ≡ stopFrom s (h + 1)) where
             last : ColumnAt s (h + 1) e 10
-            last =
-                let c = last-column number (children-found .after) in
-                let here : c .0 ≡ e = column-end (c .1) refl ∙ sym ee in
-                subst (λ (i : ℕ). ColumnAt s (h + 1) i 10) here (c .1)
+            last = last-found number (children-found .after) ee
 
             pub dictionary-within : e < length s
             dictionary-within = last .high

@@ -1,7 +1,5 @@
 pub mod FlagLaws
 pub mod TextLaws
-pub mod SplitLaws
-pub mod TailLaws
 pub mod LineLaws
 pub mod KnownLaws
 pub mod WalkLaws

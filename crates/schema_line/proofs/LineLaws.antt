@@ -27,16 +27,17 @@ use Rattle.sheets.proofs.BytesLaws.{split-next, split-last, Cut, first-of}
 use Rattle.sheets.proofs.InverseLaws.{split-some, number-read, signed-read, text-read}
 use Rattle.sheets.proofs.RefusalLaws.{OnlyLines, refused-only, given-only, chain-only, when-only, schema-line-only}
 use Rattle.hex.specs.Hex.{gives}
-use Rattle.columns.specs.Columns.{part, columnOf}
+use Rattle.columns.specs.Columns.{part, columnOf, partOf, ColumnAt}
 use Rattle.columns.specs.TextColumns.{isText, lacksZeroIn, isCString}
 use Rattle.columns.specs.NumberColumns.{numberIn, signedIn}
-use Rattle.columns.proofs.ColumnLaws.{ColumnAt, column-size}
+use Rattle.columns.proofs.ColumnLaws.{column-size}
 use Rattle.columns.proofs.FindLaws.{column-is}
 use Rattle.columns.proofs.NumberFindLaws.{column-number, column-signed}
+use Rattle.columns.specs.Tails.{Tail}
 use Rattle.columns.proofs.TextLaws.{text-some}
+use Rattle.columns.proofs.TailLaws.{tail-cons, tail-end}
 use Rattle.schema_line.specs.declared.SchemaLine.{SchemaLine}
-use Rattle.schema_line.specs.Lines.{partOf, shownAt, firstLine, lineRule, readLine, TextAt, Stands, LineAt}
-use Rattle.schema_line.proofs.TailLaws.{Tail, tail-cons, tail-end}
+use Rattle.schema_line.specs.Lines.{shownAt, firstLine, lineRule, readLine, TextAt, Stands, LineAt}
 
 -- the line for a walk over the trees
 pub line-walks : {s : Bytes} {at : ℕ} {l : SchemaLine} (k : LineAt s at l) → Walks.LineAt schemas s at (k .line) (l .end)

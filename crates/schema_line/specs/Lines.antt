@@ -12,14 +12,10 @@ use Rattle.sheets.specs.Answer.{Answer, refused, given, _>>=_, when}
 use Rattle.sheets.specs.Number.{decimal, writeSigned}
 use Rattle.sheets.specs.Text.{writeText, readText}
 use Rattle.sheets.specs.Schema.{Line, nodeOf, childrenOf, dictionaryOf, schemaLine, nodeRule}
-use Rattle.columns.specs.Columns.{part}
-use Rattle.schema_line.specs.declared.Part.{Part}
+use Rattle.columns.specs.Columns.{part, partOf}
 use Rattle.schema_line.specs.declared.SchemaLine.{SchemaLine}
 use Rattle.schema_line.specs.declared.read.LineRead.{LineRead}
 use Rattle.schema_line.specs.declared.read.LineRead.the-variants.{Line as Good, Bad}
-
-abbrev pub partOf : ℕ → ℕ → Part
-partOf a b = record { start = a; end = b }
 
 -- ── the line that stands at a place
 

@@ -4,12 +4,7 @@ pub mod read;
 ghost use mathlib.Core.Path.{_≡_};
 ghost use Rattle.sheets.specs.Flags.{isOrdered, nullable, isSorted};
 ghost use Rattle.schema_line.specs.Texts.{textIn};
-
-// The bytes of a sheet from `start` up to `end`.
-pub struct Part {
-    pub start: usize,
-    pub end: usize,
-}
+use columns::Part;
 
 // `format name flags metadata children dictionary`; `end` is the place after the line's byte 10.
 pub struct SchemaLine {

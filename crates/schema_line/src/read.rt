@@ -3,8 +3,7 @@ ghost use mathlib.Core.Path.{_≡_};
 ghost use Rattle.sheets.specs.Answer.{given};
 ghost use Rattle.sheets.specs.TreeWalks.{HasTree};
 ghost use Rattle.sheets.specs.SchemaTrees.{schemas};
-ghost use Rattle.schema_line.specs.Lines.{partOf, readLine, lineAnswer};
-use crate::Part;
+ghost use Rattle.schema_line.specs.Lines.{readLine, lineAnswer};
 use crate::SchemaLine;
 use columns::Place;
 use columns::number;
@@ -15,12 +14,6 @@ use columns::text;
 pub enum LineRead {
     Line(SchemaLine),
     Bad,
-}
-
-fn between(start: usize, end: usize) -> Part
-    ensures { λ r. ⌜ r ≡ partOf start end ⌝ }
-{
-    Part { start, end }
 }
 
 // The line from place at on.
@@ -50,10 +43,10 @@ pub fn read_line(s: &[u8], at: usize) -> LineRead
         return LineRead::Bad;
     }
     LineRead::Line(SchemaLine {
-        format: between(at, format),
-        name: between(format + 1, name),
+        format: columns::between(at, format),
+        name: columns::between(format + 1, name),
         flags,
-        metadata: between(flags_end + 1, metadata),
+        metadata: columns::between(flags_end + 1, metadata),
         children,
         dictionary,
         end: end + 1,
@@ -72,10 +65,10 @@ pub fn line_at(s: &[u8], at: usize) -> SchemaLine
     let children = columns::number_end(s, metadata + 1);
     let dictionary = columns::number_end(s, children + 1);
     SchemaLine {
-        format: between(at, format),
-        name: between(format + 1, name),
+        format: columns::between(at, format),
+        name: columns::between(format + 1, name),
         flags: number::signed_at(s, name + 1, flags),
-        metadata: between(flags + 1, metadata),
+        metadata: columns::between(flags + 1, metadata),
         children: number::number_at(s, metadata + 1, children),
         dictionary: number::number_at(s, children + 1, dictionary),
         end: dictionary + 1,

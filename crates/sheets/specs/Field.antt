@@ -153,6 +153,10 @@ abbrev pub firstAfter : Bytes → List Pair → Bool
 firstAfter k [] = true
 firstAfter k (p ∷ ps) = before k (p .0)
 
+-- "both sides of a pair are UTF-8"
+abbrev pub pairRule : Pair → Rule
+pairRule p = is (isUtf8 (p .0)) and is (isUtf8 (p .1))
+
 -- "keys strictly ascending by byte", both sides UTF-8
 abbrev pub pairsRule : List Pair → Rule
 pairsRule [] = is true

@@ -1,6 +1,7 @@
 pub mod Refusal
 pub mod Rule
 pub mod Bytes
+pub mod Parts
 pub mod Answer
 pub mod Number
 pub mod Text

@@ -7,8 +7,8 @@ use native.Mathlib.Nat.{add-zero}
 use lib.ListN.{length, drop}
 use Rattle.hex.specs.Hex.{bytesOf}
 use Rattle.hex.proofs.HexLaws.{length-bytes}
-use Rattle.format.specs.Parts.{bytesBefore}
-use Rattle.format.proofs.PartLaws.{before-here, before-next, before-past}
+use Rattle.sheets.specs.Parts.{bytesBefore}
+use Rattle.sheets.proofs.PartLaws.{before-here, before-next, before-past}
 use borrow.Author.Needs.{needs}
 use Rattle.format.proofs.parts.place_of.Statement.{statement}
 use Rattle.format.proofs.parts.place_of.Tie as tie

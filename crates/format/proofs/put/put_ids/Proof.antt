@@ -15,7 +15,7 @@ use Rattle.buffer.proofs.OverLaws.{length-written, length-overAt}
 use Rattle.decimal.proofs.WriteLaws.{signed-short}
 use Rattle.parse.specs.Parse.{idAnswer}
 use Rattle.format.proofs.IdsLaws.{Going, going-none, going-refused, going-last, going-more}
-use Rattle.format.proofs.PartLaws.{part-ends}
+use Rattle.sheets.proofs.PartLaws.{part-ends}
 use borrow.Author.Needs.{needs}
 use Rattle.format.proofs.put.put_ids.Statement.{statement}
 use Rattle.format.proofs.put.put_ids.Tie as tie

@@ -7,9 +7,10 @@ use Rattle.sheets.specs.Bytes.{Bytes}
 use Rattle.hex.specs.Hex.{bytesOf}
 use Rattle.hex.proofs.HexLaws.{length-bytes}
 use Rattle.format.specs.Formats.{decimalOf, decimalFormat}
-use Rattle.format.specs.Parts.{part, partsFrom}
+use Rattle.sheets.specs.Parts.{partsFrom}
+use Rattle.format.specs.Parts.{part}
 use Rattle.format.proofs.ReadLaws.{reads-as, one-part, two-parts, second-part}
-use Rattle.format.proofs.PartLaws.{part-ends}
+use Rattle.sheets.proofs.PartLaws.{part-ends}
 use borrow.Author.Needs.{needs}
 use Rattle.format.proofs.read.read_decimal.Statement.{statement}
 use Rattle.format.proofs.read.read_decimal.Tie as tie

@@ -7,9 +7,10 @@ use lib.ListN.{length, take, drop}
 use Rattle.sheets.specs.Format.{cut, readCut, readOther}
 use Rattle.hex.specs.Hex.{bytesOf}
 use Rattle.hex.proofs.HexLaws.{length-bytes}
-use Rattle.format.specs.Parts.{bytesBefore}
+use Rattle.sheets.specs.Parts.{bytesBefore}
 use Rattle.format.proofs.ReadLaws.{reads-as}
-use Rattle.format.proofs.PartLaws.{before-within, cut-at, cut-none}
+use Rattle.sheets.proofs.PartLaws.{before-within}
+use Rattle.format.proofs.PartLaws.{cut-at, cut-none}
 use borrow.Author.Needs.{needs}
 use Rattle.format.proofs.read.read_other.Statement.{statement}
 use Rattle.format.proofs.read.read_other.Tie as tie

@@ -9,9 +9,10 @@ use Rattle.hex.specs.Hex.{bytesOf}
 use Rattle.hex.proofs.HexLaws.{length-bytes}
 use Rattle.parse.specs.Parse.{sizeAnswer}
 use Rattle.format.specs.Formats.{decimalFormat}
-use Rattle.format.specs.Parts.{partsFrom}
+use Rattle.sheets.specs.Parts.{partsFrom}
 use Rattle.format.proofs.ReadLaws.{reads-as, cut-binary, cut-list, cut-decimal, cut-other}
-use Rattle.format.proofs.PartLaws.{parts-here, rest-part}
+use Rattle.sheets.proofs.PartLaws.{parts-here}
+use Rattle.format.proofs.PartLaws.{rest-part}
 use borrow.Author.Needs.{needs}
 use Rattle.format.proofs.read.read_sizes.Statement.{statement}
 use Rattle.format.proofs.read.read_sizes.Tie as tie

@@ -10,9 +10,10 @@ use Rattle.hex.specs.Hex.{bytesOf}
 use Rattle.hex.proofs.HexLaws.{length-bytes, twice-length}
 use Rattle.parse.specs.Parse.{sizeAnswer}
 use Rattle.format.specs.Formats.{decimalOf, decimalFormat}
-use Rattle.format.specs.Parts.{part, partsFrom}
+use Rattle.sheets.specs.Parts.{partsFrom}
+use Rattle.format.specs.Parts.{part}
 use Rattle.format.proofs.ReadLaws.{reads-as, bad-width, three-parts, third-part, four-parts}
-use Rattle.format.proofs.PartLaws.{part-ends}
+use Rattle.sheets.proofs.PartLaws.{part-ends}
 use borrow.Author.Needs.{needs}
 use Rattle.format.proofs.read.wide_decimal.Statement.{statement}
 use Rattle.format.proofs.read.wide_decimal.Tie as tie

@@ -12,20 +12,12 @@ use Rattle.sheets.specs.Bytes.{Bytes, lacks, split}
 use Rattle.sheets.specs.Answer.{Answer, refused, given, _>>=_}
 use Rattle.sheets.specs.Codec.{Codec, Row as Columns, done, noColumns, readColumn, _▸_}
 use Rattle.sheets.proofs.Tests.{first-gave}
-use Rattle.sheets.proofs.BytesLaws.{all-append, split-next, split-last}
+use Rattle.sheets.proofs.BytesLaws.{all-append, split-next, split-last, Cut, first-of, cut-same}
 use Rattle.sheets.proofs.InverseLaws.{split-some}
-use Rattle.columns.specs.Columns.{part}
-use Rattle.columns.proofs.ColumnLaws.{ColumnAt, column-of}
-use Rattle.sheets.proofs.BytesLaws.{Cut, first-of}
-use Rattle.sheets.proofs.BytesLaws.{cut-same}
-use Rattle.schema_line.proofs.SplitLaws.{lacks-front, lacks-back, cut-space}
-
--- from p on the columns x stand to the end of a line, and then rest
-pub record Tail {A : Type 0} (row : Columns A) (s : Bytes) (p : ℕ) (x : A) (rest : Bytes) : Type 0 where
-  pub bytes : Bytes
-  pub is : drop p s ≡ bytes ++ (10 ∷ rest)
-  pub free : Meets (lacks 10 bytes)
-  pub reads : row .reads (split 32 bytes) ≡ given x
+use Rattle.columns.specs.Columns.{part, stopFrom, ColumnAt}
+use Rattle.columns.specs.Tails.{Tail}
+use Rattle.columns.proofs.ColumnLaws.{column-of, column-end}
+use Rattle.columns.proofs.SplitLaws.{lacks-front, lacks-back, cut-space}
 
 never : {A : Type 0} {a : A} → _≡_ {A = Answer A} (refused badLines) (given a) → ⊥
 never {A} {a} e = let y : _≡_ {A = ℕ} 0 1 = cc in omega arith
@@ -81,6 +73,10 @@ module _ {A B C : Type 0} (k : Codec A) (j : Codec B) (row : Columns C) {s : Byt
           let free : Meets (lacks 10 (w .front ++ (32 ∷ w .back))) = subst (λ (b : Bytes). Meets (lacks 10 b)) (w .is) (t .free) in
           (p + length (w .front), column-of s p (w .front) (w .back ++ (10 ∷ rest)) 32 is (w .free) (lacks-front 10 (w .front) (32 ∷ w .back) free))
 
+  -- so a column that is missing or does not read contradicts the line
+  pub tail-bad : ((e : ℕ) → ColumnAt s p e 32 → k .read (part s p e) ≡ given (x .0) → ⊥) → ⊥
+  tail-bad miss = let c = tail-column in miss (c .0) (c .1) (tail-next k (j ▸ row) t (c .1) .0)
+
 -- ── the last column
 
 module _ {A : Type 0} (k : Codec A) {s : Bytes} {p : ℕ} where
@@ -112,3 +108,30 @@ module _ {A : Type 0} (k : Codec A) {s : Bytes} {p : ℕ} where
             ap (split 32) (w .is) ∙ split-next 32 (w .front) (w .back) (w .free) ∙ ap (λ (l : List Bytes). w .front ∷ l) (more .2) in
             let two : readColumn (k .read) noColumns (w .front ∷ more .0 ∷ more .1) ≡ given x = sym (ap (readColumn (k .read) noColumns) parts) ∙ t .reads in
             absurd (never (first-read k done (w .front) (more .0 ∷ more .1) x two .1))
+
+    pub last-bad : ((e : ℕ) → ColumnAt s p e 10 → k .read (part s p e) ≡ given (x .0) → ⊥) → ⊥
+    last-bad miss = let c = last-column in miss (c .0) (c .1) (tail-last t (c .1) .0)
+
+-- ── a column whose end was found by looking at one byte after the other
+
+-- the column whose end was found, and the columns after it
+pub record Found {A B : Type 0} (k : Codec A) (row : Columns B) (s : Bytes) (p e : ℕ) (x : A × B) (rest : Bytes) : Type 0 where
+  pub column : ColumnAt s p e 32
+  pub reads : k .read (part s p e) ≡ given (x .0)
+  pub after : Tail row s (e + 1) (x .1) rest
+
+pub found : {A B C : Type 0} (k : Codec A) (j : Codec B) (row : Columns C) {s : Bytes} {p e : ℕ} {x : A × (B × C)} {rest : Bytes}
+    → Tail (k ▸ (j ▸ row)) s p x rest → e ≡ stopFrom s p → Found k (j ▸ row) s p e x rest
+found k j row {s} {p} {e} {x} {rest} t at =
+    let c = tail-column k j row t in
+    let here : c .0 ≡ e = column-end (c .1) refl ∙ sym at in
+    let column : ColumnAt s p e 32 = subst (λ (i : ℕ). ColumnAt s p i 32) here (c .1) in
+    let n = tail-next k (j ▸ row) t column in
+    record { column = column; reads = n .0; after = n .1 }
+
+-- the last column
+pub last-found : {A : Type 0} (k : Codec A) {s : Bytes} {p e : ℕ} {x : A × Unit {0}} {rest : Bytes} → Tail (k ▸ done) s p x rest → e ≡ stopFrom s p → ColumnAt s p e 10
+last-found k {s} {p} {e} t at =
+    let c = last-column k t in
+    let here : c .0 ≡ e = column-end (c .1) refl ∙ sym at in
+    subst (λ (i : ℕ). ColumnAt s p i 10) here (c .1)

@@ -1,0 +1,5 @@
+pub mod ListLaws
+pub mod IdLaws
+pub mod PairLaws
+pub mod GoingLaws
+pub mod ContentLaws

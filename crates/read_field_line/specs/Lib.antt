@@ -1,0 +1,2 @@
+pub mod FieldLines
+pub mod Stages
