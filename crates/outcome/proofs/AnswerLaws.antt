@@ -1,15 +1,17 @@
--- The two ways out of `written`, and a refusal after something was written: the buffer's length is all that zeros are told by. Assumes nothing.
-use mathlib.Core.Path.{_≡_, sym, ap, _∙_}
+-- The two ways out of `written`, and a refusal after something was written: the buffer's length is all that zeros are told by. From what the writer of a
+-- sheet tells to the outcome of its call. Assumes nothing.
+use mathlib.Core.Path.{_≡_, sym, ap, subst, _∙_}
 use mathlib.Core.List.{_++_}
 use Prim.Native.Nat.{ℕ, _≤_, _<_}
 use native.Mathlib.Omega.{arith}
 use lib.ListN.{length, drop, replicate}
 use Rattle.sheets.specs.Bytes.{Bytes}
-use Rattle.sheets.specs.Refusal.{noRoom}
-use Rattle.sheets.specs.Outcome.{success, refusal}
-use Rattle.sheets.proofs.OutcomeLaws.{fits, fits-not}
+use Rattle.sheets.specs.Refusal.{Refusal, numberOf, noRoom}
+use Rattle.sheets.specs.Answer.{Answer, refused, given}
+use Rattle.sheets.specs.Outcome.{Outcome, success, refusal, outcome}
+use Rattle.sheets.proofs.OutcomeLaws.{turned, fits, fits-not}
 use Rattle.buffer.proofs.OverLaws.{over-fits, length-over}
-use Rattle.outcome.specs.Answers.{outcomeOf, Tells}
+use Rattle.outcome.specs.Answers.{outcomeOf, Tells, SheetTold}
 use Rattle.outcome.specs.declared.Answered.{Answered}
 
 -- what was written before a refusal is not seen
@@ -30,3 +32,15 @@ module _ (mid : Bytes) (len : ℕ) where
       let p : mid ≡ x ++ drop (length x) out = laid ∙ over-fits x out fit in
       let q : outcomeOf 0 len mid ≡ success x out = λ i. record { number = 0; size = long i; buffer = p i } in
       q ∙ sym (fits x out fit)
+
+-- ── the outcome of a call that answers the sheet a
+
+module _ (a : Answer Bytes) (out mid : Bytes) where
+  pub told-refused : (q : Refusal) (o : Outcome) → a ≡ refused q → o ≡ refusal (numberOf q) mid → length mid ≡ length out → o ≡ outcome a out
+  told-refused q o i c l = c ∙ refusal-over (numberOf q) mid out l ∙ sym (turned q out) ∙ ap (λ (y : Answer Bytes). outcome y out) (sym i)
+
+  pub told-done : (z : Answer (ℕ × ℕ)) (next len : ℕ) → z ≡ given (next, len) → SheetTold a out mid z → (r : Answered) (out' : Bytes) → Tells mid len r out'
+      → outcomeOf (r .number) (r .length) out' ≡ outcome a out
+  told-done z next len e h r out' c =
+      let (x, is, lenIs, laid) = subst (λ (y : Answer (ℕ × ℕ)). SheetTold a out mid y) e h in
+      c x out lenIs laid ∙ ap (λ (y : Answer Bytes). outcome y out) (sym is)

@@ -1,3 +1,4 @@
 pub mod BeginLaws
 pub mod RowLaws
 pub mod EndLaws
+pub mod HeadedLaws

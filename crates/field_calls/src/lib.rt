@@ -1,0 +1,70 @@
+// The calls that take a field sheet's bytes and answer a sheet in a lent buffer.
+ghost use mathlib.Core.Path.{_≡_};
+ghost use Rattle.sheets.specs.Sheet.{headingLine};
+ghost use Rattle.sheets.specs.Outcome.{exportOutcome, plainOutcome};
+ghost use Rattle.buffer.specs.Over.{PutAt};
+ghost use Rattle.outcome.specs.Answers.{outcomeOf};
+ghost use Rattle.field_calls.specs.Answers.{headingOf, callOutcome, HasField, SheetWrote};
+use field_sheet::SheetRead;
+use field_walk::Call;
+use outcome::Answered;
+use walks::Step;
+use walks::Subtree;
+
+// Writes the heading of the answer and its byte 10, as far as they fit; their length.
+fn put_heading(call: Call, out: &mut [u8]) -> usize
+    ensures { λ r. ⌜ PutAt 0 (headingLine (headingOf call)) r (now (out .entry)) (now (out .exit)) ⌝ }
+{
+    match call {
+        Call::Export => buffer::put_at(out, 0, b"format name flags metadata children dictionary\n"),
+        Call::Plain => buffer::put_at(out, 0, b"kind p q text more name nullable pairs children\n"),
+    }
+}
+
+// Writes the heading and the lines, as far as they fit.
+fn put_sheet(call: Call, s: &[u8], at: usize, out: &mut [u8]) -> Step
+    requires { ⌜ HasField (now s) at ⌝ }
+    ensures { λ r. ⌜ SheetWrote call (now (s .entry)) at (now (out .entry)) (now (out .exit)) r ⌝ }
+{
+    let head = put_heading(call, out);
+    let w = buffer::within(head, out.len());
+    let tree = Subtree {
+        at,
+        levels: field_sheet::LEVELS,
+        inside: false,
+    };
+    match field_walk::walk_type(call, s, tree, &mut out[w..]) {
+        Step::Refused(r) => Step::Refused(r),
+        Step::Done { next, len } => Step::Done {
+            next,
+            len: head + len,
+        },
+    }
+}
+
+// The answer of a call, written over the first bytes of out; or the number of its refusal, and zeros.
+fn answer(call: Call, s: &[u8], out: &mut [u8]) -> Answered
+    ensures { λ r. ⌜ outcomeOf (r .number) (r .length) (now (out .exit)) ≡ callOutcome call (now (s .entry)) (now (out .entry)) ⌝ }
+{
+    match field_sheet::read_sheet(s) {
+        SheetRead::Refused(r) => outcome::refuse(out, r),
+        SheetRead::Body(at) => match put_sheet(call, s, at, out) {
+            Step::Refused(r) => outcome::refuse(out, r),
+            Step::Done { next: _, len } => outcome::written(out, len),
+        },
+    }
+}
+
+// The schema sheet of a field sheet.
+pub fn export(s: &[u8], out: &mut [u8]) -> Answered
+    ensures { λ r. ⌜ outcomeOf (r .number) (r .length) (now (out .exit)) ≡ exportOutcome (now (s .entry)) (now (out .entry)) ⌝ }
+{
+    answer(Call::Export, s, out)
+}
+
+// The plain form of a field sheet.
+pub fn plain_form(s: &[u8], out: &mut [u8]) -> Answered
+    ensures { λ r. ⌜ outcomeOf (r .number) (r .length) (now (out .exit)) ≡ plainOutcome (now (s .entry)) (now (out .entry)) ⌝ }
+{
+    answer(Call::Plain, s, out)
+}
