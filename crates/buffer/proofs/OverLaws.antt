@@ -9,7 +9,7 @@ use lib.ListN.{length, getD, set, take, drop, length-append, length-drop, drop-o
 use lib.Seq.{take-all}
 use borrow.Rule.Slice.PartMut.{same-len-mid}
 use Rattle.sheets.specs.Bytes.{Bytes}
-use Rattle.buffer.specs.Over.{over, overAt}
+use Rattle.buffer.specs.Over.{over, overAt, PutAt, Put}
 
 -- ---- over
 
@@ -151,7 +151,7 @@ none-yet at out = record { place = sym (add-zero at); holds = sym (overAt-nothin
 
 -- one text more, by a call whose contract is that of `put_at`
 pub and-then : {at : ℕ} {s out : Bytes} {n : ℕ} {l : Bytes} (t : Bytes) {m : ℕ} {k : Bytes} → Written at s out n l
-    → (m ≡ n + length t) × (k ≡ overAt n t l) → Written at (s ++ t) out m k
+    → PutAt n t m l k → Written at (s ++ t) out m k
 and-then {at} {s} {out} t w p =
     record {
       place = p .0 ∙ ap (λ (x : ℕ). x + length t) (w .place) ∙ add-assoc at (length s) (length t) ∙ ap (λ (x : ℕ). at + x) (sym (length-append s t));
@@ -168,8 +168,12 @@ and-lent {at} {s} {out} {n} {l} t {w} {m} {part} v g h q =
 pub length-written : {at : ℕ} {s out : Bytes} {n : ℕ} {l : Bytes} → Written at s out n l → length l ≡ length out
 length-written {at} {s} {out} v = ap length (v .holds) ∙ length-overAt at s out
 
+-- to write from place 0 on is to write over the first bytes
+pub put-first : (t : Bytes) (r : ℕ) (out out' : Bytes) → PutAt 0 t r out out' ≡ Put t r out out'
+put-first t r out out' = ap₂ (λ (n : ℕ) (b : Bytes). (r ≡ n) × (out' ≡ b)) (zero-add (length t)) (overAt-zero t out)
+
 -- a chain from the first byte on
-pub whole : {s out : Bytes} {n : ℕ} {l : Bytes} → Written 0 s out n l → (n ≡ length s) × (l ≡ over s out)
+pub whole : {s out : Bytes} {n : ℕ} {l : Bytes} → Written 0 s out n l → Put s n out l
 whole {s} {out} v = (v .place ∙ zero-add (length s), v .holds ∙ overAt-zero s out)
 
 -- one byte stored is one byte written over

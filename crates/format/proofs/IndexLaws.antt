@@ -14,7 +14,7 @@ use Rattle.sheets.specs.Answer.{refused}
 use Rattle.sheets.specs.Format.{Row, rows, rowNamed, toIntegerType}
 use Rattle.sheets.proofs.Tests.{not-some, and-left, and-right}
 use Rattle.sheets.proofs.BytesLaws.{same-eq}
-use Rattle.format.specs.Names.{leafOf}
+use Rattle.format_names.specs.Names.{leafOf}
 use Rattle.format.specs.Dictionary.{isIndexKind, indexOf}
 
 -- ── other kinds

@@ -9,7 +9,7 @@ use lib.ListN.{length, drop}
 use Rattle.sheets.specs.Refusal.{badNumber, badDecimal, unsupportedFormat}
 use Rattle.sheets.specs.Bytes.{Bytes, ascii, comma, same, split}
 use Rattle.sheets.specs.Answer.{Answer, refused, given, _>>=_}
-use Rattle.sheets.specs.Field.{Width, bits128, decimalType, fixedSizeBinary, leaf, list, largeList, fixedSizeList, map, struct}
+use Rattle.sheets.specs.Field.{Width, bits128, decimalType, fixedSizeBinary, list, largeList, fixedSizeList, map, struct}
 use Rattle.sheets.specs.Format.{Format, ofScalar, ofNesting, ofGrouping, Row, rows, rowNamed, readSize, widthOf, cut, readCut, readOther, readFormat}
 use Rattle.sheets.proofs.Tests.{not-some}
 use Rattle.sheets.proofs.BytesLaws.{same-eq}
@@ -17,7 +17,7 @@ use Rattle.datatypes.specs.declared.units.TimeUnit.{TimeUnit}
 use Rattle.datatypes.specs.declared.units.TimeUnit.the-variants as TimeUnits
 use Rattle.datatypes.specs.declared.units.UnionMode.{UnionMode}
 use Rattle.datatypes.specs.declared.units.UnionMode.the-variants as UnionModes
-use Rattle.format.specs.Names.{leafOf, leafNamed, headUnit, headMode}
+use Rattle.format_names.specs.Names.{leafOf, leafNamed, headUnit, headMode}
 use Rattle.format.specs.Parts.{part, partsFrom}
 use Rattle.format.specs.Formats.{timestampFormat, unionFormat, Reads, decimalOf, decimalFormat}
 use Rattle.format.specs.declared.read.FormatRead.{FormatRead}
@@ -153,15 +153,6 @@ module _ (h r : Bytes) where
 -- ── names
 
 module _ (sorted : Bool) (f : Bytes) where
-  pub name-leaf : (k u : ℕ) → some (k, u) ≡ leafNamed f → given (ofScalar (leaf k u)) ≡ readFormat sorted f
-  name-leaf k u e = pick (rowNamed f rows) refl e
-    where
-      pick : (o : Option Row) → rowNamed f rows ≡ o → some (k, u) ≡ leafOf o → given (ofScalar (leaf k u)) ≡ readFormat sorted f
-      pick none n e = not-some (sym e)
-      pick (some r) n e =
-          let q : _≡_ {A = ℕ × ℕ} (k, u) (r .kind, r .unit) = cc in
-          rw n (ap (λ (x : ℕ × ℕ). given (ofScalar (leaf (x .0) (x .1)))) q)
-
   module _ (other : none ≡ leafNamed f) where
     name-none : rowNamed f rows ≡ none
     name-none = pick (rowNamed f rows) other

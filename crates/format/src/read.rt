@@ -1,11 +1,10 @@
 // What a format string says, read in place from its hexadecimal text: the formats of `to_dtype`.
-use crate::names;
-use crate::names::NameRead;
 use crate::parts;
 use datatypes::units::TimeUnit;
 use datatypes::units::TimeUnitAt;
 use datatypes::units::UnionMode;
 use datatypes::units::UnionModeAt;
+use format_names::NameRead;
 use parse::Size;
 use refusal::Refusal;
 ghost use mathlib.Core.Path.{_≡_};
@@ -121,10 +120,10 @@ fn read_cut(f: &[u8], k: usize) -> FormatRead
     ensures { λ r. ⌜ Reads (now (f .entry)) (readCut (take k (bytesOf (now (f .entry)))) (drop (k + 1) (bytesOf (now (f .entry))))) r ⌝ }
 {
     let h = parts::part_of(f, 0, k);
-    if let TimeUnitAt::Is(unit) = names::head_unit(h) {
+    if let TimeUnitAt::Is(unit) = format_names::head_unit(h) {
         return FormatRead::Timestamp(unit, 2 * k + 2);
     }
-    if let UnionModeAt::Is(mode) = names::head_mode(h) {
+    if let UnionModeAt::Is(mode) = format_names::head_mode(h) {
         return FormatRead::Union(mode, 2 * k + 2);
     }
     read_sizes(f, k + 1, h)
@@ -146,7 +145,7 @@ pub fn read_format(f: &[u8], sorted: bool) -> FormatRead
     requires { ⌜ isHex (now f) ≡ true ⌝ }
     ensures { λ r. ⌜ Reads (now (f .entry)) (readFormat sorted (bytesOf (now (f .entry)))) r ⌝ }
 {
-    if let NameRead::Leaf(kind, unit) = names::fixed_name(f) {
+    if let NameRead::Leaf(kind, unit) = format_names::fixed_name(f) {
         return FormatRead::Numbers(Textless::Leaf(kind, unit));
     }
     if hex::says(f, b"+l") {

@@ -25,10 +25,10 @@ use Rattle.sheets.specs.TreeWalks.{HasRow}
 use Rattle.schema_sheet.specs.Subtrees.{skipAnswer, SkipsRow}
 use Rattle.schema_sheet.specs.declared.subtrees.Skipped.{Skipped}
 use Rattle.schema_sheet.specs.declared.subtrees.Skipped.the-variants.{To, Deep}
-use Rattle.format.specs.Formats.{belowOf}
-use Rattle.format.specs.declared.Below.{Below}
-use Rattle.format.specs.declared.FormatPut.{FormatPut}
-use Rattle.format.specs.declared.FormatPut.the-variants as Put
+use Rattle.import_type.specs.TypeColumns.{belowOf}
+use Rattle.import_type.specs.declared.Below.{Below}
+use Rattle.import_type.specs.declared.FormatPut.{FormatPut}
+use Rattle.import_type.specs.declared.FormatPut.the-variants as Put
 use Rattle.refusal.specs.declared.Refusal.{Refusal as Reason}
 use Rattle.refusal.specs.Refusals.{refusalOf}
 use Rattle.node.specs.declared.lines.Shown.{Shown}

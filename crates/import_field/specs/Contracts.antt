@@ -18,8 +18,8 @@ use Rattle.refusal.specs.Refusals.{refusalOf}
 use Rattle.buffer.specs.Over.{over}
 use Rattle.schema_line.specs.declared.SchemaLine.{SchemaLine}
 use Rattle.schema_line.specs.Lines.{Shows}
-use Rattle.format.specs.declared.Below.{Below}
-use Rattle.format.specs.declared.Below.the-variants.{Nothing, First, All, Values}
+use Rattle.import_type.specs.declared.Below.{Below}
+use Rattle.import_type.specs.declared.Below.the-variants.{Nothing, First, All, Values}
 use Rattle.node.specs.declared.lines.Shown.{Shown}
 use Rattle.node.specs.declared.Pending.{Pending}
 use Rattle.node.specs.Pieces.{infoPiece, CanShow}

@@ -23,10 +23,10 @@ use Rattle.schema_line.specs.declared.SchemaLine.{SchemaLine}
 use Rattle.schema_line.specs.Lines.{Shows}
 use Rattle.schema_line.specs.Texts.{textIn}
 use Rattle.schema_line.proofs.TextLaws.{text-shorter}
-use Rattle.format.specs.Formats.{belowOf}
-use Rattle.format.specs.declared.Below.{Below}
-use Rattle.format.specs.declared.FormatPut.{FormatPut}
-use Rattle.format.specs.declared.FormatPut.the-variants as Put
+use Rattle.import_type.specs.TypeColumns.{belowOf}
+use Rattle.import_type.specs.declared.Below.{Below}
+use Rattle.import_type.specs.declared.FormatPut.{FormatPut}
+use Rattle.import_type.specs.declared.FormatPut.the-variants as Put
 use Rattle.node.specs.declared.lines.Shown.{Shown}
 use Rattle.node.specs.Types.{IsText, columnType, TypeTold, TypePuts}
 use Rattle.node.specs.Pieces.{shownText, CanShow}

@@ -23,10 +23,10 @@ use Rattle.schema_line.specs.declared.Part.{Part}
 use Rattle.schema_line.specs.declared.SchemaLine.{SchemaLine}
 use Rattle.schema_line.specs.Texts.{textIn}
 use Rattle.schema_line.specs.Lines.{Shows}
-use Rattle.format.specs.Formats.{belowOf, putAnswer}
-use Rattle.format.specs.declared.Below.{Below}
-use Rattle.format.specs.declared.Below.the-variants.{Nothing, First, All, Values}
-use Rattle.format.specs.declared.FormatPut.{FormatPut}
+use Rattle.import_type.specs.TypeColumns.{belowOf, putAnswer}
+use Rattle.import_type.specs.declared.Below.{Below}
+use Rattle.import_type.specs.declared.Below.the-variants.{Nothing, First, All, Values}
+use Rattle.import_type.specs.declared.FormatPut.{FormatPut}
 use Rattle.node.specs.declared.lines.Shown.{Shown}
 use Rattle.node.specs.declared.Begun.{Begun}
 use Rattle.node.specs.declared.Pending.{Pending}
