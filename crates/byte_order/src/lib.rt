@@ -13,14 +13,13 @@ pub enum Ordering {
 }
 
 // Four bytes as one number: two such numbers stand in the order of their bytes, so that a comparison takes four bytes at a time.
-fn word_at(s: &[u8], i: usize) -> u64
+fn word_at(s: &[u8], i: usize) -> u32
     requires { ⌜ i + 4 ≤ length (now s) ⌝ }
     ensures { λ r. ⌜ Word (now (s .entry)) i r ⌝ }
 {
-    buffer::wide(s[i]) * 16777216
-        + buffer::wide(s[i + 1]) * 65536
-        + buffer::wide(s[i + 2]) * 256
-        + buffer::wide(s[i + 3])
+    let high = buffer::wide(s[i]) * 256 + buffer::wide(s[i + 1]);
+    let low = buffer::wide(s[i + 2]) * 256 + buffer::wide(s[i + 3]);
+    (high * 65536 + low) as u32
 }
 
 fn compare_bytes(a: &[u8], b: &[u8], from: usize) -> Ordering

@@ -6,7 +6,7 @@ ghost use Rattle.sheets.specs.Bytes.{space};
 ghost use Rattle.sheets.specs.Answer.{given};
 ghost use Rattle.sheets.specs.Number.{isDigit, readNumber, readSigned};
 ghost use Rattle.columns.specs.Columns.{isStop, part, oneOf};
-ghost use Rattle.columns.specs.NumberColumns.{numberIn, signedIn, numberAnswer, signedAnswer, HasNumber, HasSigned};
+ghost use Rattle.columns.specs.NumberColumns.{numberIn, signedIn, numberAnswer, signedColumnAnswer, HasNumber, HasSigned};
 use crate::Place;
 use decimal::Signed64;
 use decimal::Unsigned64;
@@ -36,7 +36,7 @@ fn one_digit(s: &[u8], at: usize, stop: u8) -> bool
 
 // The same as `signed_column`, for a number of any length.
 fn any_signed(s: &[u8], at: usize) -> SignedColumn
-    ensures { λ r. ⌜ signedAnswer r ≡ signedIn space (now (s .entry)) at ⌝ }
+    ensures { λ r. ⌜ signedColumnAnswer r ≡ signedIn space (now (s .entry)) at ⌝ }
 {
     let Place::At(e) = crate::column(s, at, crate::number_end(s, at), b' ') else {
         return SignedColumn::Bad;
@@ -48,7 +48,7 @@ fn any_signed(s: &[u8], at: usize) -> SignedColumn
 }
 
 pub fn signed_column(s: &[u8], at: usize) -> SignedColumn
-    ensures { λ r. ⌜ signedAnswer r ≡ signedIn space (now (s .entry)) at ⌝ }
+    ensures { λ r. ⌜ signedColumnAnswer r ≡ signedIn space (now (s .entry)) at ⌝ }
 {
     if one_digit(s, at, b' ') {
         return SignedColumn::At(buffer::wide(s[at] - b'0') as i64, at + 1);

@@ -17,7 +17,7 @@ use Rattle.sheets.specs.Format.{cut}
 use Rattle.hex.specs.Hex.{isHex, bytesOf}
 use Rattle.hex.proofs.HexLaws.{length-bytes}
 use Rattle.hex.proofs.PartLaws.{hex-drop, bytes-drop, hex-part, bytes-part}
-use Rattle.format.specs.Parts.{bytesBefore, part, partsFrom}
+use Rattle.format.specs.Parts.{bytesBefore, formatPart, partsFrom}
 
 -- ── the bytes before a separator
 
@@ -64,7 +64,7 @@ parts-past b from h = rw (lt-leb from (length b) h)
 pub record PartEnds (b : Bytes) (from to : ℕ) : Type 0 where
   pub low : from ≤ to
   pub high : to ≤ length b
-  pub parts : partsFrom b from ≡ part from to b ∷ partsFrom b (to + 1)
+  pub parts : partsFrom b from ≡ formatPart from to b ∷ partsFrom b (to + 1)
 
 parts-at : (b : Bytes) (from k : ℕ) → from ≤ length b → k ≤ length b - from → Splits 44 (drop from b) k
     → partsFrom b from ≡ take k (drop from b) ∷ partsFrom b (from + k + 1)
@@ -96,8 +96,8 @@ part-ends b from to h e =
       parts = parts-at b from k h l (split-at 44 (drop from b)) ∙ ap₂ (λ (i j : ℕ). take i (drop from b) ∷ partsFrom b j) m n;
     }
 
-pub last-part : (b : Bytes) (from to : ℕ) → PartEnds b from to → length b ≤ to → partsFrom b from ≡ part from to b ∷ []
-last-part b from to p l = p .parts ∙ ap (λ (r : List Bytes). part from to b ∷ r) (parts-past b (to + 1) (omega arith))
+pub last-part : (b : Bytes) (from to : ℕ) → PartEnds b from to → length b ≤ to → partsFrom b from ≡ formatPart from to b ∷ []
+last-part b from to p l = p .parts ∙ ap (λ (r : List Bytes). formatPart from to b ∷ r) (parts-past b (to + 1) (omega arith))
 
 -- there is a part
 prepended : (b : ℕ) (ps : List Bytes) → (x : Bytes) × (xs : List Bytes) × (prepend b ps ≡ x ∷ xs)
@@ -144,15 +144,15 @@ part-hex s h from to =
     let e : 2 * to - 2 * from ≡ 2 * (to - from) = omega arith in
     ap (λ (n : ℕ). isHex (take n (drop (2 * from) s))) e ∙ hex-part s h from (to - from)
 
-pub part-bytes : (s : Bytes) → isHex s ≡ true → (from to : ℕ) → bytesOf (take (2 * to - 2 * from) (drop (2 * from) s)) ≡ part from to (bytesOf s)
+pub part-bytes : (s : Bytes) → isHex s ≡ true → (from to : ℕ) → bytesOf (take (2 * to - 2 * from) (drop (2 * from) s)) ≡ formatPart from to (bytesOf s)
 part-bytes s h from to =
     let e : 2 * to - 2 * from ≡ 2 * (to - from) = omega arith in
     ap (λ (n : ℕ). bytesOf (take n (drop (2 * from) s))) e ∙ bytes-part s h from (to - from)
 
-pub rest-part : (s : Bytes) → isHex s ≡ true → (at : ℕ) → part at (length s / 2) (bytesOf s) ≡ drop at (bytesOf s)
+pub rest-part : (s : Bytes) → isHex s ≡ true → (at : ℕ) → formatPart at (length s / 2) (bytesOf s) ≡ drop at (bytesOf s)
 rest-part s h at = take-all (length s / 2 - at) (drop at (bytesOf s)) (omega (arith, length-drop at (bytesOf s), length-bytes s h))
 
-pub first-part : (k : ℕ) (b : Bytes) → part 0 k b ≡ take k b
+pub first-part : (k : ℕ) (b : Bytes) → formatPart 0 k b ≡ take k b
 first-part k b = let e : k - 0 ≡ k = omega arith in ap (λ (n : ℕ). take n b) e
 
 -- what follows the separator at byte k

@@ -14,7 +14,7 @@ ghost use Prim.Native.Nat.{_+_};
 ghost use lib.ListN.{take, drop};
 ghost use Rattle.sheets.specs.Format.{readCut, readOther, readFormat, cut};
 ghost use Rattle.hex.specs.Hex.{isHex, bytesOf};
-ghost use Rattle.format.specs.Parts.{HasBytes, HasPart, part, partsFrom};
+ghost use Rattle.format.specs.Parts.{HasBytes, HasPart, formatPart, partsFrom};
 ghost use Rattle.format.specs.Formats.{Reads, decimalOf, decimalFormat, IsOtherHead};
 
 // A type that needs no text.
@@ -46,7 +46,7 @@ const WIDTH: u64 = 128;
 // A decimal whose precision stands before byte i, its scale after it and before byte e.
 fn decimal_of(f: &[u8], width: u64, at: usize, i: usize, e: usize) -> FormatRead
     requires { ⌜ HasPart (now f) at i × HasPart (now f) (i + 1) e ⌝ }
-    ensures { λ r. ⌜ Reads (now (f .entry)) (decimalOf width (part at i (bytesOf (now (f .entry)))) (part (i + 1) e (bytesOf (now (f .entry))))) r ⌝ }
+    ensures { λ r. ⌜ Reads (now (f .entry)) (decimalOf width (formatPart at i (bytesOf (now (f .entry)))) (formatPart (i + 1) e (bytesOf (now (f .entry))))) r ⌝ }
 {
     let Size::Value(precision) = parse::parse_usize(parts::part_of(f, at, i)) else {
         return FormatRead::Refused(Refusal::BadNumber);
@@ -60,7 +60,7 @@ fn decimal_of(f: &[u8], width: u64, at: usize, i: usize, e: usize) -> FormatRead
 // A decimal of three parts: the width, from byte j + 1 on, is read first.
 fn wide_decimal(f: &[u8], at: usize, i: usize, j: usize) -> FormatRead
     requires { ⌜ HasPart (now f) at i × HasPart (now f) (i + 1) j × HasBytes (now f) (j + 1) ⌝ }
-    ensures { λ r. ⌜ Reads (now (f .entry)) (decimalFormat (part at i (bytesOf (now (f .entry))) ∷ part (i + 1) j (bytesOf (now (f .entry))) ∷ partsFrom (bytesOf (now (f .entry))) (j + 1))) r ⌝ }
+    ensures { λ r. ⌜ Reads (now (f .entry)) (decimalFormat (formatPart at i (bytesOf (now (f .entry))) ∷ formatPart (i + 1) j (bytesOf (now (f .entry))) ∷ partsFrom (bytesOf (now (f .entry))) (j + 1))) r ⌝ }
 {
     let n = f.len() / 2;
     let end = parts::place_of(f, j + 1, b',');

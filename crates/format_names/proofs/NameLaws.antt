@@ -18,7 +18,7 @@ use Rattle.sheets.specs.Rule.{is, each, Meets}
 use Rattle.sheets.specs.Bytes.{Bytes, same}
 use Rattle.sheets.specs.Answer.{given}
 use Rattle.sheets.specs.Field.{leaf}
-use Rattle.sheets.specs.Format.{Row, rows, rowNamed, ofScalar, readFormat}
+use Rattle.sheets.specs.Format.{FormatRow, rows, rowNamed, ofScalar, readFormat}
 use Rattle.sheets.proofs.Tests.{never, not-some, meets, every, at-each}
 use Rattle.sheets.proofs.BytesLaws.{same-eq}
 use Rattle.sheets.proofs.SameLaws.{lengths-differ}
@@ -27,18 +27,18 @@ use Rattle.format_names.specs.Names.{ofLength, table, tableLength, rowAt
 -- ── the rows of one length
 
 -- a name finds its row among those of its length
-pub of-length : (b : Bytes) (l : List Row) → rowNamed b l ≡ rowNamed b (ofLength (length b) l)
+pub of-length : (b : Bytes) (l : List FormatRow) → rowNamed b l ≡ rowNamed b (ofLength (length b) l)
 of-length b [] = refl
 of-length b (r ∷ l) = pick (eqb (length (r .name)) (length b)) refl (of-length b l)
   where
     pick : (t : Bool) → eqb (length (r .name)) (length b) ≡ t → rowNamed b l ≡ rowNamed b (ofLength (length b) l)
         → rowNamed b (r ∷ l) ≡ rowNamed b (ofLength (length b) (r ∷ l))
-    pick true e next = rw e (ap (λ (o : Option Row). cond (same b (r .name)) (some r) o) next)
+    pick true e next = rw e (ap (λ (o : Option FormatRow). cond (same b (r .name)) (some r) o) next)
     pick false e next = rw (e, lengths-differ b (r .name) (λ d. eqb-false (length (r .name)) (length b) e (sym d))) next
 
 -- ── a group
 
-abbrev noRow : Row
+abbrev noRow : FormatRow
 noRow = record { name = []; kind = 0; unit = 0 }
 
 table-length : length table ≡ tableLength
@@ -50,7 +50,7 @@ unfolding names
 names-length = refl
 
 -- the rows of a group
-abbrev pub rowsOf : ℕ → ℕ → List Row
+abbrev pub rowsOf : ℕ → ℕ → List FormatRow
 rowsOf row count = take count (drop row table)
 
 module _ (n row start count : ℕ) (made : IsGroup n row start count) where
@@ -62,7 +62,7 @@ module _ (n row start count : ℕ) (made : IsGroup n row start count) where
   row-of i h = getD-take count (drop row table) i noRow h ∙ getD-drop row table i noRow
 
   group-cons : (i : ℕ) → i < count → drop i (rowsOf row count) ≡ rowAt (row + i) ∷ drop (i + 1) (rowsOf row count)
-  group-cons i h = rw (add-one i) (drop-cons (rowsOf row count) i noRow (omega (arith, rows-length)) ∙ ap (λ (r : Row). r ∷ drop (suc i) (rowsOf row count)) (row-of i h))
+  group-cons i h = rw (add-one i) (drop-cons (rowsOf row count) i noRow (omega (arith, rows-length)) ∙ ap (λ (r : FormatRow). r ∷ drop (suc i) (rowsOf row count)) (row-of i h))
 
   -- ── looking for a name, row by row
 
@@ -120,7 +120,7 @@ module _ (k : ℕ) (p : k ≢ 1) (q : k ≢ 2) (r : k ≢ 3) (s : k ≢ 7) where
   not-length : (m : ℕ) → isLength m ≡ true → eqb m k ≡ false
   not-length m h = ne-eqb m k (λ e. let z : isLength k ≡ false = rw (ne-eqb k 1 p, ne-eqb k 2 q, ne-eqb k 3 r, ne-eqb k 7 s) in never (sym z ∙ ap isLength (sym e) ∙ h))
 
-  no-rows : (l : List Row) → Meets (each (λ x. is (isLength (length (x .name)))) l) → ofLength k l ≡ []
+  no-rows : (l : List FormatRow) → Meets (each (λ x. is (isLength (length (x .name)))) l) → ofLength k l ≡ []
   no-rows [] m = refl
   no-rows (x ∷ l) m = rw (not-length (length (x .name)) (m .0)) (no-rows l (m .1))
 
@@ -133,7 +133,7 @@ other-length b p q r s = of-length b rows ∙ ap (rowNamed b) (no-length (length
 
 -- ── the columns of the table
 
-getD-map : (f : Row → ℕ) (l : List Row) (i : ℕ) → i < length l → getD (mapList f l) i 0 ≡ f (getD l i noRow)
+getD-map : (f : FormatRow → ℕ) (l : List FormatRow) (i : ℕ) → i < length l → getD (mapList f l) i 0 ≡ f (getD l i noRow)
 getD-map f [] i h = absurd (not-suc-le-zero h)
 getD-map f (r ∷ l) zero h = refl
 getD-map f (r ∷ l) (suc i) h = getD-map f l i (le-of-suc-le-suc h)
@@ -159,7 +159,7 @@ row-named n row start count i from made l h e =
 pub name-leaf : (sorted : Bool) (f : Bytes) (k u : ℕ) → some (k, u) ≡ leafNamed f → given (ofScalar (leaf k u)) ≡ readFormat sorted f
 name-leaf sorted f k u e = pick (rowNamed f rows) refl e
   where
-    pick : (o : Option Row) → rowNamed f rows ≡ o → some (k, u) ≡ leafOf o → given (ofScalar (leaf k u)) ≡ readFormat sorted f
+    pick : (o : Option FormatRow) → rowNamed f rows ≡ o → some (k, u) ≡ leafOf o → given (ofScalar (leaf k u)) ≡ readFormat sorted f
     pick none n e = not-some (sym e)
     pick (some r) n e =
         let q : _≡_ {A = ℕ × ℕ} (k, u) (r .kind, r .unit) = cc in

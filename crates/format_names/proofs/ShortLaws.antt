@@ -13,7 +13,7 @@ use borrow.Author.Tests.{eqb-true, eqb-false}
 use Rattle.sheets.specs.Rule.{Rule, is, _and_, each, Meets}
 use Rattle.sheets.specs.Bytes.{Bytes, all, isByte, same}
 use Rattle.sheets.specs.Text.{hex}
-use Rattle.sheets.specs.Format.{Row, rows, rowNamed}
+use Rattle.sheets.specs.Format.{FormatRow, rows, rowNamed}
 use Rattle.sheets.specs.LineTrees.{Each}
 use Rattle.sheets.specs.Metadata.{littleValue}
 use Rattle.sheets.proofs.Tests.{never, not-some, meets, every, at-each}
@@ -48,7 +48,7 @@ same-word w t h n k = pick (eqb w (littleValue t)) refl
     pick false e = other (same (lowBytes 2 w) t) refl (eqb-false w (littleValue t) e)
 
 -- a test of the pair w that was met
-pub said : (rs : List Row) (w : ℕ) (u : Bool) (byte kind : ℕ) → Small (hex (byte ∷ [])) → u ≡ eqb w (littleValue (hex (byte ∷ []))) → u ≡ true → kindAmong (hex (byte ∷ [])) rs ≡ some kind
+pub said : (rs : List FormatRow) (w : ℕ) (u : Bool) (byte kind : ℕ) → Small (hex (byte ∷ [])) → u ≡ eqb w (littleValue (hex (byte ∷ []))) → u ≡ true → kindAmong (hex (byte ∷ [])) rs ≡ some kind
     → some kind ≡ kindAmong (lowBytes 2 w) rs
 said rs w u byte kind k e h f = sym (ap (λ (t : Bytes). kindAmong t rs) (low-is (hex (byte ∷ [])) w k (sym (eqb-true w (littleValue (hex (byte ∷ []))) (sym e ∙ h)))) ∙ f)
 
@@ -57,13 +57,13 @@ pub unsaid : (w : ℕ) (u : Bool) (byte : ℕ) → w < 65536 → Small (hex (byt
 unsaid w u byte h k e l = same-word w (hex (byte ∷ [])) h refl k ∙ sym e ∙ l
 
 -- no row's name
-pub none-said : (t : Bytes) (rs : List Row) → Each (λ (r : Row). same t (hex (r .name)) ≡ false) rs → none ≡ kindAmong t rs
+pub none-said : (t : Bytes) (rs : List FormatRow) → Each (λ (r : FormatRow). same t (hex (r .name)) ≡ false) rs → none ≡ kindAmong t rs
 none-said t [] h = refl
 none-said t (r ∷ rs) h = rw (h .0) (none-said t rs (h .1))
 
 -- one row of names after another
-module _ (t : Bytes) (b : List Row) where
-  pub first-said : (a : List Row) (kind : ℕ) → kindAmong t a ≡ some kind → kindAmong t (a ++ b) ≡ some kind
+module _ (t : Bytes) (b : List FormatRow) where
+  pub first-said : (a : List FormatRow) (kind : ℕ) → kindAmong t a ≡ some kind → kindAmong t (a ++ b) ≡ some kind
   first-said [] kind h = not-some h
   first-said (r ∷ a) kind h = pick (same t (hex (r .name))) h (first-said a kind)
     where
@@ -72,7 +72,7 @@ module _ (t : Bytes) (b : List Row) where
       pick true f next = f
       pick false f next = next f
 
-  pub second-said : (a : List Row) → kindAmong t a ≡ none → kindAmong t (a ++ b) ≡ kindAmong t b
+  pub second-said : (a : List FormatRow) → kindAmong t a ≡ none → kindAmong t (a ++ b) ≡ kindAmong t b
   second-said [] h = refl
   second-said (r ∷ a) h = pick (same t (hex (r .name))) h (second-said a)
     where
@@ -96,10 +96,10 @@ same-text t b h k = pick (same (bytesOf t) b) refl
     pick false e = other (same t (hex b)) refl e
 
 -- names are bytes, and none tells a unit
-abbrev rowRule : Row → Rule
+abbrev rowRule : FormatRow → Rule
 rowRule r = all isByte (r .name) and is (eqb (r .unit) 0)
 
-among-named : (t : Bytes) → isHex t ≡ true → (rs : List Row) → Meets (each rowRule rs) → withoutUnit (kindAmong t rs) ≡ leafOf (rowNamed (bytesOf t) rs)
+among-named : (t : Bytes) → isHex t ≡ true → (rs : List FormatRow) → Meets (each rowRule rs) → withoutUnit (kindAmong t rs) ≡ leafOf (rowNamed (bytesOf t) rs)
 among-named t h [] m = refl
 among-named t h (r ∷ rs) m = rw (same-text t (r .name) h (m .0 .0)) (pick (same (bytesOf t) (r .name)) (among-named t h rs (m .1)))
   where

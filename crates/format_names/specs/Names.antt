@@ -8,7 +8,7 @@ use Prim.Native.Nat.{ℕ, _+_, _*_, _/_, _≤_, _<_}
 use lib.Dec.{eqb}
 use lib.ListN.{length, take, drop, getD}
 use Rattle.sheets.specs.Bytes.{Bytes, same, ascii}
-use Rattle.sheets.specs.Format.{Row, rows, rowNamed}
+use Rattle.sheets.specs.Format.{FormatRow, rows, rowNamed}
 use Rattle.hex.specs.Hex.{isHex}
 use Rattle.datatypes.specs.declared.units.TimeUnit.{TimeUnit}
 use Rattle.datatypes.specs.declared.units.TimeUnit.the-variants as TimeUnits
@@ -21,23 +21,23 @@ use Rattle.format_names.specs.declared.NameRead.the-variants.{Leaf, Othe
 -- ── the table
 
 -- the rows whose names have n bytes
-abbrev pub ofLength : ℕ → List Row → List Row
+abbrev pub ofLength : ℕ → List FormatRow → List FormatRow
 ofLength n [] = []
 ofLength n (r ∷ rs) = cond (eqb (length (r .name)) n) (r ∷ ofLength n rs) (ofLength n rs)
 
-unfoldable pub table : List Row
+unfoldable pub table : List FormatRow
 unfolding rows
 table = ofLength 1 rows ++ (ofLength 2 rows ++ (ofLength 3 rows ++ ofLength 7 rows))
 
 abbrev pub tableLength : ℕ
 tableLength = 34
 
-unfoldable pub rowAt : ℕ → Row
+unfoldable pub rowAt : ℕ → FormatRow
 unfolding table
 rowAt i = getD table i (record { name = []; kind = 0; unit = 0 })
 
 -- the names of rows one after the other
-abbrev pub namesOf : List Row → Bytes
+abbrev pub namesOf : List FormatRow → Bytes
 namesOf [] = []
 namesOf (r ∷ rs) = r .name ++ namesOf rs
 
@@ -68,7 +68,7 @@ abbrev pub nameOption : NameRead → Option (ℕ × ℕ)
 nameOption (Leaf kind unit) = some (kind, unit)
 nameOption Other = none
 
-abbrev pub leafOf : Option Row → Option (ℕ × ℕ)
+abbrev pub leafOf : Option FormatRow → Option (ℕ × ℕ)
 leafOf none = none
 leafOf (some r) = some (r .kind, r .unit)
 

@@ -16,7 +16,7 @@ use Rattle.sheets.specs.Format.{readId}
 use Rattle.buffer.specs.Over.{PutAt}
 use Rattle.buffer.proofs.OverLaws.{Written, none-yet, and-then}
 use Rattle.field_line.proofs.ColumnLaws.{put-same}
-use Rattle.format.specs.Parts.{readIds, part, partsFrom}
+use Rattle.format.specs.Parts.{readIds, formatPart, partsFrom}
 use Rattle.import_type.specs.TypeColumns.{IdsPuts}
 use Rattle.format.proofs.PartLaws.{PartEnds, parts-here, parts-past}
 use Rattle.import_type.specs.declared.put.IdsPut.the-variants as Ids
@@ -73,17 +73,17 @@ going-none b at out = record { ids = []; reads = start (readIds b) ∙ ap (λ (l
     start (given zs) = refl
 
 module _ (b : Bytes) (at : ℕ) (out₀ : Bytes) (from end : ℕ) (out : Bytes) (g : Going b at out₀ from end out) (to : ℕ) (p : PartEnds b from to) where
-  part-read : (a : Answer ℤ) → a ≡ readId (part from to b) → readIds b ≡ after (g .ids) (a >>= λ z. readEach readId (partsFrom b (to + 1)) >>= λ zs. given (z ∷ zs))
+  part-read : (a : Answer ℤ) → a ≡ readId (formatPart from to b) → readIds b ≡ after (g .ids) (a >>= λ z. readEach readId (partsFrom b (to + 1)) >>= λ zs. given (z ∷ zs))
   part-read a e =
       g .reads
       ∙ ap (λ (l : List Bytes). after (g .ids) (readEach readId l)) (p .parts)
       ∙ ap (λ (x : Answer ℤ). after (g .ids) (x >>= λ z. readEach readId (partsFrom b (to + 1)) >>= λ zs. given (z ∷ zs))) (sym e)
 
   -- "A number that does not read ends the format there"
-  pub going-refused : refused badNumber ≡ readId (part from to b) → readIds b ≡ refused badNumber
+  pub going-refused : refused badNumber ≡ readId (formatPart from to b) → readIds b ≡ refused badNumber
   going-refused e = part-read (refused badNumber) e
 
-  module _ (z : ℤ) (e : given z ≡ readId (part from to b)) (n : ℕ) (l : Bytes) (put : PutAt end (writeSigned z) n out l) where
+  module _ (z : ℤ) (e : given z ≡ readId (formatPart from to b)) (n : ℕ) (l : Bytes) (put : PutAt end (writeSigned z) n out l) where
     pub going-last : length b ≤ to → IdsPuts at (readIds b) out₀ l (Ids.Put n)
     going-last h =
         let w = and-then (writeSigned z) (g .written) put in

@@ -22,7 +22,7 @@ use Rattle.sheets.specs.Number.{writeSigned}
 use Rattle.sheets.specs.Text.{writeText}
 use Rattle.sheets.specs.Field.{TimeUnit, unitPlace, second, millisecond, microsecond, nanosecond, Width, bits128, bits32, bits64, bits256, timestamp, fixedSizeBinary, decimalType, fixedSizeList, union, UnionMode}
 use Rattle.sheets.specs.FieldSheet.{columns, ofDictionary, noText, toNat, decimalKind, writeList}
-use Rattle.sheets.specs.Format.{Format, ofScalar, ofNesting, ofGrouping, Row, rows, rowNamed, unsigned, dropPlus, readSize, minus, readId, widthOf, decimalParts, zone, cut, readCut, readOther, readNamed, readFormat}
+use Rattle.sheets.specs.Format.{Format, ofScalar, ofNesting, ofGrouping, FormatRow, rows, rowNamed, unsigned, dropPlus, readSize, minus, readId, widthOf, decimalParts, zone, cut, readCut, readOther, readNamed, readFormat}
 use Rattle.sheets.proofs.Tests.{meets}
 use Rattle.hex.specs.Hex.{isHex, bytesOf}
 use Rattle.hex.proofs.HexLaws.{twice-length}
@@ -224,11 +224,11 @@ colon-short b = pick (ltb k (length b)) refl
         rw (cut-at b k refl h) (wider (88 + 21 * length (drop (k + 1) b)) (67 + 21 * length b) (readCut (take k b) (drop (k + 1) b)) (omega (arith, length-drop (k + 1) b)) (cut-short (take k b) (drop (k + 1) b)))
     pick false e = rw (cut-none b k refl (ltb-false k (length b) e)) tt
 
-abbrev RowSmall : Option Row → Type 0
+abbrev RowSmall : Option FormatRow → Type 0
 RowSmall none = Unit {0}
 RowSmall (some r) = (r .kind < 2 ^ 64) × (r .unit < 2 ^ 64)
 
-row-small : (b : Bytes) (l : List Row) → Meets (each (λ r. is (ltb (r .kind) 64) and is (ltb (r .unit) 64)) l) → RowSmall (rowNamed b l)
+row-small : (b : Bytes) (l : List FormatRow) → Meets (each (λ r. is (ltb (r .kind) 64) and is (ltb (r .unit) 64)) l) → RowSmall (rowNamed b l)
 row-small b [] m = tt
 row-small b (r ∷ l) m = pick (same b (r .name)) (row-small b l (m .1))
   where
@@ -240,7 +240,7 @@ rows-small : (b : Bytes) → RowSmall (rowNamed b rows)
 unfolding rows
 rows-small b = row-small b rows (meets (each (λ r. is (ltb (r .kind) 64) and is (ltb (r .unit) 64)) rows) refl)
 
-named-short : (n : ℕ) (o : Option Row) (a : Answer Format) → RowSmall o → FormatShort (67 + n) a → FormatShort (67 + n) (readNamed o a)
+named-short : (n : ℕ) (o : Option FormatRow) (a : Answer Format) → RowSmall o → FormatShort (67 + n) a → FormatShort (67 + n) (readNamed o a)
 named-short n none a h k = k
 named-short n (some r) a h k = omega (arith, numbers-short (r .kind) (r .unit) 0 (h .0) (h .1) (omega arith))
 

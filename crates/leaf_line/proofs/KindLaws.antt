@@ -12,7 +12,7 @@ use borrow.Author.Tests.{eqb-true, leb-true, ltb-true, lt-ltb}
 use Rattle.sheets.specs.Rule.{Rule, is, _and_, each, Meets}
 use Rattle.sheets.specs.Bytes.{Bytes, all, isByte, same}
 use Rattle.sheets.specs.Text.{hex}
-use Rattle.sheets.specs.Format.{Row, rows}
+use Rattle.sheets.specs.Format.{FormatRow, rows}
 use Rattle.sheets.specs.Kind
 use Rattle.sheets.proofs.Tests.{not-some, meets}
 use Rattle.sheets.proofs.BytesLaws.{same-eq}
@@ -23,7 +23,7 @@ use Rattle.format_names.proofs.NameLaws.{name-leaf}
 use Rattle.format_names.proofs.ShortLaws.{short-named}
 use Rattle.leaf_line.specs.Leaf.{Names}
 
-abbrev rowRule : Row → Rule
+abbrev rowRule : FormatRow → Rule
 rowRule r = is (eqb (length (r .name)) 1) and (is (ltb 0 (getD (r .name) 0 0)) and (is (ltb (getD (r .name) 0 0) 128) and is (leb (r .kind) Kind.LargeUtf8)))
 
 rows-rule : Meets (each rowRule shortRows)
@@ -43,7 +43,7 @@ record Said (t : Bytes) (kind : ℕ) : Type 0 where
   pub ascii : byte < 128
   pub known : kind ≤ Kind.LargeUtf8
 
-among : (t : Bytes) (kind : ℕ) (rs : List Row) → Meets (each rowRule rs) → kindAmong t rs ≡ some kind → Said t kind
+among : (t : Bytes) (kind : ℕ) (rs : List FormatRow) → Meets (each rowRule rs) → kindAmong t rs ≡ some kind → Said t kind
 among t kind [] m e = not-some e
 among t kind (r ∷ rs) m e = pick (same t (hex (r .name))) refl e (among t kind rs (m .1))
   where

@@ -9,14 +9,14 @@ use lib.IntN.{ℤ}
 use lib.ListN.{length}
 use Rattle.sheets.specs.Bytes.{Bytes}
 use Rattle.sheets.specs.Answer.{Answer, refused, given, _>>=_}
-use Rattle.sheets.specs.Schema.{Line, childrenOf, dictionaryOf}
+use Rattle.sheets.specs.Schema.{Line, childrenOf}
 use Rattle.sheets.specs.FieldSheet.{Shape, columns, ofScalar, ofNesting, ofGrouping, ofDictionary, ofExtension}
 use Rattle.sheets.specs.Import.{formatText}
 use Rattle.sheets.specs.ImportLines.{nodeShape, below}
 use Rattle.refusal.specs.declared.Refusal.{Refusal as Reason}
 use Rattle.refusal.specs.Refusals.{refusalOf}
 use Rattle.buffer.specs.Over.{PutAt}
-use Rattle.buffer.proofs.OverLaws.{Written, none-yet, and-then}
+use Rattle.buffer.proofs.OverLaws.{none-yet, and-then}
 use Rattle.field_line.specs.Columns.{columnsPiece, endPiece}
 use Rattle.field_line.proofs.LengthLaws.{end-short}
 use Rattle.schema_line.specs.declared.SchemaLine.{SchemaLine}

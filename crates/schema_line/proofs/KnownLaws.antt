@@ -13,7 +13,7 @@ use Rattle.sheets.specs.Refusal.{badLines}
 use Rattle.sheets.specs.Rule.{Meets}
 use Rattle.sheets.specs.Bytes.{Bytes}
 use Rattle.sheets.specs.Answer.{refused, given}
-use Rattle.sheets.specs.Codec.{Codec, Row as Columns, number, signed, text, done, _▸_}
+use Rattle.sheets.specs.Codec.{Codec, ColumnsCodec as Columns, number, signed, text, done, _▸_}
 use Rattle.sheets.specs.Number.{readNumber, readSigned}
 use Rattle.sheets.specs.Schema.{Line, childrenOf, dictionaryOf}
 use Rattle.sheets.specs.TreeWalks.{HasTree}

@@ -1,4 +1,4 @@
--- `parse::digits` meets its contract. The loop's invariant: the bytes from `at` on make what those from `i` on make of the value `v` so far.
+-- `parse::number_below` meets its contract. The loop's invariant: the bytes from `at` on make what those from `i` on make of the value `v` so far.
 -- The measure is what is left of the bytes. Assumes nothing.
 use mathlib.Core.Path.{_≡_, sym, ap, _∙_}
 use Prim.Native.Nat.{_≤_, _<_, _-_, _+_}
@@ -13,8 +13,8 @@ use Rattle.decimal.proofs.DigitLaws.{bad, next, within, done}
 use Rattle.parse.specs.Parse.{numberBelow}
 use Rattle.parse.proofs.DigitLaws.{no-digits, some-digits}
 use borrow.Author.Needs.{needs}
-use Rattle.parse.proofs.digits.Statement.{statement}
-use Rattle.parse.proofs.digits.Tie as tie
+use Rattle.parse.proofs.number_below.Statement.{statement}
+use Rattle.parse.proofs.number_below.Tie as tie
 
 abbrev Inv-loop : tie.InvT-loop
 Inv-loop s at max n v₀ i₀ v i = (n ≡ length (bytesOf s)) × (v ≤ max) × (numberBelow (max + 1) (drop at (bytesOf s)) ≡ digitsBelow badNumber (max + 1) v (drop i (bytesOf s)))
@@ -79,8 +79,8 @@ returns-3 c =
     let st = c .before .before .before .before .args in
     sym (l .inv .2 ∙ done badNumber (st .max + 1) (l .v) (bytesOf (st .s .now)) (l .i) (omega (arith, l .inv .0, c .loop-test .left)) (omega (arith, l .inv .1)))
 
-pub digits-spec : {M : Type 1} → statement M
-digits-spec =
+pub number-below-spec : {M : Type 1} → statement M
+number-below-spec =
     tie.close
     (tie.spec
     Inv-loop
