@@ -1,6 +1,6 @@
 -- Laws of `over` and `overAt`, by recursion on the place and on both lists. `Written` carries a chain of writes, each from the place where the one
 -- before ended; `over-lent` says what a call on `&mut out[n..]` leaves of the whole. Assumes nothing.
-use mathlib.Core.Path.{_≡_, refl, sym, ap, ap₂, _∙_}
+use mathlib.Core.Path.{_≡_, refl, sym, ap, ap₂, subst, _∙_}
 use mathlib.Core.List.{[], _∷_, _++_, append-nil}
 use Prim.Native.Nat.{ℕ, zero, suc, _+_, _-_, _≤_, _<_, min}
 use native.Mathlib.Nat.{not-suc-le-zero, le-of-suc-le-suc, le-of-eq, zero-add, suc-add, zero-min, min-zero, suc-min-suc, add-zero, add-assoc}
@@ -9,7 +9,7 @@ use lib.ListN.{length, getD, set, take, drop, length-append, length-drop, drop-o
 use lib.Seq.{take-all}
 use borrow.Rule.Slice.PartMut.{same-len-mid}
 use Rattle.sheets.specs.Bytes.{Bytes}
-use Rattle.buffer.specs.Over.{over, overAt}
+use Rattle.buffer.specs.Over.{over, overAt, PutAt, PutFirst}
 
 -- ---- over
 
@@ -151,7 +151,7 @@ none-yet at out = record { place = sym (add-zero at); holds = sym (overAt-nothin
 
 -- one text more, by a call whose contract is that of `put_at`
 pub and-then : {at : ℕ} {s out : Bytes} {n : ℕ} {l : Bytes} (t : Bytes) {m : ℕ} {k : Bytes} → Written at s out n l
-    → (m ≡ n + length t) × (k ≡ overAt n t l) → Written at (s ++ t) out m k
+    → PutAt n t m l k → Written at (s ++ t) out m k
 and-then {at} {s} {out} t w p =
     record {
       place = p .0 ∙ ap (λ (x : ℕ). x + length t) (w .place) ∙ add-assoc at (length s) (length t) ∙ ap (λ (x : ℕ). at + x) (sym (length-append s t));
@@ -168,9 +168,22 @@ and-lent {at} {s} {out} {n} {l} t {w} {m} {part} v g h q =
 pub length-written : {at : ℕ} {s out : Bytes} {n : ℕ} {l : Bytes} → Written at s out n l → length l ≡ length out
 length-written {at} {s} {out} v = ap length (v .holds) ∙ length-overAt at s out
 
+-- to write from place 0 on is to write over the first bytes
+pub put-first : (t : Bytes) (r : ℕ) (out out' : Bytes) → PutAt 0 t r out out' ≡ PutFirst t r out out'
+put-first t r out out' = ap₂ (λ (n : ℕ) (b : Bytes). (r ≡ n) × (out' ≡ b)) (zero-add (length t)) (overAt-zero t out)
+
+pub put-over : (t out : Bytes) {r : ℕ} {out' : Bytes} → PutAt 0 t r out out' → PutFirst t r out out'
+put-over t out {r} {out'} p = subst (λ (x : Type 0). x) (put-first t r out out') p
+
 -- a chain from the first byte on
-pub whole : {s out : Bytes} {n : ℕ} {l : Bytes} → Written 0 s out n l → (n ≡ length s) × (l ≡ over s out)
-whole {s} {out} v = (v .place ∙ zero-add (length s), v .holds ∙ overAt-zero s out)
+pub whole : {s out : Bytes} {n : ℕ} {l : Bytes} → Written 0 s out n l → PutFirst s n out l
+whole {s} {out} v = put-over s out (v .place, v .holds)
+
+-- s was written over out, which is now l, and t over the rest of l, lent as `&mut l[w..]`
+pub put-lent : (s t out : Bytes) {l part : Bytes} {n m k w : ℕ} → PutFirst s n out l → w ≡ min n (length l) → PutFirst t m (take (length l - w) (drop w l)) part → k ≡ n + m
+    → PutFirst (s ++ t) k out (take w l ++ (part ++ drop (length l - w) (drop w l)))
+put-lent s t out {l} {part} {n} {m} {k} {w} a g b q =
+    (q ∙ ap₂ (λ (x y : ℕ). x + y) (a .0) (b .0) ∙ sym (length-append s t), over-lent s t out l part n w (a .1) (a .0) g (b .1))
 
 -- one byte stored is one byte written over
 pub stored : (at : ℕ) (b : ℕ) (out : Bytes) → at < length out → set out at b ≡ overAt at (b ∷ []) out

@@ -23,6 +23,10 @@ overAt (suc at) s (o ∷ out) = o ∷ overAt at s out
 abbrev pub PutAt : ℕ → Bytes → ℕ → Bytes → Bytes → Type 0
 PutAt at t r out out' = (r ≡ at + length t) × (out' ≡ overAt at t out)
 
+-- the same over the buffer's first bytes: `PutAt` at place 0 (`put-first`), so that r is the text's length
+abbrev pub PutFirst : Bytes → ℕ → Bytes → Bytes → Type 0
+PutFirst t r out out' = (r ≡ length t) × (out' ≡ over t out)
+
 -- a number that `usize` holds
 abbrev pub IsUsize : ℕ → Type 0
 IsUsize n = n < 2 ^ 64

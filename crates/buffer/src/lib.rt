@@ -1,10 +1,17 @@
-// Byte strings written into a lent buffer as far as they fit, compared, and cleared. A writer whose buffer is full goes on counting.
+// Byte strings written into a lent buffer as far as they fit, compared, and cleared; one byte as a number. A writer whose buffer is full goes on counting.
 ghost use mathlib.Core.Path.{_≡_};
 ghost use mathlib.Core.List.{[], _∷_};
-ghost use Prim.Native.Nat.{_+_, min};
+ghost use Prim.Native.Nat.{_+_, _<_, min};
 ghost use lib.ListN.{length, replicate};
 ghost use Rattle.sheets.specs.Bytes.{same};
 ghost use Rattle.buffer.specs.Over.{over, IsUsize, PutAt};
+
+// A byte as a number of 64 bits.
+pub fn wide(b: u8) -> u64
+    ensures { λ r. ⌜ (r ≡ b) × (r < 256) ⌝ }
+{
+    b as u64
+}
 
 // The place n, or the end where that comes first: a start for `&mut out[n..]` that is always in range.
 pub fn within(n: usize, end: usize) -> usize

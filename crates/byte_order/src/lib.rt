@@ -1,6 +1,6 @@
 // Byte strings compared in byte order, as the source's `str` and `BTreeMap` have it.
 ghost use mathlib.Core.Path.{_≡_};
-ghost use Prim.Native.Nat.{_+_, _-_, _≤_, _<_, min};
+ghost use Prim.Native.Nat.{_+_, _-_, _≤_, min};
 ghost use lib.ListN.{length, drop};
 ghost use Rattle.sheets.specs.Field.{before};
 ghost use Rattle.byte_order.specs.Compare.{ordering, orderingAnswer, Word};
@@ -12,18 +12,14 @@ pub enum Ordering {
     Greater,
 }
 
-fn wide(b: u8) -> u32
-    ensures { λ r. ⌜ (r ≡ b) × (r < 256) ⌝ }
-{
-    b as u32
-}
-
 // Four bytes as one number: two such numbers stand in the order of their bytes, so that a comparison takes four bytes at a time.
 fn word_at(s: &[u8], i: usize) -> u32
     requires { ⌜ i + 4 ≤ length (now s) ⌝ }
     ensures { λ r. ⌜ Word (now (s .entry)) i r ⌝ }
 {
-    wide(s[i]) * 16777216 + wide(s[i + 1]) * 65536 + wide(s[i + 2]) * 256 + wide(s[i + 3])
+    let high = buffer::wide(s[i]) * 256 + buffer::wide(s[i + 1]);
+    let low = buffer::wide(s[i + 2]) * 256 + buffer::wide(s[i + 3]);
+    (high * 65536 + low) as u32
 }
 
 fn compare_bytes(a: &[u8], b: &[u8], from: usize) -> Ordering

@@ -10,7 +10,7 @@ use Rattle.sheets.specs.Refusal.{badLines}
 use Rattle.sheets.specs.Rule.{Meets}
 use Rattle.sheets.specs.Bytes.{Bytes, lacks, split}
 use Rattle.sheets.specs.Answer.{Answer, refused, given, _>>=_}
-use Rattle.sheets.specs.Codec.{Codec, Row as Columns, done, noColumns, readColumn, _▸_}
+use Rattle.sheets.specs.Codec.{Codec, ColumnsCodec as Columns, done, noColumns, readColumn, _▸_}
 use Rattle.sheets.proofs.Tests.{first-gave}
 use Rattle.sheets.proofs.BytesLaws.{all-append, split-next, split-last, Cut, first-of, cut-same}
 use Rattle.sheets.proofs.InverseLaws.{split-some}

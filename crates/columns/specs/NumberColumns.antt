@@ -35,9 +35,9 @@ abbrev pub numberAnswer : NumberColumn → Answer (ℕ × ℕ)
 numberAnswer (Unsigned.At n e) = given (n, e)
 numberAnswer Unsigned.Bad = refused badLines
 
-abbrev pub signedAnswer : SignedColumn → Answer (ℤ × ℕ)
-signedAnswer (Signed.At z e) = given (z, e)
-signedAnswer Signed.Bad = refused badLines
+abbrev pub signedColumnAnswer : SignedColumn → Answer (ℤ × ℕ)
+signedColumnAnswer (Signed.At z e) = given (z, e)
+signedColumnAnswer Signed.Bad = refused badLines
 
 -- ── numbers that are known to stand
 

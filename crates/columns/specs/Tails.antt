@@ -6,7 +6,7 @@ use lib.ListN.{drop}
 use Rattle.sheets.specs.Rule.{Meets}
 use Rattle.sheets.specs.Bytes.{Bytes, lineEnd, space, lacks, split}
 use Rattle.sheets.specs.Answer.{given}
-use Rattle.sheets.specs.Codec.{Row as Columns}
+use Rattle.sheets.specs.Codec.{ColumnsCodec as Columns}
 
 -- from p on the columns x stand to the end of a line, and then rest
 pub record Tail {A : Type 0} (row : Columns A) (s : Bytes) (p : ℕ) (x : A) (rest : Bytes) : Type 0 where

@@ -1,13 +1,12 @@
 // The numbers in the columns of a line: read and tested, or read where they are known to stand.
 ghost use mathlib.Core.Path.{_≡_};
 ghost use mathlib.Core.Bool.{true};
-ghost use Prim.Native.Nat.{_<_};
 ghost use lib.ListN.{drop};
 ghost use Rattle.sheets.specs.Bytes.{space};
 ghost use Rattle.sheets.specs.Answer.{given};
 ghost use Rattle.sheets.specs.Number.{isDigit, readNumber, readSigned};
 ghost use Rattle.columns.specs.Columns.{isStop, part, oneOf};
-ghost use Rattle.columns.specs.NumberColumns.{numberIn, signedIn, numberAnswer, signedAnswer, HasNumber, HasSigned};
+ghost use Rattle.columns.specs.NumberColumns.{numberIn, signedIn, numberAnswer, signedColumnAnswer, HasNumber, HasSigned};
 use crate::Place;
 use decimal::Signed64;
 use decimal::Unsigned64;
@@ -20,12 +19,6 @@ pub enum NumberColumn {
 pub enum SignedColumn {
     At(i64, usize),
     Bad,
-}
-
-pub fn wide(b: u8) -> u64
-    ensures { λ r. ⌜ (r ≡ b) × (r < 256) ⌝ }
-{
-    b as u64
 }
 
 // Whether the column from place at on is one digit, and the byte stop ends it: so most numbers of a sheet are.
@@ -43,7 +36,7 @@ fn one_digit(s: &[u8], at: usize, stop: u8) -> bool
 
 // The same as `signed_column`, for a number of any length.
 fn any_signed(s: &[u8], at: usize) -> SignedColumn
-    ensures { λ r. ⌜ signedAnswer r ≡ signedIn space (now (s .entry)) at ⌝ }
+    ensures { λ r. ⌜ signedColumnAnswer r ≡ signedIn space (now (s .entry)) at ⌝ }
 {
     let Place::At(e) = crate::column(s, at, crate::number_end(s, at), b' ') else {
         return SignedColumn::Bad;
@@ -55,10 +48,10 @@ fn any_signed(s: &[u8], at: usize) -> SignedColumn
 }
 
 pub fn signed_column(s: &[u8], at: usize) -> SignedColumn
-    ensures { λ r. ⌜ signedAnswer r ≡ signedIn space (now (s .entry)) at ⌝ }
+    ensures { λ r. ⌜ signedColumnAnswer r ≡ signedIn space (now (s .entry)) at ⌝ }
 {
     if one_digit(s, at, b' ') {
-        return SignedColumn::At(wide(s[at] - b'0') as i64, at + 1);
+        return SignedColumn::At(buffer::wide(s[at] - b'0') as i64, at + 1);
     }
     any_signed(s, at)
 }
@@ -81,7 +74,7 @@ pub fn number_column(s: &[u8], at: usize, stop: u8) -> NumberColumn
     ensures { λ r. ⌜ numberAnswer r ≡ numberIn stop (now (s .entry)) at ⌝ }
 {
     if one_digit(s, at, stop) {
-        return NumberColumn::At(wide(s[at] - b'0'), at + 1);
+        return NumberColumn::At(buffer::wide(s[at] - b'0'), at + 1);
     }
     any_number(s, at, stop)
 }
@@ -94,7 +87,7 @@ pub fn number_at(s: &[u8], at: usize, end: usize) -> u64
     let mut v: u64 = 0;
     let mut i = at;
     while i < end {
-        v = v * 10 + wide(s[i] - b'0');
+        v = v * 10 + buffer::wide(s[i] - b'0');
         i += 1;
     }
     v

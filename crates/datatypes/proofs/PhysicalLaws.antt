@@ -10,7 +10,7 @@ use lib.Dec.{T}
 use borrow.Author.Tests.{ne-eqb, lt-leb, le-leb, ltb-true}
 use Rattle.sheets.specs.Refusal.{undefinedMapping}
 use Rattle.sheets.specs.Answer.{Answer, refused, given}
-use Rattle.sheets.specs.Mappings.{Row, rowAt, leafRows, intervalPhysical, leafPhysical, scalarPhysical, nestingPhysical, groupingPhysical, toPhysicalType}
+use Rattle.sheets.specs.Mappings.{LeafRow, rowAt, leafRows, intervalPhysical, leafPhysical, scalarPhysical, nestingPhysical, groupingPhysical, toPhysicalType}
 use Rattle.sheets.specs.Mappings.{PhysicalType as HostPhysical}
 use Rattle.sheets.specs.Field.{bits128, bits32, bits64, bits256, Scalar, leaf, timestamp, fixedSizeBinary, decimalType, Nesting, list, largeList, fixedSizeList, map, Grouping, struct, union, ArrowDataType, dictionary, isLeaf, scalarRule, typeRule}
 use Rattle.sheets.specs.FieldSheet.{columns, ofScalar, ofNesting, ofGrouping, ofDictionary}
@@ -40,7 +40,7 @@ interval-last n h =
 
 -- ── the kinds that an arm lists, the last arm's first
 
-row-first : (k : ℕ) (rows : List Row) → rowAt k rows ≡ firstAt (λ (r : Row). r .kind) k rows
+row-first : (k : ℕ) (rows : List LeafRow) → rowAt k rows ≡ firstAt (λ (r : LeafRow). r .kind) k rows
 row-first k [] = refl
 row-first k (r ∷ rows) = rw (row-first k rows)
 
@@ -96,7 +96,7 @@ left-over : (k p : ℕ) → leftOver k ≡ true → kindPhysical k p ≡ refused
 unfolding leafRows
 left-over k p h =
     let other : firstAt (λ (w : ℕ × Answer HostPhysical). w .0) k (otherKinds p) ≡ none = apart (λ (w : ℕ × Answer HostPhysical). w .0) leftOver k h (otherKinds p) refl in
-    let no-row : rowAt k leafRows ≡ none = row-first k leafRows ∙ apart (λ (w : Row). w .kind) leftOver k h leafRows refl in
+    let no-row : rowAt k leafRows ≡ none = row-first k leafRows ∙ apart (λ (w : LeafRow). w .kind) leftOver k h leafRows refl in
     let no-interval : k ≡ Kind.Interval → ⊥ = λ e. subst T (sym h ∙ ap leftOver e) tt in
     rw (other, ne-eqb k Kind.Interval no-interval, no-row)
 

@@ -11,10 +11,10 @@ use borrow.Author.Tests.{leb-true}
 use Rattle.sheets.specs.Refusal.{badIndex}
 use Rattle.sheets.specs.Bytes.{Bytes, same}
 use Rattle.sheets.specs.Answer.{refused}
-use Rattle.sheets.specs.Format.{Row, rows, rowNamed, toIntegerType}
+use Rattle.sheets.specs.Format.{FormatRow, rows, rowNamed, toIntegerType}
 use Rattle.sheets.proofs.Tests.{not-some, and-left, and-right}
 use Rattle.sheets.proofs.BytesLaws.{same-eq}
-use Rattle.format.specs.Names.{leafOf}
+use Rattle.format_names.specs.Names.{leafOf}
 use Rattle.format.specs.Dictionary.{isIndexKind, indexOf}
 
 -- ── other kinds
@@ -42,7 +42,7 @@ other-kind k a b c d e f g h = pick (isIndexKind k) refl
 -- ── the row of a name
 
 -- of each row, its name says the index type that its kind says
-abbrev Indexes : List Row → Type 0
+abbrev Indexes : List FormatRow → Type 0
 Indexes [] = Unit {0}
 Indexes (r ∷ l) = (toIntegerType (r .name) ≡ indexOf (r .kind)) × Indexes l
 
@@ -50,21 +50,21 @@ rows-index : Indexes rows
 unfolding rows
 rows-index = (refl, (refl, (refl, (refl, (refl, (refl, (refl, (refl, (refl, (refl, (refl, (refl, (refl, (refl, (refl, (refl, (refl, (refl, (refl, (refl, (refl, (refl, (refl, (refl, (refl, (refl, (refl, (refl, (refl, (refl, (refl, (refl, (refl, (refl, tt))))))))))))))))))))))))))))))))))
 
-index-row : (b : Bytes) (l : List Row) → Indexes l → (r : Row) → rowNamed b l ≡ some r → toIntegerType b ≡ indexOf (r .kind)
+index-row : (b : Bytes) (l : List FormatRow) → Indexes l → (r : FormatRow) → rowNamed b l ≡ some r → toIntegerType b ≡ indexOf (r .kind)
 index-row b [] h r e = not-some e
 index-row b (x ∷ l) h r e = pick (same b (x .name)) refl e (index-row b l (h .1) r)
   where
     pick : (t : Bool) → same b (x .name) ≡ t → cond t (some x) (rowNamed b l) ≡ some r → (rowNamed b l ≡ some r → toIntegerType b ≡ indexOf (r .kind)) → toIntegerType b ≡ indexOf (r .kind)
     pick true s g next =
         let q : x ≡ r = cc in
-        ap toIntegerType (same-eq b (x .name) s) ∙ h .0 ∙ ap (λ (y : Row). indexOf (y .kind)) q
+        ap toIntegerType (same-eq b (x .name) s) ∙ h .0 ∙ ap (λ (y : FormatRow). indexOf (y .kind)) q
     pick false s g next = next g
 
 -- what a name's kind says
 pub index-named : (b : Bytes) (k u : ℕ) → some (k, u) ≡ leafOf (rowNamed b rows) → toIntegerType b ≡ indexOf k
 index-named b k u e = pick (rowNamed b rows) refl e
   where
-    pick : (o : Option Row) → rowNamed b rows ≡ o → some (k, u) ≡ leafOf o → toIntegerType b ≡ indexOf k
+    pick : (o : Option FormatRow) → rowNamed b rows ≡ o → some (k, u) ≡ leafOf o → toIntegerType b ≡ indexOf k
     pick none n e = not-some (sym e)
     pick (some r) n e =
         let q : _≡_ {A = ℕ × ℕ} (k, u) (r .kind, r .unit) = cc in
@@ -72,11 +72,11 @@ index-named b k u e = pick (rowNamed b rows) refl e
 
 -- ── no row
 
-abbrev NoneNamed : Bytes → List Row → Type 0
+abbrev NoneNamed : Bytes → List FormatRow → Type 0
 NoneNamed b [] = Unit {0}
 NoneNamed b (r ∷ l) = (same b (r .name) ≡ false) × NoneNamed b l
 
-none-named : (b : Bytes) (l : List Row) → none ≡ leafOf (rowNamed b l) → NoneNamed b l
+none-named : (b : Bytes) (l : List FormatRow) → none ≡ leafOf (rowNamed b l) → NoneNamed b l
 none-named b [] e = tt
 none-named b (x ∷ l) e = pick (same b (x .name)) refl e (none-named b l)
   where

@@ -16,7 +16,7 @@ use Rattle.sheets.specs.Format.{cut}
 use Rattle.hex.specs.Hex.{isHex, bytesOf}
 use Rattle.hex.proofs.HexLaws.{length-bytes}
 use Rattle.hex.proofs.PartLaws.{hex-drop, bytes-drop, hex-part, bytes-part}
-use Rattle.format.specs.Parts.{part}
+use Rattle.format.specs.Parts.{formatPart}
 
 -- ── the first colon
 
@@ -50,15 +50,15 @@ part-hex s h from to =
     let e : 2 * to - 2 * from ≡ 2 * (to - from) = omega arith in
     ap (λ (n : ℕ). isHex (take n (drop (2 * from) s))) e ∙ hex-part s h from (to - from)
 
-pub part-bytes : (s : Bytes) → isHex s ≡ true → (from to : ℕ) → bytesOf (take (2 * to - 2 * from) (drop (2 * from) s)) ≡ part from to (bytesOf s)
+pub part-bytes : (s : Bytes) → isHex s ≡ true → (from to : ℕ) → bytesOf (take (2 * to - 2 * from) (drop (2 * from) s)) ≡ formatPart from to (bytesOf s)
 part-bytes s h from to =
     let e : 2 * to - 2 * from ≡ 2 * (to - from) = omega arith in
     ap (λ (n : ℕ). bytesOf (take n (drop (2 * from) s))) e ∙ bytes-part s h from (to - from)
 
-pub rest-part : (s : Bytes) → isHex s ≡ true → (at : ℕ) → part at (length s / 2) (bytesOf s) ≡ drop at (bytesOf s)
+pub rest-part : (s : Bytes) → isHex s ≡ true → (at : ℕ) → formatPart at (length s / 2) (bytesOf s) ≡ drop at (bytesOf s)
 rest-part s h at = take-all (length s / 2 - at) (drop at (bytesOf s)) (omega (arith, length-drop at (bytesOf s), length-bytes s h))
 
-pub first-part : (k : ℕ) (b : Bytes) → part 0 k b ≡ take k b
+pub first-part : (k : ℕ) (b : Bytes) → formatPart 0 k b ≡ take k b
 first-part k b = let e : k - 0 ≡ k = omega arith in ap (λ (n : ℕ). take n b) e
 
 -- what follows the separator at byte k

@@ -9,17 +9,17 @@ use lib.ListN.{length, drop}
 use Rattle.sheets.specs.Refusal.{badNumber, badDecimal, unsupportedFormat}
 use Rattle.sheets.specs.Bytes.{Bytes, ascii, comma, same, split}
 use Rattle.sheets.specs.Answer.{Answer, refused, given, _>>=_}
-use Rattle.sheets.specs.Field.{Width, bits128, decimalType, fixedSizeBinary, leaf, list, largeList, fixedSizeList, map, struct}
-use Rattle.sheets.specs.Format.{Format, ofScalar, ofNesting, ofGrouping, Row, rows, rowNamed, readSize, widthOf, cut, readCut, readOther, readFormat}
+use Rattle.sheets.specs.Field.{Width, bits128, decimalType, fixedSizeBinary, list, largeList, fixedSizeList, map, struct}
+use Rattle.sheets.specs.Format.{Format, ofScalar, ofNesting, ofGrouping, FormatRow, rows, rowNamed, readSize, widthOf, cut, readCut, readOther, readFormat}
 use Rattle.sheets.proofs.Tests.{not-some}
 use Rattle.sheets.proofs.BytesLaws.{same-eq}
 use Rattle.datatypes.specs.declared.units.TimeUnit.{TimeUnit}
 use Rattle.datatypes.specs.declared.units.TimeUnit.the-variants as TimeUnits
 use Rattle.datatypes.specs.declared.units.UnionMode.{UnionMode}
 use Rattle.datatypes.specs.declared.units.UnionMode.the-variants as UnionModes
-use Rattle.format.specs.Names.{leafOf, leafNamed, headUnit, headMode}
+use Rattle.format_names.specs.Names.{leafOf, leafNamed, headUnit, headMode}
 use Rattle.sheets.specs.Parts.{partsFrom}
-use Rattle.format.specs.Parts.{part}
+use Rattle.format.specs.Parts.{formatPart}
 use Rattle.format.specs.Formats.{timestampFormat, unionFormat, Reads, decimalOf, decimalFormat}
 use Rattle.format.specs.declared.read.FormatRead.{FormatRead}
 use Rattle.sheets.proofs.PartLaws.{PartEnds, parts-here, last-part}
@@ -57,18 +57,18 @@ module _ (b : Bytes) (from to : ℕ) (e : PartEnds b from to) where
   one-part h = ap decimalFormat (sym (last-part b from to e h))
 
   -- the second of two
-  pub second-part : (p : Bytes) → length b ≤ to → decimalFormat (p ∷ part from to b ∷ []) ≡ decimalFormat (p ∷ partsFrom b from)
+  pub second-part : (p : Bytes) → length b ≤ to → decimalFormat (p ∷ formatPart from to b ∷ []) ≡ decimalFormat (p ∷ partsFrom b from)
   second-part p h = ap (λ (ps : List Bytes). decimalFormat (p ∷ ps)) (sym (last-part b from to e h))
 
   -- the third of three
-  pub third-part : (p s : Bytes) → length b ≤ to → decimalFormat (p ∷ s ∷ part from to b ∷ []) ≡ decimalFormat (p ∷ s ∷ partsFrom b from)
+  pub third-part : (p s : Bytes) → length b ≤ to → decimalFormat (p ∷ s ∷ formatPart from to b ∷ []) ≡ decimalFormat (p ∷ s ∷ partsFrom b from)
   third-part p s h = ap (λ (ps : List Bytes). decimalFormat (p ∷ s ∷ ps)) (sym (last-part b from to e h))
 
   -- a fourth
   pub four-parts : (p s : Bytes) → to < length b → refused badDecimal ≡ decimalFormat (p ∷ s ∷ partsFrom b from)
   four-parts p s h =
       let (x, xs, q) = split-some 44 (drop (to + 1) b) in
-      sym (ap (λ (ps : List Bytes). decimalFormat (p ∷ s ∷ ps)) (e .parts ∙ ap (λ (ps : List Bytes). part from to b ∷ ps) (parts-here b (to + 1) (omega arith) ∙ q)))
+      sym (ap (λ (ps : List Bytes). decimalFormat (p ∷ s ∷ ps)) (e .parts ∙ ap (λ (ps : List Bytes). formatPart from to b ∷ ps) (parts-here b (to + 1) (omega arith) ∙ q)))
 
 -- ── heads
 
@@ -155,20 +155,11 @@ module _ (h r : Bytes) where
 -- ── names
 
 module _ (sorted : Bool) (f : Bytes) where
-  pub name-leaf : (k u : ℕ) → some (k, u) ≡ leafNamed f → given (ofScalar (leaf k u)) ≡ readFormat sorted f
-  name-leaf k u e = pick (rowNamed f rows) refl e
-    where
-      pick : (o : Option Row) → rowNamed f rows ≡ o → some (k, u) ≡ leafOf o → given (ofScalar (leaf k u)) ≡ readFormat sorted f
-      pick none n e = not-some (sym e)
-      pick (some r) n e =
-          let q : _≡_ {A = ℕ × ℕ} (k, u) (r .kind, r .unit) = cc in
-          rw n (ap (λ (x : ℕ × ℕ). given (ofScalar (leaf (x .0) (x .1)))) q)
-
   module _ (other : none ≡ leafNamed f) where
     name-none : rowNamed f rows ≡ none
     name-none = pick (rowNamed f rows) other
       where
-        pick : (o : Option Row) → none ≡ leafOf o → o ≡ none
+        pick : (o : Option FormatRow) → none ≡ leafOf o → o ≡ none
         pick none e = refl
         pick (some r) e = not-some e
 

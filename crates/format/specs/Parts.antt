@@ -18,12 +18,12 @@ abbrev pub HasPart : Bytes → ℕ → ℕ → Type 0
 HasPart f from to = (isHex f ≡ true) × (from ≤ to) × (to ≤ length (bytesOf f))
 
 -- the bytes from `from` on and before `to`
-abbrev pub part : ℕ → ℕ → Bytes → Bytes
-part from to b = take (to - from) (drop from b)
+abbrev pub formatPart : ℕ → ℕ → Bytes → Bytes
+formatPart from to b = take (to - from) (drop from b)
 
 -- t is the text of that part
-abbrev pub IsPart : Bytes → ℕ → ℕ → Bytes → Type 0
-IsPart f from to t = (isHex t ≡ true) × (bytesOf t ≡ part from to (bytesOf f))
+abbrev pub IsPartText : Bytes → ℕ → ℕ → Bytes → Type 0
+IsPartText f from to t = (isHex t ≡ true) × (bytesOf t ≡ formatPart from to (bytesOf f))
 
 -- the ids between the commas
 abbrev pub readIds : Bytes → Answer (List ℤ)

@@ -1,17 +1,12 @@
-// A dictionary's index type, read from its format, and its columns.
-use crate::names::NameRead;
+// A dictionary's index type, read from its format.
 use datatypes::IntegerType;
 use datatypes::kind;
+use format_names::NameRead;
 use refusal::Refusal;
 ghost use mathlib.Core.Path.{_≡_};
 ghost use mathlib.Core.Bool.{true};
-ghost use Prim.Native.Nat.{_+_};
-ghost use Rattle.sheets.specs.FieldSheet.{columns, ofDictionary};
 ghost use Rattle.sheets.specs.Format.{toIntegerType};
 ghost use Rattle.hex.specs.Hex.{isHex, bytesOf};
-ghost use Rattle.buffer.specs.Over.{IsUsize, PutAt};
-ghost use Rattle.datatypes.specs.Places.{integerPlace};
-ghost use Rattle.field_line.specs.Columns.{columnsPiece};
 ghost use Rattle.format.specs.Dictionary.{indexAnswer, indexOf};
 
 // A dictionary's index type: "outside `c C s S i I l L`" it is refused.
@@ -42,22 +37,8 @@ pub fn to_integer_type(f: &[u8]) -> IndexRead
     requires { ⌜ isHex (now f) ≡ true ⌝ }
     ensures { λ r. ⌜ indexAnswer r ≡ toIntegerType (bytesOf (now (f .entry))) ⌝ }
 {
-    let NameRead::Leaf(kind, _) = crate::names::fixed_name(f) else {
+    let NameRead::Leaf(kind, _) = format_names::fixed_name(f) else {
         return IndexRead::Refused(Refusal::BadIndex);
     };
     index_of(kind)
-}
-
-// The columns `kind p q text more` of a dictionary.
-pub fn put_dictionary(out: &mut [u8], at: usize, index: IntegerType, ordered: bool) -> usize
-    requires { ⌜ IsUsize (at + 67) ⌝ }
-    ensures { λ r. ⌜ PutAt at (columnsPiece (columns (ofDictionary (integerPlace index) ordered))) r (now (out .entry)) (now (out .exit)) ⌝ }
-{
-    field_line::put_numbers(
-        out,
-        at,
-        kind::DICTIONARY,
-        index.place(),
-        field_line::flag(ordered),
-    )
 }

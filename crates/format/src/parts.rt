@@ -5,7 +5,7 @@ ghost use Prim.Native.Nat.{_+_};
 ghost use lib.ListN.{drop};
 ghost use Rattle.hex.specs.Hex.{isHex, bytesOf};
 ghost use Rattle.sheets.specs.Parts.{bytesBefore};
-ghost use Rattle.format.specs.Parts.{HasPart, IsPart};
+ghost use Rattle.format.specs.Parts.{HasPart, IsPartText};
 
 // The place of the first byte from `from` on that is b, or the end.
 pub fn place_of(f: &[u8], from: usize, b: u8) -> usize
@@ -26,7 +26,7 @@ pub fn place_of(f: &[u8], from: usize, b: u8) -> usize
 // The text of the bytes from `from` on and before `to`.
 pub fn part_of(f: &[u8], from: usize, to: usize) -> &[u8]
     requires { ⌜ HasPart (now f) from to ⌝ }
-    ensures { λ r. ⌜ IsPart (now (f .entry)) from to (now r) ⌝ }
+    ensures { λ r. ⌜ IsPartText (now (f .entry)) from to (now r) ⌝ }
 {
     let a = 2 * from;
     let e = 2 * to;

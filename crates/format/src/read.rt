@@ -1,11 +1,10 @@
 // What a format string says, read in place from its hexadecimal text: the formats of `to_dtype`.
-use crate::names;
-use crate::names::NameRead;
 use crate::parts;
 use datatypes::units::TimeUnit;
 use datatypes::units::TimeUnitAt;
 use datatypes::units::UnionMode;
 use datatypes::units::UnionModeAt;
+use format_names::NameRead;
 use parse::Size;
 use refusal::Refusal;
 ghost use mathlib.Core.Path.{_≡_};
@@ -16,7 +15,7 @@ ghost use lib.ListN.{take, drop};
 ghost use Rattle.sheets.specs.Format.{readCut, readOther, readFormat, cut};
 ghost use Rattle.hex.specs.Hex.{isHex, bytesOf};
 ghost use Rattle.sheets.specs.Parts.{partsFrom};
-ghost use Rattle.format.specs.Parts.{HasBytes, HasPart, part};
+ghost use Rattle.format.specs.Parts.{HasBytes, HasPart, formatPart};
 ghost use Rattle.format.specs.Formats.{Reads, decimalOf, decimalFormat, IsOtherHead};
 
 // A type that needs no text.
@@ -48,7 +47,7 @@ const WIDTH: u64 = 128;
 // A decimal whose precision stands before byte i, its scale after it and before byte e.
 fn decimal_of(f: &[u8], width: u64, at: usize, i: usize, e: usize) -> FormatRead
     requires { ⌜ HasPart (now f) at i × HasPart (now f) (i + 1) e ⌝ }
-    ensures { λ r. ⌜ Reads (now (f .entry)) (decimalOf width (part at i (bytesOf (now (f .entry)))) (part (i + 1) e (bytesOf (now (f .entry))))) r ⌝ }
+    ensures { λ r. ⌜ Reads (now (f .entry)) (decimalOf width (formatPart at i (bytesOf (now (f .entry)))) (formatPart (i + 1) e (bytesOf (now (f .entry))))) r ⌝ }
 {
     let Size::Value(precision) = parse::parse_usize(parts::part_of(f, at, i)) else {
         return FormatRead::Refused(Refusal::BadNumber);
@@ -62,7 +61,7 @@ fn decimal_of(f: &[u8], width: u64, at: usize, i: usize, e: usize) -> FormatRead
 // A decimal of three parts: the width, from byte j + 1 on, is read first.
 fn wide_decimal(f: &[u8], at: usize, i: usize, j: usize) -> FormatRead
     requires { ⌜ HasPart (now f) at i × HasPart (now f) (i + 1) j × HasBytes (now f) (j + 1) ⌝ }
-    ensures { λ r. ⌜ Reads (now (f .entry)) (decimalFormat (part at i (bytesOf (now (f .entry))) ∷ part (i + 1) j (bytesOf (now (f .entry))) ∷ partsFrom (bytesOf (now (f .entry))) (j + 1))) r ⌝ }
+    ensures { λ r. ⌜ Reads (now (f .entry)) (decimalFormat (formatPart at i (bytesOf (now (f .entry))) ∷ formatPart (i + 1) j (bytesOf (now (f .entry))) ∷ partsFrom (bytesOf (now (f .entry))) (j + 1))) r ⌝ }
 {
     let n = f.len() / 2;
     let end = parts::place_of(f, j + 1, b',');
@@ -122,10 +121,10 @@ fn read_cut(f: &[u8], k: usize) -> FormatRead
     ensures { λ r. ⌜ Reads (now (f .entry)) (readCut (take k (bytesOf (now (f .entry)))) (drop (k + 1) (bytesOf (now (f .entry))))) r ⌝ }
 {
     let h = parts::part_of(f, 0, k);
-    if let TimeUnitAt::Is(unit) = names::head_unit(h) {
+    if let TimeUnitAt::Is(unit) = format_names::head_unit(h) {
         return FormatRead::Timestamp(unit, 2 * k + 2);
     }
-    if let UnionModeAt::Is(mode) = names::head_mode(h) {
+    if let UnionModeAt::Is(mode) = format_names::head_mode(h) {
         return FormatRead::Union(mode, 2 * k + 2);
     }
     read_sizes(f, k + 1, h)
@@ -147,7 +146,7 @@ pub fn read_format(f: &[u8], sorted: bool) -> FormatRead
     requires { ⌜ isHex (now f) ≡ true ⌝ }
     ensures { λ r. ⌜ Reads (now (f .entry)) (readFormat sorted (bytesOf (now (f .entry)))) r ⌝ }
 {
-    if let NameRead::Leaf(kind, unit) = names::fixed_name(f) {
+    if let NameRead::Leaf(kind, unit) = format_names::fixed_name(f) {
         return FormatRead::Numbers(Textless::Leaf(kind, unit));
     }
     if hex::says(f, b"+l") {

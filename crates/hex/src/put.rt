@@ -6,7 +6,7 @@ ghost use Rattle.sheets.specs.Text.{hexDigit, hex};
 ghost use Rattle.buffer.specs.Over.{over, IsUsize, PutAt};
 
 // No branch: `a` to `f` stand 39 places after what would follow `9`.
-fn digit_of(n: u8) -> u8
+pub fn digit_of(n: u8) -> u8
     requires { ⌜ n < 16 ⌝ }
     ensures { λ r. ⌜ r ≡ hexDigit n ⌝ }
 {

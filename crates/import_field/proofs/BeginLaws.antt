@@ -6,7 +6,7 @@ use mathlib.Core.List.{List, [], _∷_, _++_}
 use mathlib.Core.Option.{Option}
 use Prim.Native.Nat.{ℕ, _<_}
 use native.Mathlib.Omega.{arith}
-use lib.ListN.{length, drop, length-append}
+use lib.ListN.{length, drop}
 use Rattle.sheets.specs.Bytes.{Bytes}
 use Rattle.sheets.specs.Answer.{Answer, refused, given, _>>=_}
 use Rattle.sheets.specs.Sheet.{ended}
@@ -18,17 +18,17 @@ use Rattle.sheets.specs.ImportLines.{nodeShape, below, typeWritten, rowWritten,
 use Rattle.sheets.specs.SchemaTrees.{schemas, pushChildren, Standing}
 use Rattle.sheets.proofs.Tests.{first-gave}
 use Rattle.sheets.proofs.ImportLaws.{type-written}
-use Rattle.buffer.specs.Over.{over}
-use Rattle.buffer.proofs.OverLaws.{overAt-zero}
+use Rattle.buffer.specs.Over.{PutFirst}
+use Rattle.buffer.proofs.OverLaws.{put-over}
 use Rattle.schema_line.specs.declared.SchemaLine.{SchemaLine}
 use Rattle.sheets.specs.TreeWalks.{HasRow}
 use Rattle.schema_sheet.specs.Subtrees.{skipAnswer, SkipsRow}
 use Rattle.schema_sheet.specs.declared.subtrees.Skipped.{Skipped}
 use Rattle.schema_sheet.specs.declared.subtrees.Skipped.the-variants.{To, Deep}
-use Rattle.format.specs.Formats.{belowOf}
-use Rattle.format.specs.declared.Below.{Below}
-use Rattle.format.specs.declared.FormatPut.{FormatPut}
-use Rattle.format.specs.declared.FormatPut.the-variants as Put
+use Rattle.import_type.specs.TypeColumns.{belowOf}
+use Rattle.import_type.specs.declared.Below.{Below}
+use Rattle.import_type.specs.declared.FormatPut.{FormatPut}
+use Rattle.import_type.specs.declared.FormatPut.the-variants as Put
 use Rattle.refusal.specs.declared.Refusal.{Refusal as Reason}
 use Rattle.refusal.specs.Refusals.{refusalOf}
 use Rattle.node.specs.declared.lines.Shown.{Shown}
@@ -36,7 +36,7 @@ use Rattle.node.specs.Pieces.{infoPiece}
 use Rattle.node.specs.Nodes.{columnIn, shownIn, NodeIn, lineType, typeText, LineTold, TypeLinePuts}
 use Rattle.node.proofs.LineLaws.{line-text}
 use Rattle.import_field.specs.declared.Visit.{Visit}
-use Rattle.import_field.specs.Contracts.{TypeAt, HasType, HasFirst, typeLength, visitOf, Begins}
+use Rattle.import_field.specs.Contracts.{TypeAt, HasType, HasFirst, typeLength, visitOf, LineBegins}
 use Rattle.import_field.proofs.PlanLaws.{fits-first, Fits, shape-fits, visit-bare, Cut, cut}
 
 -- a chain of three steps
@@ -132,7 +132,7 @@ module _ {s : Bytes} {l : SchemaLine} {levels : ℕ} {x : Line} {cs : Schemas} {
 
           -- the visited trees stand next
           pub begins : (next : ℕ) → k ≡ To next → (j : Option Info) → own ≡ infoPiece j
-              → Begins s l levels (typeWritten j (schema (nodeOf x) cs d)) (typeLength s l w es) ts out mid next len v
+              → LineBegins s l levels (typeWritten j (schema (nodeOf x) cs d)) (typeLength s l w es) ts out mid next len v
           begins next e j shows =
               let m = subst (λ (y : Skipped). SkipsRow s (l .end) (v .first) levels (skipAnswer y)) e skips (parts .first) next-trees stands (parts .firstCount) in
               let line-is : typeText sh own (below sh (childrenOf x)) ≡ ended (firstLine j sh ∷ []) = line-text sh j (below sh (childrenOf x)) own shows in
@@ -153,7 +153,6 @@ module _ {s : Bytes} {l : SchemaLine} {levels : ℕ} {x : Line} {cs : Schemas} {
                     becomes j
                     ∙ ap (λ (a : Answer Shape). a >>= rest j) (told .1)
                     ∙ ap (λ (y : Bool). rowWritten y (visited sh cs d) >>= λ ls. given (firstLine j sh ∷ ls)) (sym (visit-bare sh (countSchemas cs) (countDictionary d) (fits sh (told .1))) ∙ ap (λ (y : Visit). y .bare) visit);
-                lineLength = omega (arith, told .2 .0, ap length line-is, length-append (firstLine j sh) (10 ∷ []));
-                laid = told .2 .1 ∙ overAt-zero (typeText sh own (below sh (childrenOf x))) out ∙ ap (λ (y : Bytes). over y out) line-is;
+                put = subst (λ (y : Bytes). PutFirst y len out mid) line-is (put-over (typeText sh own (below sh (childrenOf x))) out (told .2));
                 long = omega (arith, told .4, m .2);
               }

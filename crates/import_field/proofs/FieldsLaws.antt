@@ -4,7 +4,7 @@ use mathlib.Core.Bool.{Bool}
 use mathlib.Core.List.{List, [], _++_, append-assoc, append-nil}
 use Prim.Native.Nat.{ℕ, _+_, _-_, _*_, _<_, _≤_, min}
 use native.Mathlib.Omega.{arith}
-use lib.ListN.{length, take, drop, length-append}
+use lib.ListN.{length, take, drop}
 use Rattle.sheets.specs.Bytes.{Bytes}
 use Rattle.sheets.specs.Answer.{Answer, refused, given, _>>=_}
 use Rattle.sheets.specs.Sheet.{ended}
@@ -12,8 +12,8 @@ use Rattle.sheets.specs.Schema.{Schema, Schemas, end, _&_}
 use Rattle.sheets.specs.SchemaTrees.{pushChildren}
 use Rattle.sheets.specs.ImportLines.{rowWritten}
 use Rattle.sheets.proofs.SheetLaws.{ended-append}
-use Rattle.buffer.specs.Over.{over}
-use Rattle.buffer.proofs.OverLaws.{over-nothing, over-lent}
+use Rattle.buffer.specs.Over.{PutFirst}
+use Rattle.buffer.proofs.OverLaws.{over-nothing, put-lent}
 use Rattle.refusal.specs.declared.Refusal.{Refusal as Reason}
 use Rattle.refusal.specs.Refusals.{refusalOf}
 use Rattle.import_field.specs.Contracts.{FieldAt, FieldsAt, HasField, Wrote, FieldWrote}
@@ -39,8 +39,7 @@ pub record Going (s : Bytes) (at n levels : ℕ) (bare : Bool) (out₀ out : Byt
   pub lines : List Bytes
   pub left : FieldsAt s here (n - i) levels vs ts
   pub becomes : rowWritten bare us ≡ (rowWritten bare vs >>= λ ls. given (lines ++ ls))
-  pub sumIs : sum ≡ length (ended lines)
-  pub laid : out ≡ over (ended lines) out₀
+  pub put : PutFirst (ended lines) sum out₀ out
   pub long : sum + 32 * at ≤ 32 * here
 
 module _ (s : Bytes) (at n levels : ℕ) (bare : Bool) (out₀ : Bytes) (us : Schemas) (ts : List Schema) where
@@ -51,8 +50,7 @@ module _ (s : Bytes) (at n levels : ℕ) (bare : Bool) (out₀ : Bytes) (us : Sc
         lines = [];
         left = record { stands = h .stands; counted = omega (arith, h .counted); deep = h .deep; within = h .within; short = h .short };
         becomes = none-before (rowWritten bare us);
-        sumIs = refl;
-        laid = sym (over-nothing out₀);
+        put = (refl, sym (over-nothing out₀));
         long = omega arith;
       }
 
@@ -80,7 +78,7 @@ module _ (s : Bytes) (at n levels : ℕ) (bare : Bool) (out₀ : Bytes) (us : Sc
         go (t & vs) h b =
             let f : FieldWrote s (treeAt here levels bare) (take (length out - w) (drop w out)) part (Done next len) =
             subst (λ (x : Step). FieldWrote s (treeAt here levels bare) (take (length out - w) (drop w out)) part x) isDone wrote in
-            let (ls, is, lenIs, laid, there, long, within) = f t (pushChildren vs ts) (first-at t vs h) in
+            let (ls, is, put, there, long, within) = f t (pushChildren vs ts) (first-at t vs h) in
             record {
               vs = vs;
               lines = g .lines ++ ls;
@@ -89,10 +87,7 @@ module _ (s : Bytes) (at n levels : ℕ) (bare : Bool) (out₀ : Bytes) (us : Sc
                   b
                   ∙ ap (λ (o : Answer (List Bytes)). (o >>= λ a. rowWritten bare vs >>= λ b. given (a ++ b)) >>= λ b. given (g .lines ++ b)) is
                   ∙ both-before (g .lines) ls (rowWritten bare vs);
-              sumIs = omega (arith, g .sumIs, lenIs, ap length (ended-append (g .lines) ls), length-append (ended (g .lines)) (ended ls));
-              laid =
-                  over-lent (ended (g .lines)) (ended ls) out₀ out part sum w (g .laid) (g .sumIs) e laid
-                  ∙ ap (λ (x : Bytes). over x out₀) (sym (ended-append (g .lines) ls));
+              put = subst (λ (x : Bytes). PutFirst x (sum + len) out₀ (take w out ++ (part ++ drop (length out - w) (drop w out)))) (sym (ended-append (g .lines) ls)) (put-lent (ended (g .lines)) (ended ls) out₀ (g .put) e put refl);
               long = omega (arith, g .long, long);
             }
 
@@ -114,5 +109,5 @@ module _ (s : Bytes) (at n levels : ℕ) (bare : Bool) (out₀ : Bytes) (us : Sc
       where
         go : (vs : Schemas) → FieldsAt s here (n - i) levels vs ts → rowWritten bare us ≡ (rowWritten bare vs >>= λ ls. given (g .lines ++ ls))
             → Wrote s at 0 ts (rowWritten bare us) out₀ out (Done here sum)
-        go end h b = (g .lines, b ∙ ap given (append-nil (g .lines)), g .sumIs, g .laid, h .stands, omega (arith, g .long), h .within)
+        go end h b = (g .lines, b ∙ ap given (append-nil (g .lines)), g .put, h .stands, omega (arith, g .long), h .within)
         go (t & vs) h b = absurd (omega (arith, h .counted))

@@ -10,11 +10,11 @@ use Rattle.sheets.proofs.FormLaws.{standing-row, row-many}
 use Rattle.sheets.specs.ImportLines.{written}
 use Rattle.import_field.specs.Contracts.{FieldAt, FieldsAt, HasField, HasFields, Wrote, FieldWrote, FieldsWrote}
 use Rattle.import_field.specs.declared.Tree.{Tree}
-use Rattle.import_field.specs.declared.Row.{Row}
+use Rattle.import_field.specs.declared.Trees.{Trees}
 use Rattle.import_field.specs.declared.Step.{Step}
 
 -- the row of one tree
-abbrev pub rowOf : Tree → Row
+abbrev pub rowOf : Tree → Trees
 rowOf t = record { at = t .at; count = 1; levels = t .levels; bare = t .bare }
 
 module _ (s : Bytes) (t : Tree) where

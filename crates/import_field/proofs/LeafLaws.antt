@@ -24,7 +24,7 @@ use Rattle.sheets.proofs.FormLaws.{standing-on}
 use Rattle.sheets.specs.ImportLines.{written}
 use Rattle.sheets.proofs.Utf8Laws.{ascii-utf8}
 use Rattle.decimal.proofs.WriteLaws.{decimal-length}
-use Rattle.buffer.specs.Over.{over}
+use Rattle.buffer.specs.Over.{PutFirst}
 use Rattle.columns.specs.Columns.{part}
 use Rattle.leaf_line.proofs.LeafLaws.{leaf-says, name-some}
 use Rattle.put_leaf.specs.LeafText.{headText, tailText, leafText, LeafWritten, isPut, LeafPuts}
@@ -84,7 +84,7 @@ module _ {s : Bytes} {at : ℕ} {out out' : Bytes} {next len : ℕ} (w : LeafWri
       let a : length (headText (w .kind)) ≡ length (decimal (w .kind)) + 9 = length-append (decimal (w .kind)) rest in
       let b : length (decimal (w .kind)) ≤ 2 = decimal-length 2 (w .kind) (omega arith) (omega (arith, k .known)) in
       let c : length name ≡ w .e - (at + 3) = length-take (w .e - (at + 3)) (drop (at + 3) s) ∙ omega (arith, length-drop (at + 3) s, k .high, k .some) in
-      omega (arith, w .long, w .after, k .some, length-append (headText (w .kind) ++ name) (tailText (w .flags / 2 % 2)), length-append (headText (w .kind)) name)
+      omega (arith, w .put .0, w .after, k .some, length-append (headText (w .kind) ++ name) (tailText (w .flags / 2 % 2)), length-append (headText (w .kind)) name)
 
   module _ (t : Schema) (ts : List Schema) where
     abbrev node : Line → Schema
@@ -99,8 +99,7 @@ module _ {s : Bytes} {at : ℕ} {out out' : Bytes} {next len : ℕ} (w : LeafWri
           fieldText (w .kind) (k .bytes) (w .flags) ∷ [],
           ap (written false) (e ∙ ap node (leaf-says k))
               ∙ leaf-becomes (k .byte ∷ []) (k .bytes) (w .kind) (w .flags) (ascii-utf8 (k .byte ∷ []) (le-leb (k .byte) 127 (omega (arith, k .names .ascii)), refl)) (k .utf8) (k .names .means),
-          w .long ∙ ap length text,
-          w .laid ∙ ap (λ (b : Bytes). over b out) text,
+          subst (λ (b : Bytes). PutFirst b len out out') text (w .put),
           subst (λ (i : ℕ). Standing (drop i s) ts) (sym (w .after)) h,
           omega (arith, text-short),
           omega (arith, w .after, k .high),

@@ -24,8 +24,8 @@ use Rattle.sheets.proofs.SchemaLaws.{schema-line-read}
 use Rattle.sheets.proofs.SheetLaws.{ended-append}
 use Rattle.sheets.proofs.FormLaws.{standing-on, Opened}
 use Rattle.sheets.proofs.ImportLaws.{own-refused, own-plain, own-extended}
-use Rattle.buffer.specs.Over.{over}
-use Rattle.buffer.proofs.OverLaws.{over-nothing, over-lent}
+use Rattle.buffer.specs.Over.{PutFirst}
+use Rattle.buffer.proofs.OverLaws.{put-lent}
 use Rattle.refusal.specs.declared.Refusal.{Refusal as Reason}
 use Rattle.refusal.specs.Refusals.{refusalOf}
 use Rattle.columns.specs.Columns.{part}
@@ -33,9 +33,8 @@ use Rattle.schema_line.specs.declared.SchemaLine.{SchemaLine}
 use Rattle.schema_line.specs.Lines.{TextAt, LineAt}
 use Rattle.node.specs.declared.Begun.{Begun}
 use Rattle.node.specs.Pieces.{infoPiece}
-use Rattle.node.specs.Info.{HasRoom}
-use Rattle.node.specs.Nodes.{columnIn, shownIn, NodeIn, pendingAnswer, OwnTold, FieldBegins}
-use Rattle.node.specs.Nodes.{Begins as OwnBegins}
+use Rattle.node.specs.Info.{HasEntries}
+use Rattle.node.specs.Nodes.{columnIn, shownIn, NodeIn, pendingAnswer, OwnTold, OwnBegins, FieldBegins}
 use Rattle.import_field.specs.declared.Tree.{Tree}
 use Rattle.import_field.specs.declared.Step.{Step}
 use Rattle.import_field.specs.declared.Step.the-variants.{Done, Refused as Turned}
@@ -56,7 +55,7 @@ part-length s a b x h = ap length (text-read (part s a b) x (h .reads))
 -- ── the line opens the tree
 
 -- only the lengths of the entries count
-pub room-kept : {s : Bytes} {es fs es' fs' : List ℕ} → HasRoom s es fs → length es' ≡ length es → length fs' ≡ length fs → HasRoom s es' fs'
+pub room-kept : {s : Bytes} {es fs es' fs' : List ℕ} → HasEntries s es fs → length es' ≡ length es → length fs' ≡ length fs → HasEntries s es' fs'
 room-kept h e f = record { entries = omega (arith, h .entries, e); spare = omega (arith, h .spare, f) }
 
 -- the node has a level
@@ -121,7 +120,7 @@ module _ {s : Bytes} {at : ℕ} {l : SchemaLine} (p : LineAt s at l) where
         pub shows : own ≡ infoPiece j
         pub becomes : written bare u ≡ (typeWritten j tree >>= λ ls. head >>= λ a. given (a ++ ls))
         pub pends : endedField (pendingAnswer (b .pending)) 0 0 ≡ (head >>= λ a. given (0, 0))
-        pub laid : (a : List Bytes) → head ≡ given a → (b .len ≡ length (ended a)) × (mid ≡ over (ended a) out)
+        pub put : (a : List Bytes) → head ≡ given a → PutFirst (ended a) (b .len) out mid
 
       given-same : {A : Type 0} (x y : A) → given x ≡ given y → x ≡ y
       given-same x y e = cc
@@ -141,25 +140,25 @@ module _ {s : Bytes} {at : ℕ} {l : SchemaLine} (p : LineAt s at l) where
                 shows = shows;
                 becomes = ap (written bare) (opened .isNode) ∙ own-refused bare (nodeOf (p .line)) (opened .children) (opened .dictionary) q is none;
                 pends = ap (λ (y : Answer (Unit {0})). endedField y 0 0) e;
-                laid = λ a h. let z : _≡_ {A = ℕ} 0 1 = cc in absurd (omega arith);
+                put = λ a h. let z : _≡_ {A = ℕ} 0 1 = cc in absurd (omega arith);
               }
-          go (given x) e (i, none, is, (len, same, shows)) =
+          go (given x) e (i, none, is, (put, shows)) =
               record {
                 j = shown bare i;
                 head = given [];
                 shows = shows;
                 becomes = ap (written bare) (opened .isNode) ∙ own-plain bare (nodeOf (p .line)) (opened .children) (opened .dictionary) i is ∙ nothing-before (typeWritten (shown bare i) tree);
                 pends = ap (λ (y : Answer (Unit {0})). endedField y 0 0) e;
-                laid = λ a h. subst (λ (c : List Bytes). (b .len ≡ length (ended c)) × (mid ≡ over (ended c) out)) (given-same [] a h) (len, same ∙ sym (over-nothing out));
+                put = λ a h. subst (λ (c : List Bytes). PutFirst (ended c) (b .len) out mid) (given-same [] a h) put;
               }
-          go (given x) e (i, some ex, is, (len, laid, shows)) =
+          go (given x) e (i, some ex, is, (put, shows)) =
               record {
                 j = none;
                 head = given (fieldLine .write (lineOf (ofExtension (ex .0) (ex .1)) (shown bare i) 1) ∷ []);
                 shows = shows;
                 becomes = ap (written bare) (opened .isNode) ∙ own-extended bare (nodeOf (p .line)) (opened .children) (opened .dictionary) i ex is;
                 pends = ap (λ (y : Answer (Unit {0})). endedField y 0 0) e;
-                laid = λ a h. subst (λ (c : List Bytes). (b .len ≡ length (ended c)) × (mid ≡ over (ended c) out)) (given-same (fieldLine .write (lineOf (ofExtension (ex .0) (ex .1)) (shown bare i) 1) ∷ []) a h) (len, laid);
+                put = λ a h. subst (λ (c : List Bytes). PutFirst (ended c) (b .len) out mid) (given-same (fieldLine .write (lineOf (ofExtension (ex .0) (ex .1)) (shown bare i) 1) ∷ []) a h) put;
               }
 
       pub type-there : HasType s l (b .shown) (levels - 1) es
@@ -191,10 +190,10 @@ module _ {s : Bytes} {at : ℕ} {l : SchemaLine} (p : LineAt s at l) where
 
           -- the sum of both lengths does not wrap
           pub field-long : b .len + len + 32 * at ≤ 32 * next
-          field-long = let d = done in omega (arith, k .long, d .5, line-long)
+          field-long = let d = done in omega (arith, k .long, d .4, line-long)
 
           pub field-next : next ≤ length s
-          field-next = done .6
+          field-next = done .5
 
           -- all is written, or what was pending is refused
           pub field-ended : (v : ℕ) → v ≡ min (b .len) (length mid) → lent ≡ take (length mid - v) (drop v mid)
@@ -202,27 +201,25 @@ module _ {s : Bytes} {at : ℕ} {l : SchemaLine} (p : LineAt s at l) where
               → Wrote s at 0 ts (written bare u) out (take v mid ++ (last ++ drop (length mid - v) (drop v mid))) z
           field-ended v e₁ e₂ z h =
               subst (WroteAs s at 0 ts (written bare u) out (take v mid ++ (last ++ drop (length mid - v) (drop v mid)))) (sym h)
-              (go (pendingAnswer (b .pending)) (front .head) (front .becomes) (front .pends) (front .laid))
+              (go (pendingAnswer (b .pending)) (front .head) (front .becomes) (front .pends) (front .put))
             where
               go : (y : Answer (Unit {0})) (head : Answer (List Bytes)) → written bare u ≡ (typeWritten (front .j) tree >>= λ ls. head >>= λ a. given (a ++ ls))
-                  → endedField y 0 0 ≡ (head >>= λ a. given (0, 0)) → ((a : List Bytes) → head ≡ given a → (b .len ≡ length (ended a)) × (mid ≡ over (ended a) out))
+                  → endedField y 0 0 ≡ (head >>= λ a. given (0, 0)) → ((a : List Bytes) → head ≡ given a → PutFirst (ended a) (b .len) out mid)
                   → WroteAs s at 0 ts (written bare u) out (take v mid ++ (last ++ drop (length mid - v) (drop v mid))) (endedField y next (b .len + len))
-              go (refused q) (refused q') is p laid =
+              go (refused q) (refused q') is p head-put =
                   let same : q ≡ q' = refused-same q q' p in
                   is ∙ ap (λ (m : Answer (List Bytes)). m >>= λ ls. refused q' >>= λ a. given (a ++ ls)) (done .1) ∙ ap refused (sym same)
                 where
                   refused-same : (q q' : Refusal) → _≡_ {A = Answer (ℕ × ℕ)} (refused q) (refused q') → q ≡ q'
                   refused-same q q' e = cc
-              go (refused q) (given a) is p laid = let z : _≡_ {A = ℕ} 0 1 = cc in absurd (omega arith)
-              go (given x) (refused q) is p laid = let z : _≡_ {A = ℕ} 0 1 = cc in absurd (omega arith)
-              go (given x) (given a) is p laid =
-                  let (ls, t, lenIs, wrote, there, long, within) = done in
-                  let (headIs, headLaid) = laid a refl in (
+              go (refused q) (given a) is p head-put = let z : _≡_ {A = ℕ} 0 1 = cc in absurd (omega arith)
+              go (given x) (refused q) is p head-put = let z : _≡_ {A = ℕ} 0 1 = cc in absurd (omega arith)
+              go (given x) (given a) is p head-put =
+                  let (ls, t, put, there, long, within) = done in (
                     a ++ ls,
                     is ∙ ap (λ (m : Answer (List Bytes)). m >>= λ ls. given (a ++ ls)) t,
-                    omega (arith, headIs, lenIs, ap length (ended-append a ls), length-append (ended a) (ended ls)),
-                    over-lent (ended a) (ended ls) out mid last (b .len) v headLaid headIs e₁ (wrote ∙ ap (over (ended ls)) e₂)
-                        ∙ ap (λ (y : Bytes). over y out) (sym (ended-append a ls)),
+                    subst (λ (y : Bytes). PutFirst y (b .len + len) out (take v mid ++ (last ++ drop (length mid - v) (drop v mid)))) (sym (ended-append a ls))
+                        (put-lent (ended a) (ended ls) out (head-put a refl) e₁ (subst (λ (y : Bytes). PutFirst (ended ls) len y last) e₂ put) refl),
                     there,
                     omega (arith, field-long),
                     within,

@@ -3,29 +3,29 @@ use mathlib.Core.Path.{_≡_, sym, ap, subst, _∙_}
 use mathlib.Core.List.{List, [], _∷_, _++_}
 use Prim.Native.Nat.{ℕ, _+_, _-_, _≤_, min}
 use native.Mathlib.Omega.{arith}
-use lib.ListN.{length, take, drop, length-append, length-take, length-drop}
+use lib.ListN.{length, take, drop, length-take, length-drop}
 use Rattle.sheets.specs.Bytes.{Bytes}
 use Rattle.sheets.specs.Answer.{Answer, refused, given, _>>=_}
 use Rattle.sheets.specs.Sheet.{ended}
 use Rattle.sheets.specs.Schema.{Schema}
 use Rattle.sheets.specs.ImportLines.{rowWritten}
 use Rattle.sheets.proofs.SheetLaws.{ended-append}
-use Rattle.buffer.specs.Over.{over}
-use Rattle.buffer.proofs.OverLaws.{over-lent}
+use Rattle.buffer.specs.Over.{PutFirst}
+use Rattle.buffer.proofs.OverLaws.{put-lent}
 use Rattle.refusal.specs.declared.Refusal.{Refusal as Reason}
 use Rattle.refusal.specs.Refusals.{refusalOf}
 use Rattle.schema_line.specs.declared.SchemaLine.{SchemaLine}
 use Rattle.node.specs.declared.lines.Shown.{Shown}
 use Rattle.node.specs.Nodes.{columnIn, metadataIn}
 use Rattle.node.proofs.LineLaws.{shown-short}
-use Rattle.import_field.specs.declared.Row.{Row}
+use Rattle.import_field.specs.declared.Trees.{Trees}
 use Rattle.import_field.specs.declared.Visit.{Visit}
 use Rattle.import_field.specs.declared.Step.{Step}
 use Rattle.import_field.specs.declared.Step.the-variants.{Done, Refused}
-use Rattle.import_field.specs.Contracts.{LeftAt, HasFields, HasLeft, HasType, typeLength, stepAnswer, WroteAs, Wrote, FieldsWrote, Begins, Ends, TypeEnds}
+use Rattle.import_field.specs.Contracts.{LeftAt, HasFields, HasLeft, HasType, typeLength, stepAnswer, WroteAs, Wrote, FieldsWrote, LineBegins, Ends, TypeEnds}
 
 -- the row that a type visits
-abbrev pub rowAt : ℕ → ℕ → Visit → Row
+abbrev pub rowAt : ℕ → ℕ → Visit → Trees
 rowAt from levels v = record { at = from; count = v .count; levels = levels; bare = v .bare }
 
 -- the line of a type is no longer than a sheet allows
@@ -41,7 +41,7 @@ type-short {s = s} {l = l} {w = w} {es = es} h =
       h .ready .pairs .short,
     )
 
-module _ {s : Bytes} {l : SchemaLine} {levels : ℕ} {o : Answer (List Bytes)} {extra : ℕ} {ts : List Schema} {out mid : Bytes} {from len : ℕ} {v : Visit} (g : Begins s l levels o extra ts out mid from len v) where
+module _ {s : Bytes} {l : SchemaLine} {levels : ℕ} {o : Answer (List Bytes)} {extra : ℕ} {ts : List Schema} {out mid : Bytes} {from len : ℕ} {v : Visit} (g : LineBegins s l levels o extra ts out mid from len v) where
   -- the visited trees are there
   pub fields-there : HasFields s (rowAt from levels v)
   fields-there = (g .us, g .vs ++ ts, g .visited)
@@ -61,14 +61,14 @@ module _ {s : Bytes} {l : SchemaLine} {levels : ℕ} {o : Answer (List Bytes)} {
 
     -- the others are there
     left-at : LeftAt s next (v .last) levels (g .vs) ts
-    left-at = let d = fields-done in record { stands = d .4; counted = g .others; deep = g .low; within = d .6 }
+    left-at = let d = fields-done in record { stands = d .3; counted = g .others; deep = g .low; within = d .5 }
 
     pub left-there : HasLeft s next (v .last) levels
     left-there = (g .vs, ts, left-at)
 
     -- the sum of both lengths does not wrap
     pub both-long : len + below ≤ 2097120 + extra
-    both-long = let d = fields-done in omega (arith, g .long, d .5, d .6, g .visited .short)
+    both-long = let d = fields-done in omega (arith, g .long, d .4, d .5, g .visited .short)
 
     -- all is written
     pub type-ended : (w : ℕ) → w ≡ min len (length mid) → lent ≡ take (length mid - w) (drop w mid)
@@ -80,13 +80,11 @@ module _ {s : Bytes} {l : SchemaLine} {levels : ℕ} {o : Answer (List Bytes)} {
             → WroteAs s (l .end) extra ts o out (take w mid ++ (part ++ drop (length mid - w) (drop w mid))) y
         go (refused q) k = absurd k
         go (given (past, sum)) k =
-            let (ls, is, lenIs, laid, there, long, within) = fields-done in
-            let first : len ≡ length (ended (g .line ∷ [])) = omega (arith, g .lineLength, length-append (g .line) (10 ∷ [])) in (
+            let (ls, is, put, there, long, within) = fields-done in (
               g .line ∷ ls,
               g .becomes ∙ ap after is,
-              omega (arith, k .0, first, lenIs, ap length (ended-append (g .line ∷ []) ls), length-append (ended (g .line ∷ [])) (ended ls)),
-              over-lent (ended (g .line ∷ [])) (ended ls) out mid part len w (g .laid) first e₁ (laid ∙ ap (over (ended ls)) e₂)
-                  ∙ ap (λ (x : Bytes). over x out) (sym (ended-append (g .line ∷ []) ls)),
+              subst (λ (x : Bytes). PutFirst x sum out (take w mid ++ (part ++ drop (length mid - w) (drop w mid)))) (sym (ended-append (g .line ∷ []) ls))
+                  (put-lent (ended (g .line ∷ [])) (ended ls) out (g .put) e₁ (subst (λ (x : Bytes). PutFirst (ended ls) below x part) e₂ put) (k .0)),
               k .1,
               omega (arith, g .long, long, k .0, k .2),
               k .3,

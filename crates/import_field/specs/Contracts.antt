@@ -15,17 +15,17 @@ use Rattle.sheets.specs.SchemaTrees.{pushChildren, pushDictionary, Standing}
 use Rattle.sheets.specs.Field.{Info}
 use Rattle.sheets.specs.ImportLines.{written, typeWritten, rowWritten}
 use Rattle.refusal.specs.Refusals.{refusalOf}
-use Rattle.buffer.specs.Over.{over}
+use Rattle.buffer.specs.Over.{PutFirst}
 use Rattle.schema_line.specs.declared.SchemaLine.{SchemaLine}
 use Rattle.schema_line.specs.Lines.{Shows}
-use Rattle.format.specs.declared.Below.{Below}
-use Rattle.format.specs.declared.Below.the-variants.{Nothing, First, All, Values}
+use Rattle.import_type.specs.declared.Below.{Below}
+use Rattle.import_type.specs.declared.Below.the-variants.{Nothing, First, All, Values}
 use Rattle.node.specs.declared.lines.Shown.{Shown}
 use Rattle.node.specs.declared.Pending.{Pending}
 use Rattle.node.specs.Pieces.{infoPiece, CanShow}
 use Rattle.node.specs.Nodes.{columnIn, metadataIn, shownIn, pendingAnswer}
 use Rattle.import_field.specs.declared.Tree.{Tree}
-use Rattle.import_field.specs.declared.Row.{Row}
+use Rattle.import_field.specs.declared.Trees.{Trees}
 use Rattle.import_field.specs.declared.Visit.{Visit}
 use Rattle.import_field.specs.declared.TypeBegun.{TypeBegun}
 use Rattle.import_field.specs.declared.TypeBegun.the-variants as Begun
@@ -70,7 +70,7 @@ pub record TypeAt (s : Bytes) (l : SchemaLine) (levels : ℕ) (x : Line) (cs : S
 abbrev pub HasField : Bytes → Tree → Type 0
 HasField s t = (u : Schema) × (ts : List Schema) × FieldAt s (t .at) (t .levels) u ts
 
-abbrev pub HasFields : Bytes → Row → Type 0
+abbrev pub HasFields : Bytes → Trees → Type 0
 HasFields s w = (us : Schemas) × (ts : List Schema) × FieldsAt s (w .at) (w .count) (w .levels) us ts
 
 abbrev pub HasLeft : Bytes → ℕ → ℕ → ℕ → Type 0
@@ -100,8 +100,7 @@ WroteAs s from extra ts o out out' (refused q) = o ≡ refused q
 WroteAs s from extra ts o out out' (given (next, len)) =
     (ls : List Bytes)
     × (o ≡ given ls)
-    × (len ≡ length (ended ls))
-    × (out' ≡ over (ended ls) out)
+    × PutFirst (ended ls) len out out'
     × Standing (drop next s) ts
     × (len + 32 * from ≤ 32 * next + extra)
     × (next ≤ length s)
@@ -113,7 +112,7 @@ abbrev pub FieldWrote : Bytes → Tree → Bytes → Bytes → Step → Type 0
 FieldWrote s t out out' r =
     (u : Schema) (ts : List Schema) → FieldAt s (t .at) (t .levels) u ts → Wrote s (t .at) 0 ts (written (t .bare) u) out out' r
 
-abbrev pub FieldsWrote : Bytes → Row → Bytes → Bytes → Step → Type 0
+abbrev pub FieldsWrote : Bytes → Trees → Bytes → Bytes → Step → Type 0
 FieldsWrote s w out out' r =
     (us : Schemas) (ts : List Schema) → FieldsAt s (w .at) (w .count) (w .levels) us ts → Wrote s (w .at) 0 ts (rowWritten (w .bare) us) out out' r
 
@@ -148,7 +147,7 @@ begunAnswer (Begun.Row from len v) = given (from, (len, v))
 begunAnswer (Begun.Refused r) = refused (refusalOf r)
 
 -- The type's line is written, and from `from` on stand the trees us that it visits, then vs that it does not, then ts.
-pub record Begins (s : Bytes) (l : SchemaLine) (levels : ℕ) (o : Answer (List Bytes)) (extra : ℕ) (ts : List Schema) (out out' : Bytes) (from len : ℕ) (v : Visit) : Type 0 where
+pub record LineBegins (s : Bytes) (l : SchemaLine) (levels : ℕ) (o : Answer (List Bytes)) (extra : ℕ) (ts : List Schema) (out out' : Bytes) (from len : ℕ) (v : Visit) : Type 0 where
   pub us : Schemas
   pub vs : List Schema
   pub line : Bytes
@@ -156,12 +155,11 @@ pub record Begins (s : Bytes) (l : SchemaLine) (levels : ℕ) (o : Answer (List 
   pub others : length vs ≡ v .last
   pub low : tallest schemaLevels vs ≤ levels
   pub becomes : o ≡ (rowWritten (v .bare) us >>= λ ls. given (line ∷ ls))
-  pub lineLength : len ≡ length line + 1
-  pub laid : out' ≡ over (ended (line ∷ [])) out
+  pub put : PutFirst (ended (line ∷ [])) len out out'
   pub long : len + 32 * l .end ≤ 32 * from + extra
 
 abbrev pub BeginsAs : Bytes → SchemaLine → ℕ → Answer (List Bytes) → ℕ → List Schema → Bytes → Bytes → Answer (ℕ × (ℕ × Visit)) → Type 0
-BeginsAs s l levels o extra ts out out' (given (from, (len, v))) = Begins s l levels o extra ts out out' from len v
+BeginsAs s l levels o extra ts out out' (given (from, (len, v))) = LineBegins s l levels o extra ts out out' from len v
 BeginsAs s l levels o extra ts out out' (refused q) = o ≡ refused q
 
 abbrev pub TypeBegins : Bytes → SchemaLine → Shown → ℕ → List ℕ → Bytes → Bytes → TypeBegun → Type 0

@@ -1,10 +1,10 @@
 // The lines of a field from the lines of its schema, in a lent buffer. A field is read through its type, and a type through its fields.
 ghost use mathlib.Core.Path.{_≡_};
-ghost use Rattle.node.specs.Info.{HasRoom};
+ghost use Rattle.node.specs.Info.{HasEntries};
 ghost use Rattle.import_field.specs.Contracts.{HasFirst, visitOf, HasField, HasFields, HasLeft, HasType};
 ghost use Rattle.import_field.specs.Contracts.{TypeBegins, TypeEnds, FieldEnds, FieldWrote, FieldsWrote, TypeWrote};
-use format::Below;
-use format::FormatPut;
+use import_type::Below;
+use import_type::FormatPut;
 use node::Pending;
 use node::lines::Shown;
 use put_leaf::LeafPut;
@@ -20,7 +20,7 @@ pub struct Tree {
 }
 
 // `count` such schemas, one after the other.
-pub struct Row {
+pub struct Trees {
     pub at: usize,
     pub count: u64,
     pub levels: usize,
@@ -139,7 +139,7 @@ pub fn to_field(
     entries: &mut [u32],
     spare: &mut [u32],
 ) -> Step
-    requires { ⌜ HasField (now s) tree × HasRoom (now s) (now entries) (now spare) ⌝ }
+    requires { ⌜ HasField (now s) tree × HasEntries (now s) (now entries) (now spare) ⌝ }
     ensures { λ r. ⌜ FieldWrote (now (s .entry)) tree (now (out .entry)) (now (out .exit)) r ⌝ }
 {
     let line = schema_line::read::line_at(s, tree.at);
@@ -171,14 +171,14 @@ fn to_dtype(
     entries: &mut [u32],
     spare: &mut [u32],
 ) -> Step
-    requires { ⌜ HasType (now s) line shown levels (now entries) × HasRoom (now s) (now entries) (now spare) ⌝ }
+    requires { ⌜ HasType (now s) line shown levels (now entries) × HasEntries (now s) (now entries) (now spare) ⌝ }
     ensures { λ r. ⌜ TypeWrote (now (s .entry)) line shown levels (now (entries .entry)) (now (out .entry)) (now (out .exit)) r ⌝ }
 {
     match begin_type(s, line, shown, levels, out, entries) {
         TypeBegun::Refused(r) => Step::Refused(r),
         TypeBegun::Row(from, len, visit) => {
             let w = buffer::within(len, out.len());
-            let row = Row {
+            let row = Trees {
                 at: from,
                 count: visit.count,
                 levels,
@@ -199,8 +199,8 @@ fn to_dtype(
 }
 
 // Writes the lines of fields whose schemas stand one after the other, as far as they fit.
-fn to_fields(s: &[u8], row: Row, out: &mut [u8], entries: &mut [u32], spare: &mut [u32]) -> Step
-    requires { ⌜ HasFields (now s) row × HasRoom (now s) (now entries) (now spare) ⌝ }
+fn to_fields(s: &[u8], row: Trees, out: &mut [u8], entries: &mut [u32], spare: &mut [u32]) -> Step
+    requires { ⌜ HasFields (now s) row × HasEntries (now s) (now entries) (now spare) ⌝ }
     ensures { λ r. ⌜ FieldsWrote (now (s .entry)) row (now (out .entry)) (now (out .exit)) r ⌝ }
 {
     let mut here = row.at;
@@ -232,7 +232,7 @@ fn to_fields(s: &[u8], row: Row, out: &mut [u8], entries: &mut [u32], spare: &mu
 
 // The same as `to_field`; the line of a leaf is written at once, where it fits.
 fn next_field(s: &[u8], tree: Tree, out: &mut [u8], entries: &mut [u32], spare: &mut [u32]) -> Step
-    requires { ⌜ HasField (now s) tree × HasRoom (now s) (now entries) (now spare) ⌝ }
+    requires { ⌜ HasField (now s) tree × HasEntries (now s) (now entries) (now spare) ⌝ }
     ensures { λ r. ⌜ FieldWrote (now (s .entry)) tree (now (out .entry)) (now (out .exit)) r ⌝ }
 {
     match put_leaf::put_leaf(s, tree.at, tree.bare, out) {
@@ -249,10 +249,10 @@ pub fn to_first_field(
     entries: &mut [u32],
     spare: &mut [u32],
 ) -> Step
-    requires { ⌜ HasField (now s) tree × HasRoom (now s) (now entries) (now spare) ⌝ }
+    requires { ⌜ HasField (now s) tree × HasEntries (now s) (now entries) (now spare) ⌝ }
     ensures { λ r. ⌜ FieldWrote (now (s .entry)) tree (now (out .entry)) (now (out .exit)) r ⌝ }
 {
-    let row = Row {
+    let row = Trees {
         at: tree.at,
         count: 1,
         levels: tree.levels,

@@ -5,7 +5,7 @@ use mathlib.Core.Bool.{false}
 use mathlib.Core.List.{List, [], _∷_, _++_, append-assoc}
 use Prim.Native.Nat.{ℕ, _+_, _-_, _≤_, min}
 use native.Mathlib.Omega.{arith}
-use lib.ListN.{length, take, drop, length-append}
+use lib.ListN.{length, take, drop}
 use Rattle.sheets.specs.Refusal.{Refusal, numberOf}
 use Rattle.sheets.specs.Bytes.{Bytes}
 use Rattle.sheets.specs.Answer.{Answer, refused, given, _>>=_}
@@ -17,8 +17,8 @@ use Rattle.sheets.specs.Import.{toField}
 use Rattle.sheets.specs.Outcome.{Outcome, imported, outcome, refusal, importOutcome}
 use Rattle.sheets.proofs.OutcomeLaws.{turned}
 use Rattle.sheets.specs.ImportLines.{written, shown}
-use Rattle.buffer.specs.Over.{over, overAt}
-use Rattle.buffer.proofs.OverLaws.{over-lent, overAt-zero}
+use Rattle.buffer.specs.Over.{PutAt, PutFirst}
+use Rattle.buffer.proofs.OverLaws.{put-lent, put-over}
 use Rattle.outcome.specs.Answers.{outcomeOf, Tells}
 use Rattle.outcome.specs.declared.Answered.{Answered}
 use Rattle.outcome.proofs.AnswerLaws.{refusal-over}
@@ -65,17 +65,16 @@ module _ (s : Bytes) (at : ℕ) (t : Schema) (ts : List Schema) (f : FieldAt s a
     lines-done = subst (λ (y : Step). FieldWrote s (treeOf at) lent part y) e h t ts f
 
     pub lines-long : len ≤ 2097120
-    lines-long = let d = lines-done in omega (arith, d .5, d .6, f .short)
+    lines-long = let d = lines-done in omega (arith, d .4, d .5, f .short)
 
-    pub sheet-done : (out mid : Bytes) (head w : ℕ) → (head ≡ 0 + length headLine) × (mid ≡ overAt 0 headLine out) → w ≡ min head (length mid)
+    pub sheet-done : (out mid : Bytes) (head w : ℕ) → PutAt 0 headLine head out mid → w ≡ min head (length mid)
         → lent ≡ take (length mid - w) (drop w mid)
         → SheetTold t out (take w mid ++ (part ++ drop (length mid - w) (drop w mid))) (given (next, head + len))
     sheet-done out mid head w p e₁ e₂ =
-        let (ls, is, lenIs, laid, there, long, within) = lines-done in (
+        let (ls, is, put, there, long, within) = lines-done in (
           headLine ++ ended ls,
           sheet-lines t ∙ ap sheet is,
-          omega (arith, p .0, lenIs, length-append headLine (ended ls)),
-          over-lent headLine (ended ls) out mid part head w (p .1 ∙ overAt-zero headLine out) (p .0) e₁ (laid ∙ ap (over (ended ls)) e₂),
+          put-lent headLine (ended ls) out (put-over headLine out p) e₁ (subst (λ (y : Bytes). PutFirst (ended ls) len y part) e₂ put) refl,
         )
 
 -- ── the outcome
@@ -117,5 +116,5 @@ module _ (s out : Bytes) where
       pub import-done : (next len : ℕ) → z ≡ Done next len → (a : Answered) (out' : Bytes) → Tells mid len a out' → outcomeOf (a .number) (a .length) out' ≡ importOutcome s out
       import-done next len d a out' c =
           let v : SheetWrote s at out mid (Done next len) = subst (λ (y : Step). SheetWrote s at out mid y) d w in
-          let (x, is, lenIs, laid) = v (read .0) [] field-at in
-          c x out lenIs laid ∙ ap (λ (y : Answer Bytes). outcome y out) (sym (of-sheet ∙ is))
+          let (x, is, put) = v (read .0) [] field-at in
+          c x out put ∙ ap (λ (y : Answer Bytes). outcome y out) (sym (of-sheet ∙ is))

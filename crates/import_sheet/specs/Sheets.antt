@@ -3,14 +3,13 @@ use mathlib.Core.Path.{_≡_}
 use mathlib.Core.Bool.{false}
 use mathlib.Core.List.{List}
 use Prim.Native.Nat.{ℕ}
-use lib.ListN.{length}
 use Rattle.sheets.specs.Bytes.{Bytes}
 use Rattle.sheets.specs.Answer.{Answer, refused, given, _>>=_}
 use Rattle.sheets.specs.Sheet.{levelLimit}
 use Rattle.sheets.specs.Schema.{Schema}
 use Rattle.sheets.specs.FieldSheet.{writeFieldSheet}
 use Rattle.sheets.specs.Import.{toField}
-use Rattle.buffer.specs.Over.{over}
+use Rattle.buffer.specs.Over.{PutFirst}
 use Rattle.import_field.specs.declared.Tree.{Tree}
 use Rattle.import_field.specs.declared.Step.{Step}
 use Rattle.import_field.specs.Contracts.{FieldAt, HasField, stepAnswer}
@@ -25,7 +24,7 @@ treeOf at = record { at = at; levels = levelLimit; bare = false }
 
 abbrev pub SheetTold : Schema → Bytes → Bytes → Answer (ℕ × ℕ) → Type 0
 SheetTold t out out' (refused q) = sheetOf t ≡ refused q
-SheetTold t out out' (given (next, len)) = (x : Bytes) × (sheetOf t ≡ given x) × (len ≡ length x) × (out' ≡ over x out)
+SheetTold t out out' (given (next, len)) = (x : Bytes) × (sheetOf t ≡ given x) × PutFirst x len out out'
 
 abbrev pub SheetWrote : Bytes → ℕ → Bytes → Bytes → Step → Type 0
 SheetWrote s at out out' r = (t : Schema) (ts : List Schema) → FieldAt s at levelLimit t ts → SheetTold t out out' (stepAnswer r)

@@ -4,7 +4,7 @@ ghost use Prim.Native.Nat.{_≤_};
 ghost use lib.ListN.{length};
 ghost use Rattle.sheets.specs.Outcome.{importOutcome};
 ghost use Rattle.outcome.specs.Answers.{outcomeOf};
-ghost use Rattle.node.specs.Info.{HasRoom};
+ghost use Rattle.node.specs.Info.{HasEntries};
 ghost use Rattle.import_sheet.specs.Sheets.{HasSheet, SheetWrote};
 use import_field::Step;
 use import_field::Tree;
@@ -13,7 +13,7 @@ use schema_sheet::SheetRead;
 
 // Writes the heading and the field's lines, as far as they fit.
 fn put_sheet(s: &[u8], at: usize, out: &mut [u8], entries: &mut [u32], spare: &mut [u32]) -> Step
-    requires { ⌜ HasSheet (now s) at × HasRoom (now s) (now entries) (now spare) ⌝ }
+    requires { ⌜ HasSheet (now s) at × HasEntries (now s) (now entries) (now spare) ⌝ }
     ensures { λ r. ⌜ SheetWrote (now (s .entry)) at (now (out .entry)) (now (out .exit)) r ⌝ }
 {
     let head = buffer::put_at(out, 0, b"kind p q text more name nullable pairs children\n");

@@ -1,8 +1,8 @@
 -- What is known at each return of `begin_field`: what the metadata and the name say is what the node says of its field, and the extension's line, if
 -- there is one, is written. By the columns that the line shows. Assumes nothing.
 use mathlib.Core.Path.{_≡_, refl, sym, ap, subst, _∙_}
-use mathlib.Core.Bool.{Bool, true, false}
-use mathlib.Core.List.{List, [], _∷_, _++_}
+use mathlib.Core.Bool.{Bool, true}
+use mathlib.Core.List.{List, _++_}
 use mathlib.Core.Option.{Option, none, some}
 use Prim.Native.Nat.{ℕ, _+_, _-_, _*_, _≤_}
 use native.Mathlib.Omega.{arith}
@@ -12,10 +12,9 @@ use Rattle.sheets.specs.Bytes.{Bytes, same}
 use Rattle.sheets.specs.Answer.{Answer, refused, given, _>>=_}
 use Rattle.sheets.specs.Text.{readText}
 use Rattle.sheets.specs.Flags.{nullable}
-use Rattle.sheets.specs.Sheet.{ended}
 use Rattle.sheets.specs.Schema.{Line, nodeOf}
 use Rattle.sheets.specs.Field.{Pair, Info}
-use Rattle.sheets.specs.FieldSheet.{noText, ofExtension, fieldLine, lineOf, writeList, pairText}
+use Rattle.sheets.specs.FieldSheet.{writeList, pairText}
 use Rattle.sheets.specs.Import.{nameText}
 use Rattle.sheets.specs.ImportLines.{Own, ownOf, shown}
 use Rattle.sheets.specs.Metadata.{Extension, extensionOf, somePairs, metadataFromBytes}
@@ -23,8 +22,8 @@ use Rattle.sheets.proofs.Tests.{first-gave}
 use Rattle.refusal.specs.declared.Refusal.{Refusal as Reason}
 use Rattle.refusal.specs.Refusals.{refusalOf}
 use Rattle.hex.specs.Hex.{isHex, bytesOf}
-use Rattle.buffer.specs.Over.{over, PutAt}
-use Rattle.buffer.proofs.OverLaws.{overAt-zero}
+use Rattle.buffer.specs.Over.{PutAt, PutFirst}
+use Rattle.buffer.proofs.OverLaws.{over-nothing, put-over}
 use Rattle.decimal.proofs.WriteLaws.{decimal-length}
 use Rattle.hex.proofs.HexLaws.{twice-length}
 use Rattle.field_line.specs.Columns.{endPiece}
@@ -39,16 +38,16 @@ use Rattle.metadata.specs.declared.Metadata.{Metadata}
 use Rattle.metadata.specs.declared.MetadataRead.{MetadataRead}
 use Rattle.metadata.specs.declared.MetadataRead.the-variants.{Found, Refused}
 use Rattle.metadata.specs.Entry.{pairAt, pairsAt, valueAt}
-use Rattle.metadata.specs.Pairs.{pairsColumn, HasPairs}
+use Rattle.metadata.specs.Pairs.{pairsColumn}
 use Rattle.metadata.proofs.ColumnLaws.{pairs-column, no-value, has-value}
 use Rattle.metadata.proofs.SizeLaws.{pairs-short}
 use Rattle.node.specs.declared.lines.Shown.{Shown}
 use Rattle.node.specs.declared.Begun.{Begun}
 use Rattle.node.specs.declared.Pending.the-variants as Pending
 use Rattle.node.specs.Types.{IsText}
-use Rattle.node.specs.Info.{metadataOf, ownAnswer, ReadsAs, HasRoom, HasBlock}
+use Rattle.node.specs.Info.{ownAnswer, ReadsAs, HasEntries, HasBlock}
 use Rattle.node.specs.Pieces.{infoPiece, ownText, shownText, extensionPiece, extensionText, CanShow, CanExtend}
-use Rattle.node.specs.Nodes.{columnIn, metadataIn, nothingShown, shownIn, IsPart, NodeIn, Begins, FieldBegins}
+use Rattle.node.specs.Nodes.{columnIn, metadataIn, nothingShown, shownIn, IsColumn, NodeIn, OwnBegins}
 use Rattle.node.proofs.TextLaws.{text-bytes}
 use Rattle.node.proofs.LineLaws.{own-info, shown-short, extension-short, extension-line}
 
@@ -82,7 +81,7 @@ ready-in s l name m t e f g es v d h =
 pub part-within : (s : Bytes) (p : Part) → length (columnIn s p) ≤ length s
 part-within s p = omega (arith, length-take (p .end - p .start) (drop (p .start) s), length-drop (p .start) s)
 
-pub is-part : {s : Bytes} {p : Part} {x : Option Bytes} → TextAt s (p .start) (p .end) x → IsPart s p
+pub is-part : {s : Bytes} {p : Part} {x : Option Bytes} → TextAt s (p .start) (p .end) x → IsColumn s p
 is-part h = (omega (arith, h .some), h .within)
 
 module _ {s : Bytes} {l : SchemaLine} (n : NodeIn s l) where
@@ -92,7 +91,7 @@ module _ {s : Bytes} {l : SchemaLine} (n : NodeIn s l) where
   metadata-text : IsText (columnIn s (l .metadata))
   metadata-text = (n .line .1 .1 .1 .0, n .shows .metadata .reads)
 
-  pub block-there : (es fs : List ℕ) → HasRoom s es fs → HasBlock (columnIn s (l .metadata)) es fs
+  pub block-there : (es fs : List ℕ) → HasEntries s es fs → HasBlock (columnIn s (l .metadata)) es fs
   block-there es fs h =
       let w = part-within s (l .metadata) in
       record {
@@ -102,7 +101,7 @@ module _ {s : Bytes} {l : SchemaLine} (n : NodeIn s l) where
       }
 
   -- the same of columns that were found
-  pub own-there : (name t : Bytes) → name ≡ columnIn s (l .name) → t ≡ columnIn s (l .metadata) → (es fs : List ℕ) → HasRoom s es fs → IsText name × HasBlock t es fs
+  pub own-there : (name t : Bytes) → name ≡ columnIn s (l .name) → t ≡ columnIn s (l .metadata) → (es fs : List ℕ) → HasEntries s es fs → IsText name × HasBlock t es fs
   own-there name t e f es fs h = (subst IsText (sym e) name-text, subst (λ (y : Bytes). HasBlock y es fs) (sym f) (block-there es fs h))
 
   -- ── what the node says of its field
@@ -167,10 +166,10 @@ module _ {s : Bytes} {l : SchemaLine} (n : NodeIn s l) where
         }
 
     module _ (bare : Bool) (es : List ℕ) (r : MetadataRead) (h : ReadsAs (ownAnswer name (columnIn s (l .metadata))) m es r) (out : Bytes) where
-      pub begin-refused : (q : Reason) → r ≡ Refused q → (b : Begun) → b ≡ record { len = 0; shown = nothingShown; pending = Pending.Refused q } → Begins s l bare x es out out b
+      pub begin-refused : (q : Reason) → r ≡ Refused q → (b : Begun) → b ≡ record { len = 0; shown = nothingShown; pending = Pending.Refused q } → OwnBegins s l bare x es out out b
       begin-refused q e b is =
           let told : refused (refusalOf q) ≡ ownAnswer name (columnIn s (l .metadata)) = subst (ReadsAs (ownAnswer name (columnIn s (l .metadata))) m es) e h .0 in
-          subst (Begins s l bare x es out out) (sym is)
+          subst (OwnBegins s l bare x es out out) (sym is)
           (record {
             ready = none-shown es;
             told = (say-refused (refusalOf q) (sym columns-say ∙ sym told), refl, refl);
@@ -219,13 +218,13 @@ module _ {s : Bytes} {l : SchemaLine} (n : NodeIn s l) where
               ∙ own-info bare name (x .1 .0) info (w .name .reads) (said .1)
 
           -- there is no extension
-          pub begin-plain : d .name ≡ 0 → (b : Begun) → b ≡ record { len = 0; shown = v; pending = Pending.Nothing } → Begins s l bare x es out out b
+          pub begin-plain : d .name ≡ 0 → (b : Begun) → b ≡ record { len = 0; shown = v; pending = Pending.Nothing } → OwnBegins s l bare x es out out b
           begin-plain z b is =
               let none-is : own meaning (said .0) ≡ (info, none) = ap (λ (y : Option Bytes). (info, extensionOf y (valueAt (bytesOf m) (d .more)))) (no-value (bytesOf m) (d .name) z) in
-              subst (Begins s l bare x es out out) (sym is)
+              subst (OwnBegins s l bare x es out out) (sym is)
               (record {
                 ready = can-show;
-                told = (info, none, said .3 ∙ ap given none-is, (refl, refl, shown-is));
+                told = (info, none, said .3 ∙ ap given none-is, ((refl, sym (over-nothing out)), shown-is));
                 long = omega (arith, shown-short name m es v can-show, text-shorter (columnIn s (l .metadata)));
               })
 
@@ -234,21 +233,21 @@ module _ {s : Bytes} {l : SchemaLine} (n : NodeIn s l) where
 
           -- the extension's line is written
           pub begin-extended : (d .name ≡ 0 → ⊥) → (out' : Bytes) (len : ℕ) → PutAt 0 (extensionText name m es v d) len out out'
-              → (b : Begun) → b ≡ record { len = len; shown = nothingShown; pending = Pending.Nothing } → Begins s l bare x es out out' b
+              → (b : Begun) → b ≡ record { len = len; shown = nothingShown; pending = Pending.Nothing } → OwnBegins s l bare x es out out' b
           unfolding extensionText
           begin-extended z out' len p b is =
               let n : Bytes = pairAt (bytesOf m) (d .name) .1 in
               let value = has-value (bytesOf m) (d .name) z in
               let some-is : own meaning (said .0) ≡ (info, some (n, valueAt (bytesOf m) (d .more))) = ap (λ (y : Option Bytes). (info, extensionOf y (valueAt (bytesOf m) (d .more)))) value in
               let line = extension-line name m es v d (shown bare info) n (valueAt (bytesOf m) (d .more)) value refl shown-is in
-              subst (Begins s l bare x es out out') (sym is)
+              subst (OwnBegins s l bare x es out out') (sym is)
               (record {
                 ready = none-shown es;
                 told = (
                   info,
                   some (n, valueAt (bytesOf m) (d .more)),
                   said .3 ∙ ap given some-is,
-                  (omega (arith, p .0, ap length line), p .1 ∙ overAt-zero (extensionText name m es v d) out ∙ ap (λ (y : Bytes). over y out) line, refl),
+                  (subst (λ (y : Bytes). PutFirst y len out out') line (put-over (extensionText name m es v d) out p), refl),
                 );
                 long = omega (arith, p .0, extended-length, text-shorter (columnIn s (l .metadata)), bare-length);
               })

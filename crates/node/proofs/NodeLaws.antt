@@ -9,24 +9,24 @@ use lib.IntN.{ℤ}
 use lib.ListN.{length}
 use Rattle.sheets.specs.Bytes.{Bytes}
 use Rattle.sheets.specs.Answer.{Answer, refused, given, _>>=_}
-use Rattle.sheets.specs.Schema.{Line, childrenOf, dictionaryOf}
+use Rattle.sheets.specs.Schema.{Line, childrenOf}
 use Rattle.sheets.specs.FieldSheet.{Shape, columns, ofScalar, ofNesting, ofGrouping, ofDictionary, ofExtension}
 use Rattle.sheets.specs.Import.{formatText}
 use Rattle.sheets.specs.ImportLines.{nodeShape, below}
 use Rattle.refusal.specs.declared.Refusal.{Refusal as Reason}
 use Rattle.refusal.specs.Refusals.{refusalOf}
 use Rattle.buffer.specs.Over.{PutAt}
-use Rattle.buffer.proofs.OverLaws.{Written, none-yet, and-then}
+use Rattle.buffer.proofs.OverLaws.{none-yet, and-then}
 use Rattle.field_line.specs.Columns.{columnsPiece, endPiece}
 use Rattle.field_line.proofs.LengthLaws.{end-short}
 use Rattle.schema_line.specs.declared.SchemaLine.{SchemaLine}
 use Rattle.schema_line.specs.Lines.{Shows}
 use Rattle.schema_line.specs.Texts.{textIn}
 use Rattle.schema_line.proofs.TextLaws.{text-shorter}
-use Rattle.format.specs.Formats.{belowOf}
-use Rattle.format.specs.declared.Below.{Below}
-use Rattle.format.specs.declared.FormatPut.{FormatPut}
-use Rattle.format.specs.declared.FormatPut.the-variants as Put
+use Rattle.import_type.specs.TypeColumns.{belowOf}
+use Rattle.import_type.specs.declared.Below.{Below}
+use Rattle.import_type.specs.declared.FormatPut.{FormatPut}
+use Rattle.import_type.specs.declared.FormatPut.the-variants as Put
 use Rattle.node.specs.declared.lines.Shown.{Shown}
 use Rattle.node.specs.Types.{IsText, columnType, TypeTold, TypePuts}
 use Rattle.node.specs.Pieces.{shownText, CanShow}

@@ -2,9 +2,8 @@
 use mathlib.Core.Path.{_≡_, refl, sym, ap, subst, _∙_}
 use mathlib.Core.Bool.{Bool, true, false, true≢false}
 use mathlib.Core.Option.{Option, none, some}
-use Prim.Native.Nat.{ℕ, zero, suc, _+_, _*_, _≤_}
+use Prim.Native.Nat.{ℕ, zero, suc, _≤_}
 use native.Mathlib.Omega.{arith}
-use lib.IntN.{ℤ}
 use lib.ListN.{length}
 use borrow.Author.Tests.{ne-eqb}
 use Rattle.sheets.specs.Refusal.{nullFormat, notUtf8, noChild}
@@ -29,15 +28,15 @@ use Rattle.schema_line.specs.Texts.{textIn}
 use Rattle.schema_line.proofs.TextLaws.{text-shorter}
 use Rattle.datatypes.specs.declared.IntegerType.{IntegerType}
 use Rattle.datatypes.specs.Places.{integerPlace}
-use Rattle.format.specs.declared.Below.{Below}
-use Rattle.format.specs.declared.Below.the-variants.{Values}
-use Rattle.format.specs.declared.FormatPut.{FormatPut}
-use Rattle.format.specs.declared.FormatPut.the-variants as Put
+use Rattle.import_type.specs.declared.Below.{Below}
+use Rattle.import_type.specs.declared.Below.the-variants.{Values}
+use Rattle.import_type.specs.declared.FormatPut.{FormatPut}
+use Rattle.import_type.specs.declared.FormatPut.the-variants as Put
 use Rattle.format.specs.declared.dictionary.IndexRead.{IndexRead}
 use Rattle.format.specs.declared.dictionary.IndexRead.the-variants as Index
-use Rattle.format.specs.Formats.{shapeOf, belowOf, FormatPuts}
+use Rattle.import_type.specs.TypeColumns.{shapeOf, belowOf, FormatPuts}
 use Rattle.format.specs.Dictionary.{indexAnswer}
-use Rattle.format.proofs.LengthLaws.{format-short, dictionary-short}
+use Rattle.import_type.proofs.LengthLaws.{format-short, dictionary-short}
 use Rattle.node.specs.Types.{lacksChild, IsText, indexShape, formatShape, columnType, TypeTold}
 use Rattle.node.proofs.TextLaws.{text-bytes}
 

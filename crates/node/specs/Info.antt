@@ -30,7 +30,7 @@ ReadsAs a m es r = (metadataAnswer (bytesOf m) es r ≡ a) × MetadataStands (by
 -- ── what is required
 
 -- entries for the pairs of any metadata that is a part of s: a pair takes 16 digits for its lengths
-pub record HasRoom (s : Bytes) (es fs : List ℕ) : Type 0 where
+pub record HasEntries (s : Bytes) (es fs : List ℕ) : Type 0 where
   pub entries : length s / 16 ≤ length es
   pub spare : length s / 16 ≤ length fs
 
@@ -38,4 +38,4 @@ pub record HasRoom (s : Bytes) (es fs : List ℕ) : Type 0 where
 pub record HasBlock (t : Bytes) (es fs : List ℕ) : Type 0 where
   pub isText : IsText t
   pub short : length t < 65536
-  pub room : HasRoom t es fs
+  pub room : HasEntries t es fs

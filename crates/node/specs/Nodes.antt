@@ -16,17 +16,18 @@ use Rattle.sheets.specs.Import.{formatText}
 use Rattle.sheets.specs.ImportLines.{nodeShape, below, ownOf, shown}
 use Rattle.sheets.specs.Metadata.{Extension}
 use Rattle.refusal.specs.Refusals.{refusalOf}
-use Rattle.buffer.specs.Over.{over, PutAt}
+use Rattle.refusal.specs.declared.Refusal.{Refusal}
+use Rattle.buffer.specs.Over.{PutAt, PutFirst}
 use Rattle.columns.specs.Columns.{part}
 use Rattle.field_line.specs.Columns.{columnsPiece, endPiece}
 use Rattle.columns.specs.declared.Part.{Part}
 use Rattle.schema_line.specs.declared.SchemaLine.{SchemaLine}
 use Rattle.schema_line.specs.Texts.{textIn}
 use Rattle.schema_line.specs.Lines.{Shows}
-use Rattle.format.specs.Formats.{belowOf, putAnswer}
-use Rattle.format.specs.declared.Below.{Below}
-use Rattle.format.specs.declared.Below.the-variants.{Nothing, First, All, Values}
-use Rattle.format.specs.declared.FormatPut.{FormatPut}
+use Rattle.import_type.specs.TypeColumns.{belowOf, putAnswer}
+use Rattle.import_type.specs.declared.Below.{Below}
+use Rattle.import_type.specs.declared.Below.the-variants.{Nothing, First, All, Values}
+use Rattle.import_type.specs.declared.FormatPut.{FormatPut}
 use Rattle.node.specs.declared.lines.Shown.{Shown}
 use Rattle.node.specs.declared.Begun.{Begun}
 use Rattle.node.specs.declared.Pending.{Pending}
@@ -44,13 +45,17 @@ metadataIn s l = textIn (columnIn s (l .metadata))
 abbrev pub nothingShown : Shown
 nothingShown = record { bare = true; nullable = false; count = 0 }
 
+-- nothing is written of the field, and its refusal is pending
+abbrev pub refusedLater : Refusal → Begun
+refusedLater r = record { len = 0; shown = nothingShown; pending = Pending.Refused r }
+
 -- what a line shows of its field, as it is written
 abbrev pub shownIn : Bytes → SchemaLine → List ℕ → Shown → Bytes
 shownIn s l es w = shownText (columnIn s (l .name)) (metadataIn s l) es w
 
 -- a column within the sheet
-abbrev pub IsPart : Bytes → Part → Type 0
-IsPart s p = (p .start ≤ p .end) × (p .end ≤ length s)
+abbrev pub IsColumn : Bytes → Part → Type 0
+IsColumn s p = (p .start ≤ p .end) × (p .end ≤ length s)
 
 -- the number of children on the field line, by what the type visits
 abbrev pub childrenBelow : Below → ℕ → ℕ
@@ -72,26 +77,31 @@ abbrev pub pendingAnswer : Pending → Answer (Unit {0})
 pendingAnswer Pending.Nothing = given tt
 pendingAnswer (Pending.Refused r) = refused (refusalOf r)
 
--- the lines in front of the type's: that of an extension or none; and what the type's line shows (`own`)
+-- the lines in front of the type's: that of an extension or none
+abbrev pub linesBefore : Bool → Info → Option Extension → List Bytes
+linesBefore bare i none = []
+linesBefore bare i (some e) = fieldLine .write (lineOf (ofExtension (e .0) (e .1)) (shown bare i) 1) ∷ []
+
+-- what the type's own line shows of the field: nothing under an extension
+abbrev pub typeShows : Bool → Info → Option Extension → Option Info
+typeShows bare i none = shown bare i
+typeShows bare i (some e) = none
+
 abbrev pub Headed : Bool → Info → Option Extension → Bytes → Bytes → Bytes → ℕ → Type 0
-Headed bare i none own out out' len = (len ≡ 0) × (out' ≡ out) × (own ≡ infoPiece (shown bare i))
-Headed bare i (some e) own out out' len =
-    (len ≡ length (ended (fieldLine .write (lineOf (ofExtension (e .0) (e .1)) (shown bare i) 1) ∷ [])))
-    × (out' ≡ over (ended (fieldLine .write (lineOf (ofExtension (e .0) (e .1)) (shown bare i) 1) ∷ [])) out)
-    × (own ≡ infoPiece none)
+Headed bare i e own out out' len = PutFirst (ended (linesBefore bare i e)) len out out' × (own ≡ infoPiece (typeShows bare i e))
 
 abbrev pub OwnTold : Bool → Line → Bytes → Bytes → Bytes → ℕ → Answer (Unit {0}) → Type 0
 OwnTold bare x own out out' len (given u) = (i : Info) × (e : Option Extension) × (ownOf (nodeOf x) ≡ given (i, e)) × Headed bare i e own out out' len
 OwnTold bare x own out out' len (refused q) = (ownOf (nodeOf x) ≡ refused q) × (len ≡ 0) × (own ≡ infoPiece none)
 
-pub record Begins (s : Bytes) (l : SchemaLine) (bare : Bool) (x : Line) (es : List ℕ) (out out' : Bytes) (b : Begun) : Type 0 where
+pub record OwnBegins (s : Bytes) (l : SchemaLine) (bare : Bool) (x : Line) (es : List ℕ) (out out' : Bytes) (b : Begun) : Type 0 where
   pub ready : CanShow (columnIn s (l .name)) (metadataIn s l) es (b .shown)
   pub told : OwnTold bare x (shownIn s l es (b .shown)) out out' (b .len) (pendingAnswer (b .pending))
   pub long : b .len + length (shownIn s l es (b .shown)) ≤ 82 + length (columnIn s (l .name)) + 3 * length (columnIn s (l .metadata))
 
 -- what `begin_field` tells
 abbrev pub FieldBegins : Bytes → SchemaLine → Bool → List ℕ → Bytes → Bytes → Begun → Type 0
-FieldBegins s l bare es out out' b = (x : Line) → Shows s l x → Begins s l bare x es out out' b
+FieldBegins s l bare es out out' b = (x : Line) → Shows s l x → OwnBegins s l bare x es out out' b
 
 -- ── the type
 

@@ -14,10 +14,10 @@ use Rattle.sheets.specs.Format.{readFormat, toIntegerType}
 use Rattle.buffer.specs.Over.{PutAt}
 use Rattle.field_line.specs.Columns.{columnsPiece}
 use Rattle.schema_line.specs.declared.SchemaLine.{SchemaLine}
-use Rattle.format.specs.Formats.{belowOf, putAnswer}
-use Rattle.format.specs.declared.Below.{Below}
-use Rattle.format.specs.declared.Below.the-variants.{Nothing, First, All, Values}
-use Rattle.format.specs.declared.FormatPut.{FormatPut}
+use Rattle.import_type.specs.TypeColumns.{belowOf, putAnswer}
+use Rattle.import_type.specs.declared.Below.{Below}
+use Rattle.import_type.specs.declared.Below.the-variants.{Nothing, First, All, Values}
+use Rattle.import_type.specs.declared.FormatPut.{FormatPut}
 
 -- the bytes are a text's column
 abbrev pub IsText : Bytes → Type 0

@@ -4,11 +4,11 @@ ghost use mathlib.Core.Bool.{true};
 ghost use Prim.Native.Nat.{_<_};
 ghost use lib.ListN.{length};
 ghost use Rattle.hex.specs.Hex.{isHex, bytesOf};
-ghost use Rattle.format.specs.Formats.{CanPut};
+ghost use Rattle.import_type.specs.TypeColumns.{CanPut};
 ghost use Rattle.node.specs.Types.{lacksChild, IsText, indexShape, formatShape, columnType, TypePuts};
-use format::Below;
-use format::FormatPut;
 use format::dictionary::IndexRead;
+use import_type::Below;
+use import_type::FormatPut;
 use refusal::Refusal;
 use schema_line::SchemaLine;
 
@@ -29,7 +29,7 @@ fn put_plain(out: &mut [u8], f: &[u8], sorted: bool, children: u64) -> FormatPut
     requires { ⌜ CanPut (now f) 0 ⌝ }
     ensures { λ r. ⌜ TypePuts (formatShape (bytesOf (now (f .entry))) sorted children) (length (now (f .entry))) (now (out .entry)) (now (out .exit)) r ⌝ }
 {
-    match format::put_format(out, 0, f, sorted) {
+    match import_type::put_format(out, 0, f, sorted) {
         FormatPut::Refused(r) => FormatPut::Refused(r),
         FormatPut::Put(end, b) => {
             if lacks_child(b, children) {
@@ -48,7 +48,7 @@ fn put_index(out: &mut [u8], f: &[u8], ordered: bool) -> FormatPut
     match format::dictionary::to_integer_type(f) {
         IndexRead::Refused(r) => FormatPut::Refused(r),
         IndexRead::Index(index) => FormatPut::Put(
-            format::dictionary::put_dictionary(out, 0, index, ordered),
+            import_type::put_dictionary(out, 0, index, ordered),
             Below::Values,
         ),
     }

@@ -5,13 +5,13 @@ pub mod lines;
 pub mod name;
 
 ghost use mathlib.Core.Path.{_≡_};
-ghost use Rattle.node.specs.Info.{HasRoom};
+ghost use Rattle.node.specs.Info.{HasEntries};
 ghost use Rattle.node.specs.Pieces.{CanShow};
-ghost use Rattle.node.specs.Nodes.{columnIn, metadataIn, nothingShown, IsPart, childrenBelow, NodeIn, FieldBegins, TypeLinePuts};
+ghost use Rattle.node.specs.Nodes.{columnIn, metadataIn, nothingShown, refusedLater, IsColumn, childrenBelow, NodeIn, FieldBegins, TypeLinePuts};
 use crate::lines::Shown;
 use columns::Part;
-use format::Below;
-use format::FormatPut;
+use import_type::Below;
+use import_type::FormatPut;
 use metadata::MetadataRead;
 use refusal::Refusal;
 use schema_line::SchemaLine;
@@ -31,7 +31,7 @@ pub struct Begun {
 }
 
 fn column_of(s: &[u8], p: Part) -> &[u8]
-    requires { ⌜ IsPart (now s) p ⌝ }
+    requires { ⌜ IsColumn (now s) p ⌝ }
     ensures { λ r. ⌜ now r ≡ columnIn (now (s .entry)) p ⌝ }
 {
     let start = p.start;
@@ -50,6 +50,17 @@ fn nothing_shown() -> Shown
     }
 }
 
+// The metadata or the name is refused, after what stands below: nothing is written, and nothing of the field is shown.
+fn refused_later(r: Refusal) -> Begun
+    ensures { λ b. ⌜ b ≡ refusedLater r ⌝ }
+{
+    Begun {
+        len: 0,
+        shown: nothing_shown(),
+        pending: Pending::Refused(r),
+    }
+}
+
 // Reads the metadata and the name of a node and writes the line of its extension, if its metadata names one, as far as it fits. A refusal of metadata or
 // name is pending, since it comes after what stands below. The entries are for the pairs of the line's metadata: lent, since this is called at each
 // of 32 levels.
@@ -61,17 +72,13 @@ pub fn begin_field(
     entries: &mut [u32],
     spare: &mut [u32],
 ) -> Begun
-    requires { ⌜ NodeIn (now s) line × HasRoom (now s) (now entries) (now spare) ⌝ }
+    requires { ⌜ NodeIn (now s) line × HasEntries (now s) (now entries) (now spare) ⌝ }
     ensures { λ r. ⌜ FieldBegins (now (s .entry)) line bare (now (entries .exit)) (now (out .entry)) (now (out .exit)) r ⌝ }
 {
     let name = column_of(s, line.name);
     let metadata = column_of(s, line.metadata);
     match info::read_own(name, metadata, entries, spare) {
-        MetadataRead::Refused(r) => Begun {
-            len: 0,
-            shown: nothing_shown(),
-            pending: Pending::Refused(r),
-        },
+        MetadataRead::Refused(r) => refused_later(r),
         MetadataRead::Found(d) => {
             let shown = Shown {
                 bare,

@@ -21,12 +21,12 @@ refusal-over n mid out l = λ i. record { number = n; size = 0; buffer = replica
 module _ (mid : Bytes) (len : ℕ) where
   -- longer than the buffer
   pub too-long : length mid < len → (a : Answered) (out' : Bytes) → outcomeOf (a .number) (a .length) out' ≡ refusal noRoom mid → Tells mid len a out'
-  too-long l a out' e x out long laid =
+  too-long l a out' e x out (long, laid) =
       let same : length mid ≡ length out = ap length laid ∙ length-over x out in
       e ∙ refusal-over noRoom mid out same ∙ sym (fits-not x out (omega (arith, same, long)))
 
   pub written-whole : len ≤ length mid → Tells mid len (record { number = 0; length = len }) mid
-  written-whole l x out long laid =
+  written-whole l x out (long, laid) =
       let same : length mid ≡ length out = ap length laid ∙ length-over x out in
       let fit : length x ≤ length out = omega (arith, same, long) in
       let p : mid ≡ x ++ drop (length x) out = laid ∙ over-fits x out fit in

@@ -1,11 +1,10 @@
 -- The answer of a call, and the lent buffer after it, as the outcome that the definitions give. Assumes nothing.
 use mathlib.Core.Path.{_≡_}
 use Prim.Native.Nat.{ℕ}
-use lib.ListN.{length}
 use Rattle.sheets.specs.Bytes.{Bytes}
 use Rattle.sheets.specs.Answer.{Answer, refused, given}
 use Rattle.sheets.specs.Outcome.{Outcome, outcome}
-use Rattle.buffer.specs.Over.{over}
+use Rattle.buffer.specs.Over.{PutFirst}
 use Rattle.outcome.specs.declared.Answered.{Answered}
 
 -- number, length, and every byte of the buffer
@@ -14,10 +13,10 @@ outcomeOf number size out = record { number = number; size = size; buffer = out 
 
 -- the buffer held a sheet of len bytes over what it held before, as far as it fits: the outcome is that of the sheet
 abbrev pub Tells : Bytes → ℕ → Answered → Bytes → Type 0
-Tells mid len a out' = (x out : Bytes) → len ≡ length x → mid ≡ over x out → outcomeOf (a .number) (a .length) out' ≡ outcome (given x) out
+Tells mid len a out' = (x out : Bytes) → PutFirst x len out mid → outcomeOf (a .number) (a .length) out' ≡ outcome (given x) out
 
 -- the sheet a was to be answered: it is written over the buffer as far as it fits, with its length, or is refused. The first number tells its writer where
 -- the reading goes on.
 abbrev pub SheetTold : Answer Bytes → Bytes → Bytes → Answer (ℕ × ℕ) → Type 0
 SheetTold a out out' (refused q) = a ≡ refused q
-SheetTold a out out' (given (next, len)) = (x : Bytes) × (a ≡ given x) × (len ≡ length x) × (out' ≡ over x out)
+SheetTold a out out' (given (next, len)) = (x : Bytes) × (a ≡ given x) × PutFirst x len out out'

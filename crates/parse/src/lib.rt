@@ -26,7 +26,7 @@ const I32_MAX: u64 = 2147483647;
 const I32_MIN: u64 = 2147483648;
 
 // The digits from byte at on, as a number of at most max.
-fn digits(s: &[u8], at: usize, max: u64) -> Size
+fn number_below(s: &[u8], at: usize, max: u64) -> Size
     requires { ⌜ isHex (now s) ≡ true ⌝ }
     ensures { λ r. ⌜ sizeAnswer r ≡ numberBelow (max + 1) (drop at (bytesOf (now (s .entry)))) ⌝ }
 {
@@ -64,7 +64,7 @@ pub fn parse_usize(s: &[u8]) -> Size
     requires { ⌜ isHex (now s) ≡ true ⌝ }
     ensures { λ r. ⌜ sizeAnswer r ≡ readSize (bytesOf (now (s .entry))) ⌝ }
 {
-    digits(s, after_plus(s), USIZE_MAX)
+    number_below(s, after_plus(s), USIZE_MAX)
 }
 
 pub fn parse_i32(s: &[u8]) -> Id
@@ -75,12 +75,12 @@ pub fn parse_i32(s: &[u8]) -> Id
         return Id::Bad;
     }
     if hex::byte_at(s, 0) == b'-' {
-        let Size::Value(m) = digits(s, 1, I32_MIN) else {
+        let Size::Value(m) = number_below(s, 1, I32_MIN) else {
             return Id::Bad;
         };
         return Id::Value(decimal::negated(m) as i32);
     }
-    let Size::Value(n) = digits(s, after_plus(s), I32_MAX) else {
+    let Size::Value(n) = number_below(s, after_plus(s), I32_MAX) else {
         return Id::Bad;
     };
     Id::Value(n as i32)

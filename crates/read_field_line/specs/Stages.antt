@@ -11,7 +11,7 @@ use Rattle.sheets.specs.Rule.{Meets}
 use Rattle.sheets.specs.Bytes.{Bytes, space}
 use Rattle.sheets.specs.Answer.{Answer, refused, given}
 use Rattle.sheets.specs.Number.{readNumber}
-use Rattle.sheets.specs.Codec.{Row as Columns, number, raw, done, _▸_}
+use Rattle.sheets.specs.Codec.{ColumnsCodec as Columns, number, raw, done, _▸_}
 use Rattle.sheets.specs.Field.{Info}
 use Rattle.sheets.specs.FieldSheet.{Shape, Line, columnsOf, readShape, readInfo}
 use Rattle.sheets.specs.FieldTrees.{shapeRule, ownRule}

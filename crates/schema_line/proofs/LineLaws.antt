@@ -16,7 +16,7 @@ use Rattle.sheets.specs.Refusal.{badLines}
 use Rattle.sheets.specs.Rule.{is, Meets}
 use Rattle.sheets.specs.Bytes.{Bytes, lacks, split}
 use Rattle.sheets.specs.Answer.{Answer, refused, given, _>>=_, when, found}
-use Rattle.sheets.specs.Codec.{Row as Columns, number, signed, text, done, _▸_}
+use Rattle.sheets.specs.Codec.{ColumnsCodec as Columns, number, signed, text, done, _▸_}
 use Rattle.sheets.specs.Number.{readNumber, readSigned}
 use Rattle.sheets.specs.Text.{readText}
 use Rattle.sheets.specs.Schema.{Line, childrenOf, dictionaryOf, schemaLine, lacksZero}

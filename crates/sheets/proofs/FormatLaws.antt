@@ -18,7 +18,7 @@ use Rattle.sheets.specs.Utf8.{isUtf8}
 use Rattle.sheets.specs.Field.{TimeUnit, second, millisecond, microsecond, nanosecond, Width, bits128, bits32, bits64, bits256, Scalar, leaf, timestamp, fixedSizeBinary, decimalType, Nesting, list, largeList, fixedSizeList, map, Grouping, struct, union, upFrom, scalarRule, nestingRule, groupingRule, sizeRule, idRule, textRule}
 use Rattle.sheets.specs.Demand3.{narrow}
 use Rattle.sheets.specs.Plain.{plainZone, plainScalar, plainGrouping}
-use Rattle.sheets.specs.Format.{Row, rows, rowNamed, rowOf, unitLetter, orEmpty, widthText, scalarFormat, nestingFormat, unionName, writeIds, groupingFormat, Format, ofScalar, ofNesting, ofGrouping, unsigned, dropPlus, readSize, readId, decimalParts, zone, readNamed, readFormat, toIntegerType, indexFormat}
+use Rattle.sheets.specs.Format.{FormatRow, rows, rowNamed, rowOf, unitLetter, orEmpty, widthText, scalarFormat, nestingFormat, unionName, writeIds, groupingFormat, Format, ofScalar, ofNesting, ofGrouping, unsigned, dropPlus, readSize, readId, decimalParts, zone, readNamed, readFormat, toIntegerType, indexFormat}
 use Rattle.sheets.proofs.Tests.{passing, meets, when-met, first-gave, every, at-each, and-left, and-right, never, not-some, not-given}
 use Rattle.sheets.proofs.BytesLaws.{split-join, eachLacks, all-append, all-weaken}
 use Rattle.sheets.proofs.NumberLaws.{decimal-digits, decimal-lean, value-decimal, decimal-lacks, signed-lacks}
@@ -61,19 +61,19 @@ read-id z h = id-any z ∙ when-met badNumber (idRule z) z h
 
 -- ── fixed names: one test over the table
 
-abbrev isRow : Option Row → Row → Bool
+abbrev isRow : Option FormatRow → FormatRow → Bool
 isRow none r = false
 isRow (some x) r = eqb (x .kind) (r .kind) && eqb (x .unit) (r .unit)
 
 -- a row's name finds it, is UTF-8 and has no byte 00
-abbrev rowRule : Row → Rule
+abbrev rowRule : FormatRow → Rule
 rowRule r = is (isRow (rowNamed (r .name) rows) r) and is (isUtf8 (r .name)) and lacks 0 (r .name)
 
 table : Meets (each rowRule rows)
 unfolding rows
 table = meets (each rowRule rows) refl
 
-row-of : (l : List Row) → Meets (each rowRule l) → (k u : ℕ) (r : Row) → rowOf k u l ≡ some r → Meets (rowRule r) × (k ≡ r .kind) × (u ≡ r .unit)
+row-of : (l : List FormatRow) → Meets (each rowRule l) → (k u : ℕ) (r : FormatRow) → rowOf k u l ≡ some r → Meets (rowRule r) × (k ≡ r .kind) × (u ≡ r .unit)
 row-of [] h k u r e = not-some e
 row-of (x ∷ l) h k u r e = pick (eqb k (x .kind) && eqb u (x .unit)) refl (row-of l (h .1) k u r) e
   where
@@ -83,7 +83,7 @@ row-of (x ∷ l) h k u r e = pick (eqb k (x .kind) && eqb u (x .unit)) refl (row
         rw (← same) (h .0, eqb-true k (x .kind) (and-left (eqb k (x .kind)) (eqb u (x .unit)) t), eqb-true u (x .unit) (and-right (eqb k (x .kind)) (eqb u (x .unit)) t))
     pick false t next g = next g
 
-named : (o : Option Row) (r : Row) (other : Answer Format) → isRow o r ≡ true → readNamed o other ≡ given (ofScalar (leaf (r .kind) (r .unit)))
+named : (o : Option FormatRow) (r : FormatRow) (other : Answer Format) → isRow o r ≡ true → readNamed o other ≡ given (ofScalar (leaf (r .kind) (r .unit)))
 named none r other h = never h
 named (some x) r other h =
     rw (eqb-true (x .kind) (r .kind) (and-left (eqb (x .kind) (r .kind)) (eqb (x .unit) (r .unit)) h), eqb-true (x .unit) (r .unit) (and-right (eqb (x .kind) (r .kind)) (eqb (x .unit) (r .unit)) h))
@@ -144,12 +144,12 @@ read-decimal-format sorted w p s h k =
     rw (split-join 44 (decimal p) (decimal s ∷ widthText w) (decimal-lacks 44 refl p, (decimal-lacks 44 refl s, width-free w)), width-back w p s h k)
 
 -- what a row of the table says of the name written for a place and a unit
-leaf-row : (k u : ℕ) (f : Bytes) → scalarFormat (leaf k u) ≡ given f → (r : Row) × (Meets (rowRule r) × (k ≡ r .kind) × (u ≡ r .unit)) × (r .name ≡ f)
+leaf-row : (k u : ℕ) (f : Bytes) → scalarFormat (leaf k u) ≡ given f → (r : FormatRow) × (Meets (rowRule r) × (k ≡ r .kind) × (u ≡ r .unit)) × (r .name ≡ f)
 leaf-row k u f e =
-    let (r, g, n) = first-gave (found noFormat (rowOf k u rows)) (λ (r : Row). given (r .name)) f e in
+    let (r, g, n) = first-gave (found noFormat (rowOf k u rows)) (λ (r : FormatRow). given (r .name)) f e in
     (r, row-of rows table k u r (found-some noFormat (rowOf k u rows) r g), cc)
 
-read-row : (sorted : Bool) (r : Row) (k u : ℕ) (f : Bytes) → Meets (rowRule r) × (k ≡ r .kind) × (u ≡ r .unit) → r .name ≡ f → readFormat sorted f ≡ given (ofScalar (leaf k u))
+read-row : (sorted : Bool) (r : FormatRow) (k u : ℕ) (f : Bytes) → Meets (rowRule r) × (k ≡ r .kind) × (u ≡ r .unit) → r .name ≡ f → readFormat sorted f ≡ given (ofScalar (leaf k u))
 read-row sorted r k u f h name = rw (← name, h .1, h .2) (named (rowNamed (r .name) rows) r _ (h .0 .0))
 
 pub read-scalar : (sorted : Bool) (s : Scalar) (f : Bytes) → Meets (scalarRule s) → scalarFormat s ≡ given f → readFormat sorted f ≡ given (ofScalar (plainScalar s))

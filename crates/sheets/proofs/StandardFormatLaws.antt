@@ -19,7 +19,7 @@ use Rattle.sheets.specs.Kind
 use Rattle.sheets.specs.Field.{Info, TimeUnit, second, millisecond, microsecond, nanosecond, Width, bits128, bits32, bits64, bits256, Scalar, leaf, timestamp, fixedSizeBinary, decimalType, list, largeList, fixedSizeList, map, struct, union, ArrowDataType, scalar, nested, grouped, dictionary, extension, Fields, countFields, upFrom, sizeRule, idRule}
 use Rattle.sheets.specs.Format.{rows, rowOf, orEmpty, scalarFormat, unionName, writeIds, Format, ofScalar, ofNesting, ofGrouping, readSize, readId, decimalParts, widthOf, zone, readFormat, toFormat, indexFormat, toIntegerType}
 use Rattle.sheets.specs.Format as F
-use Rattle.sheets.specs.Standard.{Published, decimal128Format, decimalFormat, bitWidth, fixedWidthBinaryFormat, timestampFormat, fixedSizedListFormat, unionFormat, fixedFormats, In, Row, fixed, decimal128, decimalBits, fixedWidthBinary, timestamps, fixedSizedList, unions, published, indexFormats, sourceName, IsPublished}
+use Rattle.sheets.specs.Standard.{Published, decimal128Format, decimalFormat, bitWidth, fixedWidthBinaryFormat, timestampFormat, fixedSizedListFormat, unionFormat, fixedFormats, In, PublishedRow, fixed, decimal128, decimalBits, fixedWidthBinary, timestamps, fixedSizedList, unions, published, indexFormats, sourceName, IsPublished}
 use Rattle.sheets.proofs.Tests.{never, not-some, not-given, first-gave, same-given, met-when, meets}
 use Rattle.sheets.proofs.BytesLaws.{same-eq, split-join, eachLacks}
 use Rattle.sheets.proofs.NumberLaws.{decimal-lacks, signed-lacks}
@@ -60,7 +60,7 @@ when-map {A} {B} rule f a = pick (passes rule)
 
 -- ── each published format reads as its row says
 
-abbrev Reads : (sorted : Bool) → Row sorted → Type 0
+abbrev Reads : (sorted : Bool) → PublishedRow sorted → Type 0
 Reads sorted r = readFormat sorted (published r .format) ≡ published r .taken
 
 -- precision and scale, both read; a scale below 0 does not
@@ -118,7 +118,7 @@ fixed-read : (sorted : Bool) → mapList (λ (r : Published). readFormat sorted 
 unfolding rows
 fixed-read sorted = refl
 
-pub read-published : (sorted : Bool) (r : Row sorted) → readFormat sorted (published r .format) ≡ published r .taken
+pub read-published : (sorted : Bool) (r : PublishedRow sorted) → readFormat sorted (published r .format) ≡ published r .taken
 unfolding rows
 read-published sorted (fixed r h) = agree-in (λ (r : Published). readFormat sorted (r .format)) (λ (r : Published). r .taken) (fixedFormats sorted) (fixed-read sorted) r h
 read-published sorted (decimal128 p s) = read-decimal sorted p s
@@ -156,7 +156,7 @@ typeFrom (ofNesting n) i t fs = nested n i t
 typeFrom (ofGrouping g) i t fs = grouped g fs
 
 -- a decimal of 128 bits has two names, and the first is written
-abbrev pub firstName : {sorted : Bool} → Row sorted → Published
+abbrev pub firstName : {sorted : Bool} → PublishedRow sorted → Published
 firstName (fixed r h) = r
 firstName (decimal128 p s) = decimal128Format p s
 firstName (decimalBits p s bits128) = decimal128Format p s
@@ -201,7 +201,7 @@ module _ (i : Info) (a : ArrowDataType) (fs : Fields) where
   union-written true z zs = refl
   union-written false z zs = refl
 
-  pub write-published : (sorted : Bool) (r : Row sorted) (g : Format) → published r .taken ≡ given g → toFormat (typeFrom g i a fs) ≡ given (firstName r .format)
+  pub write-published : (sorted : Bool) (r : PublishedRow sorted) (g : Format) → published r .taken ≡ given g → toFormat (typeFrom g i a fs) ≡ given (firstName r .format)
   unfolding decimal
   write-published sorted (fixed r h) g e =
       fixed-writes r (r .taken) g e (agree-in (λ (r : Published). r .taken >>= λ g. toFormat (typeFrom g i a fs)) (λ (r : Published). r .taken >>= λ g. given (r .format)) (fixedFormats sorted) (fixed-written sorted) r h)
@@ -236,14 +236,14 @@ listed-published : (sorted : Bool) (f : Bytes) → listed f (fixedFormats sorted
 listed-published sorted f h = let q = listed-in f (fixedFormats sorted) h in (fixed (q .0) (q .1), q .2)
 
 -- one test over the table of fixed names
-abbrev rowPublished : Bool → F.Row → Rule
+abbrev rowPublished : Bool → F.FormatRow → Rule
 rowPublished sorted r = is (sourceName (r .name) || listed (r .name) (fixedFormats sorted))
 
 table : (sorted : Bool) → Meets (each (rowPublished sorted) rows)
 unfolding rows
 table sorted = meets (each (rowPublished sorted) rows) refl
 
-row-published : (sorted : Bool) (l : List F.Row) → Meets (each (rowPublished sorted) l) → (k u : ℕ) (r : F.Row) → rowOf k u l ≡ some r → Meets (rowPublished sorted r)
+row-published : (sorted : Bool) (l : List F.FormatRow) → Meets (each (rowPublished sorted) l) → (k u : ℕ) (r : F.FormatRow) → rowOf k u l ≡ some r → Meets (rowPublished sorted r)
 row-published sorted [] h k u r e = not-some e
 row-published sorted (x ∷ l) h k u r e = pick (eqb k (x .kind) && eqb u (x .unit)) (row-published sorted l (h .1) k u r) e
   where
@@ -255,7 +255,7 @@ row-published sorted (x ∷ l) h k u r e = pick (eqb k (x .kind) && eqb u (x .un
 
 leaf-published : (sorted : Bool) (k u : ℕ) (f : Bytes) → scalarFormat (leaf k u) ≡ given f → sourceName f ≡ false → IsPublished sorted f
 leaf-published sorted k u f e d =
-    let r = first-gave (found noFormat (rowOf k u rows)) (λ (r : F.Row). given (r .name)) f e in
+    let r = first-gave (found noFormat (rowOf k u rows)) (λ (r : F.FormatRow). given (r .name)) f e in
     let t : Meets (rowPublished sorted (r .0)) = row-published sorted rows (table sorted) k u (r .0) (found-some noFormat (rowOf k u rows) (r .0) (r .1)) in
     named (r .0 .name) (same-given (r .2)) t
   where

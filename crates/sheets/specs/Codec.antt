@@ -32,7 +32,7 @@ abbrev pub raw : Codec Bytes
 raw = record { write = λ b. b; read = λ b. given b }
 
 -- values in columns one after the other
-pub record Row (A : Type 0) : Type 0 where
+pub record ColumnsCodec (A : Type 0) : Type 0 where
   pub writes : A → List Bytes
   pub reads : List Bytes → Answer A
 
@@ -41,7 +41,7 @@ noColumns [] = given tt
 noColumns (c ∷ cs) = refused badLines
 
 -- no more columns
-abbrev pub done : Row (Unit {0})
+abbrev pub done : ColumnsCodec (Unit {0})
 done = record { writes = λ u. []; reads = noColumns }
 
 -- the first column and the others
@@ -50,9 +50,9 @@ readColumn read reads [] = refused badLines
 readColumn read reads (c ∷ cs) = read c >>= λ a. reads cs >>= λ b. given (a, b)
 
 -- one column, then the others
-abbrev pub _▸_ : {A B : Type 0} → Codec A → Row B → Row (A × B)
+abbrev pub _▸_ : {A B : Type 0} → Codec A → ColumnsCodec B → ColumnsCodec (A × B)
 _▸_ c r = record { writes = λ x. c .write (x .0) ∷ r .writes (x .1); reads = readColumn (c .read) (r .reads) }
 
 -- a line: the columns split by one space
-abbrev pub line : {A : Type 0} → Row A → Codec A
+abbrev pub line : {A : Type 0} → ColumnsCodec A → Codec A
 line r = record { write = λ a. join space (r .writes a); read = λ b. r .reads (split space b) }

@@ -18,16 +18,16 @@ use Rattle.sheets.specs.IntegerType
 use Rattle.sheets.specs.IntervalUnit
 
 -- a fixed name, the place of its type and the unit's place
-pub record Row : Type 0 where
+pub record FormatRow : Type 0 where
   pub name : Bytes
   pub kind : ℕ
   pub unit : ℕ
 
-abbrev row : Bytes → ℕ → ℕ → Row
+abbrev row : Bytes → ℕ → ℕ → FormatRow
 row f k u = record { name = f; kind = k; unit = u }
 
 -- "the fixed names are theirs" (`to_dtype` and `to_format`), but for those of types with children; `_pli128` and `_plu128` are not the standard's
-unfoldable pub rows : List Row
+unfoldable pub rows : List FormatRow
 rows =
     row (ascii "n") Kind.Null 0
     ∷ row (ascii "b") Kind.Boolean 0
@@ -66,12 +66,12 @@ rows =
     ∷ []
 
 -- the row of a name
-abbrev pub rowNamed : Bytes → List Row → Option Row
+abbrev pub rowNamed : Bytes → List FormatRow → Option FormatRow
 rowNamed f [] = none
 rowNamed f (r ∷ rs) = cond (same f (r .name)) (some r) (rowNamed f rs)
 
 -- the row of a type and a unit
-abbrev pub rowOf : ℕ → ℕ → List Row → Option Row
+abbrev pub rowOf : ℕ → ℕ → List FormatRow → Option FormatRow
 rowOf k u [] = none
 rowOf k u (r ∷ rs) = cond (eqb k (r .kind) && eqb u (r .unit)) (some r) (rowOf k u rs)
 
@@ -208,7 +208,7 @@ abbrev pub readOther : Option (Bytes × Bytes) → Answer Format
 readOther none = refused unsupportedFormat
 readOther (some hr) = readCut (hr .0) (hr .1)
 
-abbrev pub readNamed : Option Row → Answer Format → Answer Format
+abbrev pub readNamed : Option FormatRow → Answer Format → Answer Format
 readNamed (some r) other = given (ofScalar (leaf (r .kind) (r .unit)))
 readNamed none other = other
 

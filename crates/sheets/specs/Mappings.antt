@@ -30,16 +30,16 @@ abbrev dictionaryOf : ℕ → PhysicalType
 dictionaryOf i = record { place = Physical.Dictionary; inner = i }
 
 -- for types without children: the place in `ArrowDataType`, the physical type, and the underlying type's place
-pub record Row : Type 0 where
+pub record LeafRow : Type 0 where
   pub kind : ℕ
   pub shape : PhysicalType
   pub under : ℕ
 
-abbrev row : ℕ → PhysicalType → ℕ → Row
+abbrev row : ℕ → PhysicalType → ℕ → LeafRow
 row k p u = record { kind = k; shape = p; under = u }
 
 -- all that a place tells, but for Interval and Unknown
-unfoldable pub leafRows : List Row
+unfoldable pub leafRows : List LeafRow
 leafRows =
     row Kind.Null (bareType Physical.Null) Kind.Null
     ∷ row Kind.Boolean (bareType Physical.Boolean) Kind.Boolean
@@ -69,7 +69,7 @@ leafRows =
     ∷ row Kind.Utf8View (bareType Physical.Utf8View) Kind.Utf8View
     ∷ []
 
-abbrev pub rowAt : ℕ → List Row → Option Row
+abbrev pub rowAt : ℕ → List LeafRow → Option LeafRow
 rowAt k [] = none
 rowAt k (r ∷ rs) = cond (eqb k (r .kind)) (some r) (rowAt k rs)
 

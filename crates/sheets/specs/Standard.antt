@@ -179,16 +179,16 @@ In a [] = ⊥
 In a (b ∷ l) = (a ≡ b) ⊎ In a l
 
 -- a row of the tables
-pub data Row (sorted : Bool) : Type 0 where
-  fixed : (r : Published) → In r (fixedFormats sorted) → Row sorted
-  decimal128 : ℕ → ℤ → Row sorted
-  decimalBits : ℕ → ℤ → Width → Row sorted
-  fixedWidthBinary : ℕ → Row sorted
-  timestamps : TimeUnit → Bytes → Row sorted
-  fixedSizedList : ℕ → Row sorted
-  unions : UnionMode → List ℤ → Row sorted
+pub data PublishedRow (sorted : Bool) : Type 0 where
+  fixed : (r : Published) → In r (fixedFormats sorted) → PublishedRow sorted
+  decimal128 : ℕ → ℤ → PublishedRow sorted
+  decimalBits : ℕ → ℤ → Width → PublishedRow sorted
+  fixedWidthBinary : ℕ → PublishedRow sorted
+  timestamps : TimeUnit → Bytes → PublishedRow sorted
+  fixedSizedList : ℕ → PublishedRow sorted
+  unions : UnionMode → List ℤ → PublishedRow sorted
 
-abbrev pub published : {sorted : Bool} → Row sorted → Published
+abbrev pub published : {sorted : Bool} → PublishedRow sorted → Published
 published (fixed r h) = r
 published (decimal128 p s) = decimal128Format p s
 published (decimalBits p s w) = decimalFormat p s w
@@ -199,7 +199,7 @@ published (unions mode ids) = unionFormat mode ids
 
 -- a row of the tables has this format
 abbrev pub IsPublished : Bool → Bytes → Type 0
-IsPublished sorted f = (r : Row sorted) × (published r .format ≡ f)
+IsPublished sorted f = (r : PublishedRow sorted) × (published r .format ≡ f)
 
 -- the two names that are the source's own
 abbrev pub sourceName : Bytes → Bool

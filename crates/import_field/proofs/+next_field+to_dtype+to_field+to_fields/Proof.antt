@@ -12,7 +12,7 @@ use Rattle.sheets.specs.Schema.{nodeOf, Schemas, Schema, schema}
 use Rattle.sheets.specs.ImportLines.{typeWritten}
 use Rattle.buffer.proofs.OverLaws.{length-lent}
 use Rattle.import_field.specs.declared.TypeBegun.the-variants.{Row}
-use Rattle.import_field.specs.Contracts.{FieldsAt, typeLength, Begins, TypeBegins}
+use Rattle.import_field.specs.Contracts.{FieldsAt, typeLength, LineBegins, TypeBegins}
 use Rattle.import_field.proofs.OwnLaws.{room-kept, some-level, node-there, type-there, type-turned, field-long, field-next, field-ended}
 use Rattle.import_field.proofs.TypeLaws.{type-short, fields-there, fields-refused, left-there, both-long, type-ended}
 use Rattle.import_field.proofs.FieldsLaws.{Going, going-none, going-field, going-more, going-refused, going-all}
@@ -149,7 +149,7 @@ own : (t : ℕ) (c : to-dtype-lts.After-known-told2 (to-dtype-calls t) (to-dtype
     let p = c .before .before .before .before .before .before .before .before .before .before .before .before .pre .1 .0 in
     let r = c .before .before .before .before .before .begin-type in
     let u = c .before .from .given .0 in
-    Begins (now (a .s)) (a .line) (a .levels) (typeWritten (p .info) (schema (nodeOf (p .line)) (p .children) (p .dictionary))) (typeLength (now (a .s)) (a .line) (a .shown) (now (a .entries))) (p .after)
+    LineBegins (now (a .s)) (a .line) (a .levels) (typeWritten (p .info) (schema (nodeOf (p .line)) (p .children) (p .dictionary))) (typeLength (now (a .s)) (a .line) (a .shown) (now (a .entries))) (p .after)
     (now (a .out)) (r .last .1 .1 .1 .1 .0) (u .0) (u .1 .0) (u .1 .1 .0)
 own t c = let p = c .before .before .before .before .before .before .before .before .before .before .before .before .pre .1 .0 in begun t c (p .line) (p .children) (p .dictionary) (p .after) (p .info) (p .there) (p .shows)
 

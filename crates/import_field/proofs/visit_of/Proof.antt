@@ -1,6 +1,6 @@
 -- `visit_of` meets its contract: by the cases of what a type visits. Assumes nothing.
 use mathlib.Core.Path.{sym, ap, subst}
-use Rattle.format.specs.declared.Below.{Below}
+use Rattle.import_type.specs.declared.Below.{Below}
 use Rattle.import_field.specs.Contracts.{HasFirst, visitOf}
 use borrow.Author.Needs.{needs}
 use Rattle.import_field.proofs.visit_of.Statement.{statement}

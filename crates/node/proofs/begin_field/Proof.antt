@@ -7,54 +7,36 @@ use Rattle.node.proofs.BeginLaws.{shown-made, own-there, reads-in, read
 use borrow.Author.Needs.{needs}
 use Rattle.node.proofs.begin_field.Statement.{statement}
 use Rattle.node.proofs.begin_field.Tie as tie
-use Rattle.node.proofs.begin_field.Reads as reads
-use Rattle.node.proofs.begin_field.Lts as lts
-use Rattle.node.proofs.column_of.Reads as column-of-reads
-use Rattle.node.proofs.info.read_own.Reads as read-own-reads
-use Rattle.node.proofs.lines.put_extension_line.Reads as put-extension-line-reads
-use Rattle.node.proofs.nothing_shown.Reads as nothing-shown-reads
-use Rattle.schema_line.proofs.SchemaLine.nullable.Reads as nullable-reads
-use Rattle.schema_line.proofs.text_of.Reads as text-of-reads
 
--- src/lib.rt:66:9
 column-of-requires : tie.Need-column-of-requires
 column-of-requires c κs = search needs
 
--- src/lib.rt:67:9
 column-of-requires-2 : tie.Need-column-of-requires-2
 column-of-requires-2 c κs = search needs
 
--- src/lib.rt:68:11
 read-own-requires : tie.Need-read-own-requires
 read-own-requires c κs =
     let p = c .before .before .before .before .before .before .before .before .pre in
     own-there (p .0) _ _ (c .before .before .before .column-of .ensures) (c .before .before .column-of2 .ensures) _ _ (p .1)
 
--- src/lib.rt:69:31
 enum-known-r : tie.Need-enum-known-r
 enum-known-r c = search needs
 
--- src/lib.rt:71:20
-nothing-shown-requires : tie.Need-nothing-shown-requires
-nothing-shown-requires c κs = search needs
+refused-later-requires : tie.Need-refused-later-requires
+refused-later-requires c κs = search needs
 
--- src/lib.rt:74:29
 enum-known-d : tie.Need-enum-known-d
 enum-known-d c = search needs
 
--- src/lib.rt:77:27
 nullable-requires : tie.Need-nullable-requires
 nullable-requires c κs = search needs
 
--- src/lib.rt:81:17
 same-length : tie.Need-same-length
 same-length c = search needs
 
--- src/lib.rt:81:17
 same-length-2 : tie.Need-same-length-2
 same-length-2 c = search needs
 
--- src/lib.rt:81:17
 returns : tie.Need-returns
 returns c =
     let a = c .before .before .before .before .before .before .before .before .before .before .before .before .before .before .before .before .before .before .before .args in
@@ -65,11 +47,9 @@ returns c =
     let reads = reads-in (now (a .s)) (a .line) _ _ (name .ensures) (block .ensures) _ (read .result) (read .ensures) in
     λ x w. begin-plain (p .0) x w (a .bare) _ (read .result) reads (now (a .out)) _ (c .before .before .before .before .d .given .1) _ (shown-made (c .before .before .nullable .ensures)) (c .if1 .taken) _ refl
 
--- src/lib.rt:87:17
 text-of-requires : tie.Need-text-of-requires
 text-of-requires c κs = search needs
 
--- src/lib.rt:89:22
 put-extension-line-requires : tie.Need-put-extension-line-requires
 put-extension-line-requires c κs =
     let a = c .before .before .before .before .before .before .before .before .before .before .before .before .before .before .before .before .before .before .before .before .before .before .args in
@@ -85,19 +65,15 @@ put-extension-line-requires c κs =
     ready-in (now (a .s)) (a .line) _ _ _ (name .ensures) (block .ensures) (c .before .before .text-of .ensures) _ _ _
     (can-show (p .0) x w (a .bare) _ (read .result) reads (now (a .out)) _ known _ made, can-extend (p .0) x w (a .bare) _ (read .result) reads (now (a .out)) _ known _ made)
 
--- src/lib.rt:90:24
-nothing-shown-requires-2 : tie.Need-nothing-shown-requires-2
-nothing-shown-requires-2 c κs = search needs
+nothing-shown-requires : tie.Need-nothing-shown-requires
+nothing-shown-requires c κs = search needs
 
--- src/lib.rt:55:1
 same-length-3 : tie.Need-same-length-3
 same-length-3 c = search needs
 
--- src/lib.rt:55:1
 same-length-4 : tie.Need-same-length-4
 same-length-4 c = search needs
 
--- src/lib.rt:55:1
 returns-2 : tie.Need-returns-2
 returns-2 c =
     let a = c .before .before .before .before .before .before .before .before .before .before .before .before .before .before .before .before .before .args in
@@ -106,21 +82,17 @@ returns-2 c =
     let block = c .before .before .before .before .before .before .before .before .before .before .before .column-of2 in
     let read = c .before .before .before .before .before .before .before .before .read-own in
     let reads = reads-in (now (a .s)) (a .line) _ _ (name .ensures) (block .ensures) _ (read .result) (read .ensures) in
-    λ x w. begin-refused (p .0) x w (a .bare) _ (read .result) reads (now (a .out)) _ (c .before .before .r .given .1) _ (ap (λ (y : Shown). record { len = 0; shown = y; pending = Pending.Refused (c .before .before .r .given .0 .0) }) (c .nothing-shown .ensures))
+    λ x w. begin-refused (p .0) x w (a .bare) _ (read .result) reads (now (a .out)) _ (c .before .before .r .given .1) _ (c .refused-later .ensures)
 
--- src/lib.rt:55:1
 same-length-5 : tie.Need-same-length-5
 same-length-5 c = search needs
 
--- src/lib.rt:55:1
 same-length-6 : tie.Need-same-length-6
 same-length-6 c = search needs
 
--- src/lib.rt:55:1
 same-length-7 : tie.Need-same-length-7
 same-length-7 c = search needs
 
--- src/lib.rt:55:1
 returns-3 : tie.Need-returns-3
 returns-3 c =
     let a = c .before .before .before .before .before .before .before .before .before .before .before .before .before .before .before .before .before .before .before .before .before .before .before .before .before .before .args in
@@ -131,7 +103,7 @@ returns-3 c =
     let reads = reads-in (now (a .s)) (a .line) _ _ (name .ensures) (block .ensures) _ (read .result) (read .ensures) in
     let put = c .before .before .before .put-extension-line in
     let laid = put-in (now (a .s)) (a .line) _ _ _ (name .ensures) (block .ensures) (c .before .before .before .before .before .before .text-of .ensures) _ _ _ (put .result) (now (a .out)) _ (put .ensures) in
-    λ x w. begin-extended (p .0) x w (a .bare) _ (read .result) reads (now (a .out)) _ (c .before .before .before .before .before .before .before .before .before .before .before .d .given .1) _ (shown-made (c .before .before .before .before .before .before .before .before .before .nullable .ensures)) (c .before .before .before .before .before .before .before .if1 .left) _ _ laid _ (ap (λ (y : Shown). record { len = put .result; shown = y; pending = Pending.Nothing }) (c .nothing-shown2 .ensures))
+    λ x w. begin-extended (p .0) x w (a .bare) _ (read .result) reads (now (a .out)) _ (c .before .before .before .before .before .before .before .before .before .before .before .d .given .1) _ (shown-made (c .before .before .before .before .before .before .before .before .before .nullable .ensures)) (c .before .before .before .before .before .before .before .if1 .left) _ _ laid _ (ap (λ (y : Shown). record { len = put .result; shown = y; pending = Pending.Nothing }) (c .nothing-shown .ensures))
 
 pub begin-field-spec : {M : Type 1} → statement M
 begin-field-spec =
@@ -141,7 +113,7 @@ begin-field-spec =
     column-of-requires-2
     read-own-requires
     enum-known-r
-    nothing-shown-requires
+    refused-later-requires
     enum-known-d
     nullable-requires
     same-length
@@ -149,7 +121,7 @@ begin-field-spec =
     returns
     text-of-requires
     put-extension-line-requires
-    nothing-shown-requires-2
+    nothing-shown-requires
     same-length-3
     same-length-4
     returns-2

@@ -25,8 +25,8 @@ returns c =
 byte-at-requires : tie.Need-byte-at-requires
 byte-at-requires c κs = search needs
 
-digits-requires : tie.Need-digits-requires
-digits-requires c κs = search needs
+number-below-requires : tie.Need-number-below-requires
+number-below-requires c κs = search needs
 
 enum-known-m : tie.Need-enum-known-m
 enum-known-m c = search needs
@@ -40,19 +40,19 @@ returns-2 c =
     let s = st .args .s .now in
     let any : 0 < length (bytesOf s) = omega (arith, length-bytes s (st .pre)) in
     let sign = sym (c .before .before .before .before .byte-at .ensures) ∙ c .before .before .before .if2 .taken in
-    minus-refused (bytesOf s) any sign (ap sizeAnswer (sym (c .enum-told .given .1)) ∙ c .before .before .digits .ensures)
+    minus-refused (bytesOf s) any sign (ap sizeAnswer (sym (c .enum-told .given .1)) ∙ c .before .before .number-below .ensures)
 
 negated-requires : tie.Need-negated-requires
 negated-requires c κs =
     let st = c .before .before .before .before .before .before .before .before in
-    omega (arith, within-limit (2 ^ 31 + 1) (drop 1 (bytesOf (st .args .s .now))) (c .before .m .given .0 .0) (sym (c .before .before .before .digits .ensures) ∙ ap sizeAnswer (c .before .m .given .1)))
+    omega (arith, within-limit (2 ^ 31 + 1) (drop 1 (bytesOf (st .args .s .now))) (c .before .m .given .0 .0) (sym (c .before .before .before .number-below .ensures) ∙ ap sizeAnswer (c .before .m .given .1)))
 
 cast-t9 : tie.Need-cast-t9
 cast-t9 c =
     let st = c .before .before .before .before .before .before .before .before .before in
     let s = st .args .s .now in
     let m = c .before .before .m .given .0 .0 in
-    let d = ap sizeAnswer (sym (c .before .before .m .given .1)) ∙ c .before .before .before .before .digits .ensures in
+    let d = ap sizeAnswer (sym (c .before .before .m .given .1)) ∙ c .before .before .before .before .number-below .ensures in
     let l : m ≤ 2 ^ 31 = omega (arith, within-limit (2 ^ 31 + 1) (drop 1 (bytesOf s)) m (sym d)) in
     rw (c .negated .ensures, toZ-ofZ (minus-fits w64 m (omega arith))) (minus-fits w32 m l)
 
@@ -61,7 +61,7 @@ returns-3 c =
     let st = c .before .before .before .before .before .before .before .before .before in
     let s = st .args .s .now in
     let m = c .before .before .m .given .0 .0 in
-    let d = ap sizeAnswer (sym (c .before .before .m .given .1)) ∙ c .before .before .before .before .digits .ensures in
+    let d = ap sizeAnswer (sym (c .before .before .m .given .1)) ∙ c .before .before .before .before .number-below .ensures in
     let l : m ≤ 2 ^ 31 = omega (arith, within-limit (2 ^ 31 + 1) (drop 1 (bytesOf s)) m (sym d)) in
     let any : 0 < length (bytesOf s) = omega (arith, length-bytes s (st .pre)) in
     let sign = sym (c .before .before .before .before .before .before .byte-at .ensures) ∙ c .before .before .before .before .before .if2 .taken in
@@ -70,8 +70,8 @@ returns-3 c =
 after-plus-requires : tie.Need-after-plus-requires
 after-plus-requires c κs = search needs
 
-digits-requires-2 : tie.Need-digits-requires-2
-digits-requires-2 c κs = search needs
+number-below-requires-2 : tie.Need-number-below-requires-2
+number-below-requires-2 c κs = search needs
 
 enum-known-n : tie.Need-enum-known-n
 enum-known-n c = search needs
@@ -86,14 +86,14 @@ returns-4 c =
     let any : 0 < length (bytesOf s) = omega (arith, length-bytes s (st .pre)) in
     let p = c .before .before .before .after-plus in
     let no-minus : getD (bytesOf s) 0 0 ≡ 45 → ⊥ = λ e. c .before .before .before .before .if2 .left (c .before .before .before .before .before .byte-at .ensures ∙ e) in
-    plain-refused (bytesOf s) any (drop (p .result) (bytesOf s)) (p .ensures) no-minus (ap sizeAnswer (sym (c .enum-told2 .given .1)) ∙ c .before .before .digits2 .ensures)
+    plain-refused (bytesOf s) any (drop (p .result) (bytesOf s)) (p .ensures) no-minus (ap sizeAnswer (sym (c .enum-told2 .given .1)) ∙ c .before .before .number-below2 .ensures)
 
 cast-t11 : tie.Need-cast-t11
 cast-t11 c =
     let st = c .before .before .before .before .before .before .before .before .before in
     let p = c .before .before .before .before .after-plus in
     let n = c .before .n .given .0 .0 in
-    let l : n < 2 ^ 31 = within-limit (2 ^ 31) (drop (p .result) (bytesOf (st .args .s .now))) n (sym (c .before .before .before .digits2 .ensures) ∙ ap sizeAnswer (c .before .n .given .1)) in
+    let l : n < 2 ^ 31 = within-limit (2 ^ 31) (drop (p .result) (bytesOf (st .args .s .now))) n (sym (c .before .before .before .number-below2 .ensures) ∙ ap sizeAnswer (c .before .n .given .1)) in
     record { sfits = omega arith }
 
 returns-5 : tie.Need-returns-5
@@ -104,7 +104,7 @@ returns-5 c =
     let p = c .before .before .before .before .after-plus in
     let n = c .before .n .given .0 .0 in
     let no-minus : getD (bytesOf s) 0 0 ≡ 45 → ⊥ = λ e. c .before .before .before .before .before .if2 .left (c .before .before .before .before .before .before .byte-at .ensures ∙ e) in
-    let d = ap sizeAnswer (sym (c .before .n .given .1)) ∙ c .before .before .before .digits2 .ensures in
+    let d = ap sizeAnswer (sym (c .before .n .given .1)) ∙ c .before .before .before .number-below2 .ensures in
     let l : n < 2 ^ 31 = within-limit (2 ^ 31) (drop (p .result) (bytesOf s)) n (sym d) in
     ap given (toZ-pos w32 {n = n} (omega arith)) ∙ plain-given (bytesOf s) any (drop (p .result) (bytesOf s)) n (p .ensures) no-minus d
 
@@ -114,7 +114,7 @@ parse-i32-spec =
     (tie.spec
     returns
     byte-at-requires
-    digits-requires
+    number-below-requires
     enum-known-m
     enum-told
     returns-2
@@ -122,7 +122,7 @@ parse-i32-spec =
     cast-t9
     returns-3
     after-plus-requires
-    digits-requires-2
+    number-below-requires-2
     enum-known-n
     enum-told-2
     returns-4

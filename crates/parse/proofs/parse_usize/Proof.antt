@@ -11,13 +11,13 @@ use Rattle.parse.proofs.parse_usize.Tie as tie
 after-plus-requires : tie.Need-after-plus-requires
 after-plus-requires c κs = search needs
 
-digits-requires : tie.Need-digits-requires
-digits-requires c κs = search needs
+number-below-requires : tie.Need-number-below-requires
+number-below-requires c κs = search needs
 
 returns : tie.Need-returns
 returns c =
     let st = c .before .before .before in
-    c .digits .ensures ∙ ap (numberBelow (2 ^ 64)) (c .before .after-plus .ensures) ∙ sym (read-size (bytesOf (st .args .s .now)))
+    c .number-below .ensures ∙ ap (numberBelow (2 ^ 64)) (c .before .after-plus .ensures) ∙ sym (read-size (bytesOf (st .args .s .now)))
 
 pub parse-usize-spec : {M : Type 1} → statement M
-parse-usize-spec = tie.close (tie.spec after-plus-requires digits-requires returns)
+parse-usize-spec = tie.close (tie.spec after-plus-requires number-below-requires returns)

@@ -1,7 +1,7 @@
 -- `to_integer_type` meets its contract: by the row of the name. Assumes nothing.
 use mathlib.Core.Path.{sym, _∙_, ap}
 use Rattle.hex.specs.Hex.{bytesOf}
-use Rattle.format.specs.Names.{nameOption}
+use Rattle.format_names.specs.Names.{nameOption}
 use Rattle.format.proofs.IndexLaws.{index-named, no-index}
 use borrow.Author.Needs.{needs}
 use Rattle.format.proofs.dictionary.to_integer_type.Statement.{statement}

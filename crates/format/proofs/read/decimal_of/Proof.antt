@@ -6,7 +6,7 @@ use Rattle.sheets.specs.Answer.{refused, given}
 use Rattle.sheets.specs.Refusal.{badNumber}
 use Rattle.hex.specs.Hex.{bytesOf}
 use Rattle.parse.specs.Parse.{sizeAnswer}
-use Rattle.format.specs.Parts.{part}
+use Rattle.format.specs.Parts.{formatPart}
 use Rattle.format.proofs.ReadLaws.{decimal-read}
 use borrow.Author.Needs.{needs}
 use Rattle.format.proofs.read.decimal_of.Statement.{statement}
@@ -28,8 +28,8 @@ returns : tie.Need-returns
 returns c =
     let st = c .before .before .before .before .before in
     let b = bytesOf (st .args .f .now) in
-    let p = part (st .args .at) (st .args .i) b in
-    let s = part (st .args .i + 1) (st .args .e) b in
+    let p = formatPart (st .args .at) (st .args .i) b in
+    let s = formatPart (st .args .i + 1) (st .args .e) b in
     (decimal-read (st .args .width) p s (refused badNumber) (readSize s) (ap sizeAnswer (sym (c .enum-told .given .1)) ∙ c .before .before .parse-usize .ensures ∙ ap readSize (c .before .before .before .part-of .ensures .1)) refl, tt)
 
 add-part-of : tie.Need-add-part-of
@@ -51,8 +51,8 @@ returns-2 : tie.Need-returns-2
 returns-2 c =
     let st = c .before .before .before .before .before .before .before .before .before .before in
     let b = bytesOf (st .args .f .now) in
-    let p = part (st .args .at) (st .args .i) b in
-    let s = part (st .args .i + 1) (st .args .e) b in
+    let p = formatPart (st .args .at) (st .args .i) b in
+    let s = formatPart (st .args .i + 1) (st .args .e) b in
     let x = c .before .before .before .before .before .precision .given in
     (decimal-read (st .args .width) p s (given (x .0 .0)) (refused badNumber) (ap sizeAnswer (sym (x .1)) ∙ c .before .before .before .before .before .before .before .parse-usize .ensures ∙ ap readSize (c .before .before .before .before .before .before .before .before .part-of .ensures .1)) (ap sizeAnswer (sym (c .enum-told2 .given .1)) ∙ c .before .before .parse-usize2 .ensures ∙ ap readSize (c .before .before .before .part-of2 .ensures .1)), tt)
 
@@ -60,8 +60,8 @@ returns-3 : tie.Need-returns-3
 returns-3 c =
     let st = c .before .before .before .before .before .before .before .before .before .before .before in
     let b = bytesOf (st .args .f .now) in
-    let p = part (st .args .at) (st .args .i) b in
-    let s = part (st .args .i + 1) (st .args .e) b in
+    let p = formatPart (st .args .at) (st .args .i) b in
+    let s = formatPart (st .args .i + 1) (st .args .e) b in
     let x = c .before .before .before .before .before .before .precision .given in
     let y = c .before .scale .given in
     (decimal-read (st .args .width) p s (given (x .0 .0)) (given (y .0 .0)) (ap sizeAnswer (sym (x .1)) ∙ c .before .before .before .before .before .before .before .before .parse-usize .ensures ∙ ap readSize (c .before .before .before .before .before .before .before .before .before .part-of .ensures .1)) (ap sizeAnswer (sym (y .1)) ∙ c .before .before .before .parse-usize2 .ensures ∙ ap readSize (c .before .before .before .before .part-of2 .ensures .1)), tt)

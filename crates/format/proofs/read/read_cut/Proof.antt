@@ -10,7 +10,7 @@ use Rattle.hex.specs.Hex.{bytesOf}
 use Rattle.hex.proofs.HexLaws.{twice-length}
 use Rattle.datatypes.specs.At.{timeUnitOption, unionModeOption}
 use Rattle.format.specs.Formats.{timestampFormat, unionFormat}
-use Rattle.format.specs.Names.{headUnit, headMode}
+use Rattle.format_names.specs.Names.{headUnit, headMode}
 use Rattle.format.proofs.ReadLaws.{reads-as, cut-unit, cut-mode}
 use Rattle.format.proofs.PartLaws.{first-part, rest-hex, rest-bytes}
 use borrow.Author.Needs.{needs}

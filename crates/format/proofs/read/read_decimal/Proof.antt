@@ -8,7 +8,7 @@ use Rattle.hex.specs.Hex.{bytesOf}
 use Rattle.hex.proofs.HexLaws.{length-bytes}
 use Rattle.format.specs.Formats.{decimalOf, decimalFormat}
 use Rattle.sheets.specs.Parts.{partsFrom}
-use Rattle.format.specs.Parts.{part}
+use Rattle.format.specs.Parts.{formatPart}
 use Rattle.format.proofs.ReadLaws.{reads-as, one-part, two-parts, second-part}
 use Rattle.sheets.proofs.PartLaws.{part-ends}
 use borrow.Author.Needs.{needs}
@@ -56,8 +56,8 @@ returns-2 c =
     let one = part-ends b at (i .result) (st .pre .1) (i .ensures) in
     let k = c .before .before .place-of2 in
     let two = part-ends b (i .result + 1) (k .result) (omega (arith, length-bytes f (st .pre .0), c .before .before .before .if1 .left)) (k .ensures) in
-    let p = part at (i .result) b in
-    let s = part (i .result + 1) (k .result) b in
+    let p = formatPart at (i .result) b in
+    let s = formatPart (i .result + 1) (k .result) b in
     let e = two-parts p s ∙ second-part b (i .result + 1) (k .result) two p (omega (arith, length-bytes f (st .pre .0), c .before .if2 .taken)) ∙ ap decimalFormat (sym (one .parts)) in
     reads-as f (c .decimal-of .result) (decimalOf 128 p s) (decimalFormat (partsFrom b at)) e (c .decimal-of .ensures)
 
@@ -83,8 +83,8 @@ returns-3 c =
     let one = part-ends b at (i .result) (st .pre .1) (i .ensures) in
     let k = c .before .before .place-of2 in
     let two = part-ends b (i .result + 1) (k .result) (omega (arith, length-bytes f (st .pre .0), c .before .before .before .if1 .left)) (k .ensures) in
-    let p = part at (i .result) b in
-    let s = part (i .result + 1) (k .result) b in
+    let p = formatPart at (i .result) b in
+    let s = formatPart (i .result + 1) (k .result) b in
     let e = one .parts ∙ ap (λ (ps : List Bytes). p ∷ ps) (two .parts) in
     reads-as f (c .wide-decimal .result) (decimalFormat (p ∷ s ∷ partsFrom b (k .result + 1))) (decimalFormat (partsFrom b at)) (ap decimalFormat (sym e)) (c .wide-decimal .ensures)
 

@@ -2,8 +2,9 @@
 use mathlib.Core.Path.{sym, _∙_, ap}
 use Rattle.sheets.specs.Format.{cut, readOther, readFormat}
 use Rattle.hex.specs.Hex.{bytesOf}
-use Rattle.format.specs.Names.{nameOption}
-use Rattle.format.proofs.ReadLaws.{reads-as, name-leaf, name-list, name-large, name-map, name-struct, name-other}
+use Rattle.format_names.specs.Names.{nameOption}
+use Rattle.format_names.proofs.NameLaws.{name-leaf}
+use Rattle.format.proofs.ReadLaws.{reads-as, name-list, name-large, name-map, name-struct, name-other}
 use borrow.Author.Needs.{needs}
 use Rattle.format.proofs.read.read_format.Statement.{statement}
 use Rattle.format.proofs.read.read_format.Tie as tie

@@ -11,7 +11,7 @@ use Rattle.hex.proofs.HexLaws.{length-bytes, twice-length}
 use Rattle.parse.specs.Parse.{sizeAnswer}
 use Rattle.format.specs.Formats.{decimalOf, decimalFormat}
 use Rattle.sheets.specs.Parts.{partsFrom}
-use Rattle.format.specs.Parts.{part}
+use Rattle.format.specs.Parts.{formatPart}
 use Rattle.format.proofs.ReadLaws.{reads-as, bad-width, three-parts, third-part, four-parts}
 use Rattle.sheets.proofs.PartLaws.{part-ends}
 use borrow.Author.Needs.{needs}
@@ -35,8 +35,8 @@ part-of-requires c κs =
     let f = st .args .f .now in
     let b = bytesOf f in
     let j = st .args .j in
-    let p = part (st .args .at) (st .args .i) b in
-    let s = part (st .args .i + 1) j b in
+    let p = formatPart (st .args .at) (st .args .i) b in
+    let s = formatPart (st .args .i + 1) j b in
     let z = c .before .place-of in
     let ends = part-ends b (j + 1) (z .result) (st .pre .2 .1) (z .ensures) in
     (st .pre .2 .0, ends .low, ends .high)
@@ -56,11 +56,11 @@ returns c =
     let f = st .args .f .now in
     let b = bytesOf f in
     let j = st .args .j in
-    let p = part (st .args .at) (st .args .i) b in
-    let s = part (st .args .i + 1) j b in
+    let p = formatPart (st .args .at) (st .args .i) b in
+    let s = formatPart (st .args .i + 1) j b in
     let z = c .before .before .before .before .before .place-of in
     let ends = part-ends b (j + 1) (z .result) (st .pre .2 .1) (z .ensures) in
-    (bad-width p s (part (j + 1) (z .result) b) (ap sizeAnswer (sym (c .enum-told .given .1)) ∙ c .before .before .parse-usize .ensures ∙ ap readSize (c .before .before .before .part-of .ensures .1)) ∙ third-part b (j + 1) (z .result) ends p s (omega (arith, length-bytes f (st .pre .2 .0), c .before .before .before .before .if1 .taken)), tt)
+    (bad-width p s (formatPart (j + 1) (z .result) b) (ap sizeAnswer (sym (c .enum-told .given .1)) ∙ c .before .before .parse-usize .ensures ∙ ap readSize (c .before .before .before .part-of .ensures .1)) ∙ third-part b (j + 1) (z .result) ends p s (omega (arith, length-bytes f (st .pre .2 .0), c .before .before .before .before .if1 .taken)), tt)
 
 decimal-of-requires : tie.Need-decimal-of-requires
 decimal-of-requires c κs = search needs
@@ -71,11 +71,11 @@ returns-2 c =
     let f = st .args .f .now in
     let b = bytesOf f in
     let j = st .args .j in
-    let p = part (st .args .at) (st .args .i) b in
-    let s = part (st .args .i + 1) j b in
+    let p = formatPart (st .args .at) (st .args .i) b in
+    let s = formatPart (st .args .i + 1) j b in
     let z = c .before .before .before .before .before .before .before .place-of in
     let ends = part-ends b (j + 1) (z .result) (st .pre .2 .1) (z .ensures) in
-    let w = part (j + 1) (z .result) b in
+    let w = formatPart (j + 1) (z .result) b in
     let n = c .before .before .width .given in
     reads-as f (c .decimal-of .result) (decimalOf (n .0 .0) p s) (decimalFormat (p ∷ s ∷ partsFrom b (j + 1))) (three-parts p s w (n .0 .0) (ap sizeAnswer (sym (n .1)) ∙ c .before .before .before .before .parse-usize .ensures ∙ ap readSize (c .before .before .before .before .before .part-of .ensures .1)) ∙ third-part b (j + 1) (z .result) ends p s (omega (arith, length-bytes f (st .pre .2 .0), c .before .before .before .before .before .before .if1 .taken))) (c .decimal-of .ensures)
 
@@ -85,8 +85,8 @@ returns-3 c =
     let f = st .args .f .now in
     let b = bytesOf f in
     let j = st .args .j in
-    let p = part (st .args .at) (st .args .i) b in
-    let s = part (st .args .i + 1) j b in
+    let p = formatPart (st .args .at) (st .args .i) b in
+    let s = formatPart (st .args .i + 1) j b in
     let z = c .before .place-of in
     let ends = part-ends b (j + 1) (z .result) (st .pre .2 .1) (z .ensures) in
     let d : z .result ≢ length f / 2 = c .if1 .left in

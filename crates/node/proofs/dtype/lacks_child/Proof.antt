@@ -1,5 +1,5 @@
 -- `lacks_child` meets its contract: by cases of what the type visits. Assumes nothing.
-use Rattle.format.specs.declared.Below.{Below}
+use Rattle.import_type.specs.declared.Below.{Below}
 use Rattle.node.specs.Types.{lacksChild}
 use mathlib.Core.Path.{sym, ap}
 use borrow.Author.Needs.{needs}

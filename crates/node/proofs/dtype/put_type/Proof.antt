@@ -6,7 +6,7 @@ use lib.ListN.{length}
 use Rattle.sheets.specs.Bytes.{Bytes}
 use Rattle.hex.specs.Hex.{isHex}
 use Rattle.schema_line.proofs.TextLaws.{text-shorter}
-use Rattle.format.specs.Formats.{putAnswer}
+use Rattle.import_type.specs.TypeColumns.{putAnswer}
 use Rattle.node.proofs.TextLaws.{text-bytes}
 use Rattle.node.proofs.TypeLaws.{null-type, not-utf8-type, plain-node, index-node}
 use borrow.Author.Needs.{needs}

@@ -11,7 +11,7 @@ use mir.Val.{SFits}
 use Rattle.sheets.specs.Answer.{given}
 use Rattle.columns.specs.Columns.{columnOf, placeOption}
 use Rattle.columns.specs.TextColumns.{isText, isCString}
-use Rattle.columns.specs.NumberColumns.{numberIn, signedIn, numberAnswer, signedAnswer}
+use Rattle.columns.specs.NumberColumns.{numberIn, signedIn, numberAnswer, signedColumnAnswer}
 use Rattle.schema_line.proofs.WalkLaws.{format-ends, name-ends, flags-ends, flags-small, metadata-ends, children-end, dictionary-ends, no-format, no-name, no-flags, no-metadata, no-children, no-dictionary, two-dictionaries, line-found}
 use borrow.Author.Needs.{needs}
 use Rattle.schema_line.proofs.read.read_line.Statement.{statement}
@@ -29,7 +29,7 @@ the-name : (c : tie.After-known-told2) → columnOf isCString 32 (c .before .bef
 the-name c = sym (c .before .before .before .c-string-column2 .ensures) ∙ ap placeOption (c .before .name .given .1)
 
 the-flags : (c : tie.After-known-told3) → signedIn 32 (c .before .before .before .before .before .before .before .before .before .before .before .before .before .args .s .now) (c .before .before .before .before .before .name .given .0 .0 + 1) ≡ given (c .before .flags .given .0 .0, c .before .flags .given .0 .1 .0)
-the-flags c = sym (c .before .before .before .signed-column .ensures) ∙ ap signedAnswer (c .before .flags .given .1)
+the-flags c = sym (c .before .before .before .signed-column .ensures) ∙ ap signedColumnAnswer (c .before .flags .given .1)
 
 the-metadata : (c : tie.After-known-told4) → columnOf isText 32 (c .before .before .before .before .before .before .before .before .before .before .before .before .before .before .before .before .before .args .s .now) (c .before .before .before .before .before .flags .given .0 .1 .0 + 1) ≡ some (c .before .metadata .given .0 .0)
 the-metadata c = sym (c .before .before .before .text-column .ensures) ∙ ap placeOption (c .before .metadata .given .1)
@@ -92,7 +92,7 @@ enum-told-3 c = search needs
 returns-3 : tie.Need-returns-3
 returns-3 c =
     let a = c .before .before .before .before .before .before .before .before .before .before .before .before .args in
-    sym (no-flags (a .s .now) (a .at) (the-format (c .before .before .before .before .before .before .before)) (the-name (c .before .before .before)) (sym (c .before .before .signed-column .ensures) ∙ ap signedAnswer (c .enum-told3 .given .1)))
+    sym (no-flags (a .s .now) (a .at) (the-format (c .before .before .before .before .before .before .before)) (the-name (c .before .before .before)) (sym (c .before .before .signed-column .ensures) ∙ ap signedColumnAnswer (c .enum-told3 .given .1)))
 
 add-text-column : tie.Need-add-text-column
 add-text-column c =
