@@ -205,8 +205,12 @@ module _ (pairs name more : Bytes) (at : ℕ) (h : CanPutMetadata pairs name mor
     unfolding metadataColumn
     no-extension = ap (λ (x : Option Bytes). writeText (schemaMetadata (pairsIn pairs) (extensionOf x (columnText more)))) (column-none name n) ∙ ap (λ (l : List Pair). writeText (blockOf l)) (sym is-left)
 
+    -- no pair and no extension: no block
+    pub no-metadata : length pairs ≤ place → metadataColumn pairs name more ≡ 126 ∷ []
+    no-metadata l = no-extension ∙ ap (λ (l : List Pair). writeText (blockOf l)) (pairs-end pairs place l)
+
     pub none-put : place ≡ length pairs → (r : ℕ) (old out : Bytes) → PutAt at (126 ∷ []) r old out → Put r old out
-    none-put e r old out p = said (126 ∷ []) r old out (no-extension ∙ ap (λ (l : List Pair). writeText (blockOf l)) (pairs-end pairs place (omega arith))) p (omega (arith, p .0))
+    none-put e r old out p = said (126 ∷ []) r old out (no-metadata (omega arith)) p (omega (arith, p .0))
 
     pub plain-put : (place ≡ length pairs → ⊥) → (r : ℕ) (old out : Bytes) → PutsLeft pairs at start r old out → Put r old out
     plain-put d r old out p =
