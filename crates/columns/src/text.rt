@@ -65,7 +65,7 @@ fn pairs_lack_zero(s: &[u8]) -> bool
 }
 
 // Whether no pair of s is 00.
-fn lacks_zero(s: &[u8]) -> bool
+pub fn lacks_zero(s: &[u8]) -> bool
     requires { ⌜ isHex (now s) ≡ true ⌝ }
     ensures { λ r. ⌜ r ≡ passes (lacks 0 (bytesOf (now (s .entry)))) ⌝ }
 {

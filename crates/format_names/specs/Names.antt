@@ -14,6 +14,7 @@ use Rattle.datatypes.specs.declared.units.TimeUnit.{TimeUnit}
 use Rattle.datatypes.specs.declared.units.TimeUnit.the-variants as TimeUnits
 use Rattle.datatypes.specs.declared.units.UnionMode.{UnionMode}
 use Rattle.datatypes.specs.declared.units.UnionMode.the-variants as UnionModes
+use Rattle.format_names.specs.declared.NameAt.{NameAt}
 use Rattle.format_names.specs.declared.NameRow.{NameRow}
 use Rattle.format_names.specs.declared.NameRead.{NameRead}
 use Rattle.format_names.specs.declared.NameRead.the-variants.{Leaf, Other}
@@ -45,9 +46,14 @@ unfoldable pub names : Bytes
 unfolding table
 names = namesOf table
 
+-- the name of row i stands there
+pub record IsNameAt (i : ℕ) (a : NameAt) : Type 0 where
+  pub named : take (a .length) (drop (a .start) names) ≡ rowAt i .name
+  pub fits : a .start + a .length ≤ length names
+
 -- what the code has for row i: where its name stands, its kind and its unit
 pub record IsRow (i : ℕ) (r : NameRow) : Type 0 where
-  pub named : take (r .name .length) (drop (r .name .start) names) ≡ rowAt i .name
+  pub named : IsNameAt i (r .name)
   pub kind : r .kind ≡ rowAt i .kind
   pub unit : r .unit ≡ rowAt i .unit
 

@@ -12,10 +12,10 @@ use datatypes::units::UnionModeAt;
 ghost use mathlib.Core.Path.{_≡_};
 ghost use mathlib.Core.Bool.{true};
 ghost use Prim.Native.Nat.{_/_, _<_};
-ghost use lib.ListN.{length, take, drop};
+ghost use lib.ListN.{length};
 ghost use Rattle.hex.specs.Hex.{isHex, bytesOf};
 ghost use Rattle.datatypes.specs.At.{timeUnitOption, unionModeOption};
-ghost use Rattle.format_names.specs.Names.{tableLength, rowAt, names, IsRow, HasGroup, nameOption, leafNamed, headUnit, headMode};
+ghost use Rattle.format_names.specs.Names.{tableLength, IsNameAt, IsRow, HasGroup, nameOption, leafNamed, headUnit, headMode};
 
 // The names, one after the other: by their lengths, 17 of one byte, 2 of two, 13 of three and 2 of seven.
 pub const NAMES: [u8; 74] =
@@ -119,7 +119,7 @@ pub enum NameRead {
 // Where the name of row i stands.
 fn name_at(i: usize) -> NameAt
     requires { ⌜ i < tableLength ⌝ }
-    ensures { λ r. ⌜ take (r .length) (drop (r .start) names) ≡ rowAt i .name ⌝ }
+    ensures { λ r. ⌜ IsNameAt i r ⌝ }
 {
     if i < 17 {
         return NameAt {

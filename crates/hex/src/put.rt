@@ -1,7 +1,7 @@
 // Lowercase hexadecimal text, written.
 ghost use mathlib.Core.Path.{_≡_};
 ghost use Prim.Native.Nat.{_+_, _<_};
-ghost use lib.ListN.{length, getD};
+ghost use lib.ListN.{length};
 ghost use Rattle.sheets.specs.Text.{hexDigit, hex};
 ghost use Rattle.buffer.specs.Over.{over, IsUsize, PutAt};
 
@@ -13,27 +13,19 @@ pub fn digit_of(n: u8) -> u8
     48 + n + 39 * (n / 10)
 }
 
-// Digit j of the text of s.
-fn digit_at(s: &[u8], j: usize) -> u8
-    requires { ⌜ j < length (hex (now s)) ⌝ }
-    ensures { λ r. ⌜ r ≡ getD (hex (now (s .entry))) j 0 ⌝ }
-{
-    let b = s[j / 2];
-    if j % 2 == 0 {
-        digit_of(b / 16)
-    } else {
-        digit_of(b % 16)
-    }
-}
-
-// Writes the text of s over the first bytes of out, as much as fits.
+// Writes the text of s over the first bytes of out, as much as fits: pair by pair, so that the loop compiles to vector instructions, then the first
+// digit of a pair that fits by half.
 fn put_digits(out: &mut [u8], s: &[u8])
     requires { ⌜ IsUsize (length (hex (now s))) ⌝ }
     ensures { λ _. ⌜ now (out .exit) ≡ over (hex (now (s .entry))) (now (out .entry)) ⌝ }
 {
     let n = buffer::within(2 * s.len(), out.len());
-    for j in 0..n {
-        out[j] = digit_at(s, j);
+    for k in 0..n / 2 {
+        out[2 * k] = digit_of(s[k] / 16);
+        out[2 * k + 1] = digit_of(s[k] % 16);
+    }
+    if n % 2 == 1 {
+        out[n - 1] = digit_of(s[n / 2] / 16);
     }
 }
 

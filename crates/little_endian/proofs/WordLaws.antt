@@ -1,6 +1,6 @@
 -- Laws of the 32-bit numbers of a metadata block. Those that callers use do not speak of the byte order, but for `word-little` and `little-word`,
 -- which say that it is document 01's. Assumes nothing.
-use mathlib.Core.Path.{_≡_, refl, ap, ap₂, _∙_}
+use mathlib.Core.Path.{_≡_, refl, sym, ap, ap₂, _∙_}
 use mathlib.Core.Bool.{true}
 use mathlib.Core.List.{[], _∷_}
 use Prim.Native.Nat.{ℕ, suc, _+_, _*_, _/_, _%_, _^_, _≤_, _<_}
@@ -10,12 +10,14 @@ use lib.Seq.{drop-cons, length-take-le}
 use borrow.Author.Tests.{lt-ltb}
 use Rattle.sheets.specs.Rule.{Meets}
 use Rattle.sheets.specs.Bytes.{Bytes, all, isByte}
-use Rattle.sheets.specs.Text.{hex}
+use Rattle.sheets.specs.Text.{hexDigit, hex}
 use Rattle.sheets.specs.Metadata.{little, littleValue}
 use Rattle.sheets.proofs.MetadataLaws.{little-value}
 use Rattle.hex.specs.Hex.{bytesOf}
 use Rattle.hex.proofs.HexLaws.{twice-length}
 use Rattle.hex.proofs.PartLaws.{length-hex}
+use Rattle.words.specs.Words.{lowBytes}
+use Rattle.words.proofs.WordLaws.{low-is}
 use Rattle.little_endian.specs.Word.{wordValue, wordBytes, HasWord, fourAt}
 
 pub word-little : (bs : Bytes) → wordValue bs ≡ littleValue bs
@@ -76,3 +78,21 @@ bytes-one-by-one n =
     let p : n / 256 / 256 ≡ n / 65536 = omega arith in
     let q : n / 256 / 256 / 256 ≡ n / 16777216 = omega arith in
     ap₂ (λ x y. n % 256 ∷ n / 256 % 256 ∷ x % 256 ∷ y % 256 ∷ []) p q
+
+-- ── a number below 256
+
+small-bytes : (n : ℕ) → n < 256 → wordBytes n ≡ n ∷ 0 ∷ 0 ∷ 0 ∷ []
+small-bytes n h =
+    let a : n % 256 ≡ n = omega arith in
+    let b : n / 256 % 256 ≡ 0 = omega arith in
+    let c : n / 65536 % 256 ≡ 0 = omega arith in
+    let d : n / 16777216 % 256 ≡ 0 = omega arith in
+    bytes-one-by-one n ∙ rw (a, b, c, d)
+
+-- its text is the word of its two digits and of six zeros
+pub small-text : (n a b w : ℕ) → n < 256 → a ≡ hexDigit (n / 16) → b ≡ hexDigit (n % 16) → a < 256 → b < 256 → w ≡ 0x3030303030300000 + a + b * 256 → lowBytes 8 w ≡ hex (wordBytes n)
+small-text n a b w h e f la lb g =
+    let t = a ∷ b ∷ 48 ∷ 48 ∷ 48 ∷ 48 ∷ 48 ∷ 48 ∷ [] in
+    low-is t w (lt-ltb a 256 la, (lt-ltb b 256 lb, (refl, (refl, (refl, (refl, (refl, (refl, refl)))))))) (omega arith)
+    ∙ ap₂ (λ (x y : ℕ). x ∷ y ∷ 48 ∷ 48 ∷ 48 ∷ 48 ∷ 48 ∷ 48 ∷ []) e f
+    ∙ ap hex (sym (small-bytes n h))

@@ -2,7 +2,7 @@
 ghost use mathlib.Core.Path.{_≡_};
 ghost use Prim.Native.Nat.{_+_, _<_};
 ghost use lib.ListN.{length};
-ghost use Rattle.sheets.specs.Text.{hex};
+ghost use Rattle.sheets.specs.Text.{hexDigit, hex};
 ghost use Rattle.buffer.specs.Over.{IsUsize, PutAt};
 ghost use Rattle.hex.specs.Hex.{bytesOf, HasPair};
 ghost use lib.ListN.{getD};
@@ -40,10 +40,45 @@ fn word_bytes(n: u32) -> [u8; 4]
 }
 
 // Writes the four bytes of n in hexadecimal from place at on, as much as fits; the place after them.
-pub fn put_word(out: &mut [u8], at: usize, n: u32) -> usize
+fn put_bytes(out: &mut [u8], at: usize, n: u32) -> usize
     requires { ⌜ IsUsize (at + length (hex (wordBytes n))) ⌝ }
     ensures { λ r. ⌜ PutAt at (hex (wordBytes n)) r (now (out .entry)) (now (out .exit)) ⌝ }
 {
     let b = word_bytes(n);
     hex::put::put_hex(out, at, &b)
+}
+
+fn wide_digit(n: u32) -> u64
+    requires { ⌜ n < 16 ⌝ }
+    ensures { λ r. ⌜ (r ≡ hexDigit n) × (r < 256) ⌝ }
+{
+    hex::put::digit_of(n as u8) as u64
+}
+
+// The same for a number below 256: where they fit, its two digits and six zeros are one word.
+fn put_small(out: &mut [u8], at: usize, n: u32) -> usize
+    requires { ⌜ IsUsize (at + length (hex (wordBytes n))) × (n < 256) ⌝ }
+    ensures { λ r. ⌜ PutAt at (hex (wordBytes n)) r (now (out .entry)) (now (out .exit)) ⌝ }
+{
+    let end = at + 8;
+    if out.len() < end {
+        return put_bytes(out, at, n);
+    }
+    words::put_word8(
+        out,
+        at,
+        0x3030303030300000 + wide_digit(n / 16) + wide_digit(n % 16) * 256,
+    );
+    end
+}
+
+// The same; most lengths are below 256.
+pub fn put_word(out: &mut [u8], at: usize, n: u32) -> usize
+    requires { ⌜ IsUsize (at + length (hex (wordBytes n))) ⌝ }
+    ensures { λ r. ⌜ PutAt at (hex (wordBytes n)) r (now (out .entry)) (now (out .exit)) ⌝ }
+{
+    if n < 256 {
+        return put_small(out, at, n);
+    }
+    put_bytes(out, at, n)
 }

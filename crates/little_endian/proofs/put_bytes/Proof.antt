@@ -1,4 +1,4 @@
--- `put_word` meets its contract: `put_hex` writes the text of the word's bytes. Assumes nothing.
+-- `put_bytes` meets its contract: `put_hex` writes the text of the word's bytes. Assumes nothing.
 use mathlib.Core.Path.{sym, ap, subst, _∙_}
 use mathlib.Core.List.{List}
 use Prim.Native.Nat.{ℕ, _+_}
@@ -7,8 +7,8 @@ use denote.Ref.{now}
 use Rattle.sheets.specs.Text.{hex}
 use Rattle.buffer.specs.Over.{overAt, IsUsize}
 use borrow.Author.Needs.{needs}
-use Rattle.little_endian.proofs.put_word.Statement.{statement}
-use Rattle.little_endian.proofs.put_word.Tie as tie
+use Rattle.little_endian.proofs.put_bytes.Statement.{statement}
+use Rattle.little_endian.proofs.put_bytes.Tie as tie
 
 word-bytes-requires : tie.Need-word-bytes-requires
 word-bytes-requires c κs = search needs
@@ -30,7 +30,7 @@ returns c =
     let e = c .before .before .before .before .before .word-bytes .ensures in
     (c .before .before .put-hex .ensures .0 ∙ ap (λ (l : List ℕ). st .args .at + length (hex l)) e, c .before .before .put-hex .ensures .1 ∙ ap (λ (l : List ℕ). overAt (st .args .at) (hex l) (now (st .args .out))) e)
 
-pub put-word-spec : {M : Type 1} → statement M
-put-word-spec =
+pub put-bytes-spec : {M : Type 1} → statement M
+put-bytes-spec =
     tie.close
     (tie.spec word-bytes-requires slice-aggregate-put-hex put-hex-requires same-length returns)

@@ -1,0 +1,3 @@
+pub mod Formats
+pub mod Counted
+pub mod LineFormat

@@ -1,0 +1,5 @@
+pub mod PairsLaws
+pub mod BlockLaws
+pub mod WalkLaws
+pub mod MergeLaws
+pub mod ColumnLaws

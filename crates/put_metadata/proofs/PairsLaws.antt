@@ -1,0 +1,227 @@
+-- The column `pairs`: read back from what was written, and its pairs one after the other. By the pairs that stand from a place on: their text
+-- begins with the first one's key, its sign, its value. Assumes nothing.
+use mathlib.Core.Path.{_≡_, refl, sym, ap, ap₂, subst, _∙_}
+use mathlib.Core.Bool.{Bool, true, false, cond}
+use mathlib.Core.List.{List, [], _∷_, _++_, map, append-assoc, append-nil}
+use mathlib.Core.Option.{Option, none, some}
+use Prim.Native.Nat.{ℕ, suc, _+_, _-_, _≤_, _<_, min}
+use native.Mathlib.Numerals.{add-one}
+use native.Mathlib.Omega.{arith}
+use lib.Dec.{eqb}
+use lib.ListN.{length, getD, take, drop, length-append, length-drop, drop-of-length-le}
+use lib.Seq.{drop-cons, drop-drop, drop-append-seam, take-append-seam}
+use borrow.Author.Tests.{eq-eqb, ne-eqb, not-true}
+use Rattle.sheets.specs.Rule.{is, each, Meets}
+use Rattle.sheets.specs.Utf8.{isUtf8}
+use Rattle.sheets.specs.Bytes.{Bytes, comma, equals, isByte, all, lacks, join}
+use Rattle.sheets.specs.Text.{hex}
+use Rattle.sheets.specs.Field.{Pair, pairsRule, metadataRule}
+use Rattle.sheets.specs.FieldSheet.{pairText, writeList}
+use Rattle.sheets.specs.Metadata.{orNone}
+use Rattle.sheets.proofs.TextLaws.{hex-lacks}
+use Rattle.sheets.proofs.Utf8Laws.{utf8-bytes}
+use Rattle.sheets.proofs.MetadataLaws.{textPair, pairs-text}
+use Rattle.sheets.proofs.FieldSheetLaws.{pairs-listed, read-pairs}
+use Rattle.hex.specs.Hex.{givenOr}
+use Rattle.put_metadata.specs.Pairs.{reach, pairsIn, pairsOf, PairsColumn, firstPlace, afterCommas, pairsText, Pairs, PairsFrom, PairAt}
+
+-- ── the first byte that is s
+
+module _ (s : Bytes) (b : ℕ) where
+  pub reach-stop : (i : ℕ) → i < length s → getD s i 0 ≡ b → reach b (drop i s) ≡ 0
+  unfolding reach
+  reach-stop i h e = rw (drop-cons s i 0 h, eq-eqb (getD s i 0) b e)
+
+  pub reach-more : (i : ℕ) → i < length s → (getD s i 0 ≡ b → ⊥) → i + reach b (drop i s) ≡ i + 1 + reach b (drop (i + 1) s)
+  unfolding reach
+  reach-more i h e = rw (drop-cons s i 0 h, ne-eqb (getD s i 0) b e, add-one) (omega arith)
+
+  pub reach-end : (i : ℕ) → length s ≤ i → reach b (drop i s) ≡ 0
+  unfolding reach
+  reach-end i h = rw (drop-of-length-le s h)
+
+reach-over : (b : ℕ) (a r : Bytes) → Meets (lacks b a) → reach b (a ++ (b ∷ r)) ≡ length a
+unfolding reach
+reach-over b [] r h = rw (eq-eqb b b refl)
+reach-over b (x ∷ a) r h = rw (not-true (eqb x b) (h .0)) (ap suc (reach-over b a r (h .1)))
+
+reach-all : (b : ℕ) (a : Bytes) → Meets (lacks b a) → reach b a ≡ length a
+unfolding reach
+reach-all b [] h = refl
+reach-all b (x ∷ a) h = rw (not-true (eqb x b) (h .0)) (ap suc (reach-all b a (h .1)))
+
+-- ── read back
+
+-- a column says the pairs that it was written from
+pub pairs-in : (ps : Option (List Pair)) → Meets (metadataRule ps) → pairsIn (writeList pairText ps) ≡ ps
+unfolding pairsIn
+pairs-in ps h = ap (givenOr none) (read-pairs ps (pairs-listed ps h))
+
+joined : (p : Pair) (ps : List Pair) → join comma (pairText p ∷ map pairText ps) ≡ pairsText (p ∷ ps)
+joined p [] = sym (append-nil (pairText p))
+joined p (q ∷ ps) = ap (λ (t : Bytes). pairText p ++ (comma ∷ t)) (joined q ps)
+
+pub pairs-of : (ps : List Pair) → Meets (pairsRule ps) → pairsOf (pairsText ps) ≡ ps
+unfolding pairsOf
+pairs-of [] h = refl
+pairs-of (p ∷ ps) h = ap (λ (t : Bytes). orNone (pairsIn t)) (sym (joined p ps)) ∙ ap orNone (pairs-in (some (p ∷ ps)) h)
+
+-- ── from a place on
+
+dropped : (s : Bytes) (i : ℕ) (a b : Bytes) → drop i s ≡ a ++ b → drop (i + length a) s ≡ b
+dropped s i a b e = sym (drop-drop (length a) i s) ∙ ap (drop (length a)) e ∙ drop-append-seam a b
+
+taken : (s : Bytes) (i : ℕ) (a b : Bytes) → drop i s ≡ a ++ b → take (length a) (drop i s) ≡ a
+taken s i a b e = ap (take (length a)) e ∙ take-append-seam a b
+
+ended : (s : Bytes) (i : ℕ) (a b : Bytes) → i ≤ length s → drop i s ≡ a ++ b → length s ≡ i + length a + length b
+ended s i a b h e = omega (arith, sym (length-drop i s) ∙ ap length e ∙ length-append a b)
+
+-- what stands after a value
+value-reach : (v : Bytes) (ps : List Pair) → Meets (lacks 44 (hex v)) → reach 44 (hex v ++ afterCommas ps) ≡ length (hex v)
+value-reach v [] h = ap (reach 44) (append-nil (hex v)) ∙ reach-all 44 (hex v) h
+value-reach v (q ∷ ps) h = reach-over 44 (hex v) (pairText q ++ afterCommas ps) h
+
+module _ (column : Bytes) (at : ℕ) (short : length column < 65536) (h : at ≤ length column) (p : Pair) (ps : List Pair) (e : drop at column ≡ pairsText (p ∷ ps)) (k : Meets (pairsRule (p ∷ ps))) where
+  from-key : drop at column ≡ hex (p .0) ++ (equals ∷ (hex (p .1) ++ afterCommas ps))
+  from-key = e ∙ append-assoc (hex (p .0)) (equals ∷ hex (p .1)) (afterCommas ps)
+
+  key-bytes : Meets (all isByte (p .0))
+  key-bytes = utf8-bytes (p .0) (k .0)
+
+  value-bytes : Meets (all isByte (p .1))
+  value-bytes = utf8-bytes (p .1) (k .1 .0)
+
+  pub sign-reach : reach 61 (drop at column) ≡ length (hex (p .0))
+  sign-reach = ap (reach 61) from-key ∙ reach-over 61 (hex (p .0)) (hex (p .1) ++ afterCommas ps) (hex-lacks 61 refl (p .0) key-bytes)
+
+  key-length : length column ≡ at + length (hex (p .0)) + suc (length (hex (p .1) ++ afterCommas ps))
+  key-length = ended column at (hex (p .0)) (equals ∷ (hex (p .1) ++ afterCommas ps)) h from-key
+
+  pub from-value : drop (at + length (hex (p .0)) + 1) column ≡ hex (p .1) ++ afterCommas ps
+  from-value = dropped column (at + length (hex (p .0))) (equals ∷ []) (hex (p .1) ++ afterCommas ps) (dropped column at (hex (p .0)) (equals ∷ (hex (p .1) ++ afterCommas ps)) from-key)
+
+  pub comma-reach : reach 44 (drop (at + length (hex (p .0)) + 1) column) ≡ length (hex (p .1))
+  comma-reach = ap (reach 44) from-value ∙ value-reach (p .1) ps (hex-lacks 44 refl (p .1) value-bytes)
+
+  value-length : length column ≡ at + length (hex (p .0)) + 1 + length (hex (p .1)) + length (afterCommas ps)
+  value-length = omega (arith, key-length, length-append (hex (p .1)) (afterCommas ps))
+
+  from-rest : drop (at + length (hex (p .0)) + 1 + length (hex (p .1))) column ≡ afterCommas ps
+  from-rest = dropped column (at + length (hex (p .0)) + 1) (hex (p .1)) (afterCommas ps) from-value
+
+  -- the pairs after this one, by what stands after it
+  rest-from : (qs : List Pair) → drop (at + length (hex (p .0)) + 1 + length (hex (p .1))) column ≡ afterCommas qs
+      → length column ≡ at + length (hex (p .0)) + 1 + length (hex (p .1)) + length (afterCommas qs)
+      → (next : ℕ) → next ≡ min (at + length (hex (p .0)) + 1 + length (hex (p .1)) + 1) (length column)
+      → (at + length (hex (p .0)) + 1 + length (hex (p .1)) ≤ next) × (next ≤ length column) × (drop next column ≡ pairsText qs)
+  rest-from [] f n next m =
+      let s : next ≡ at + length (hex (p .0)) + 1 + length (hex (p .1)) = omega arith in
+      (omega arith, omega arith, ap (λ (i : ℕ). drop i column) s ∙ f)
+  rest-from (q ∷ qs) f n next m =
+      let s : next ≡ at + length (hex (p .0)) + 1 + length (hex (p .1)) + 1 = omega arith in
+      (omega arith, omega arith, ap (λ (i : ℕ). drop i column) s ∙ dropped column (at + length (hex (p .0)) + 1 + length (hex (p .1))) (comma ∷ []) (pairsText (q ∷ qs)) f)
+
+  module _ (sign end next : ℕ) (x : sign ≡ at + reach 61 (drop at column)) (y : end ≡ sign + 1 + reach 44 (drop (sign + 1) column)) (z : next ≡ min (end + 1) (length column)) where
+    is-sign : sign ≡ at + length (hex (p .0))
+    is-sign = x ∙ ap (λ (i : ℕ). at + i) sign-reach
+
+    is-end : end ≡ at + length (hex (p .0)) + 1 + length (hex (p .1))
+    is-end = y ∙ ap (λ (i : ℕ). i + 1 + reach 44 (drop (i + 1) column)) is-sign ∙ ap (λ (i : ℕ). at + length (hex (p .0)) + 1 + i) comma-reach
+
+    is-rest : (at + length (hex (p .0)) + 1 + length (hex (p .1)) ≤ next) × (next ≤ length column) × (drop next column ≡ pairsText ps)
+    is-rest = rest-from ps from-rest value-length next (z ∙ ap (λ (i : ℕ). min (i + 1) (length column)) is-end)
+
+    pub sign-within : sign + 1 ≤ length column
+    sign-within = omega (arith, is-sign, key-length)
+
+    found-pair : PairAt column at (record { equals = sign; end = end; next = next })
+    found-pair =
+        let a : sign - at ≡ length (hex (p .0)) = omega (arith, is-sign) in
+        let b : end - (sign + 1) ≡ length (hex (p .1)) = omega (arith, is-sign, is-end) in
+        let d : sign + 1 ≡ at + length (hex (p .0)) + 1 = omega (arith, is-sign) in
+        record {
+          pair = p;
+          low = omega (arith, is-sign);
+          sign = omega (arith, is-sign, is-end);
+          grows = omega (arith, is-end, is-rest .0);
+          more = omega (arith, is-rest .0);
+          key = ap (λ (i : ℕ). take i (drop at column)) a ∙ taken column at (hex (p .0)) (equals ∷ (hex (p .1) ++ afterCommas ps)) from-key;
+          value = ap₂ (λ (i j : ℕ). take i (drop j column)) b d ∙ taken column (at + length (hex (p .0)) + 1) (hex (p .1)) (afterCommas ps) from-value;
+          rest = record { short = short; within = is-rest .1; text = record { pairs = ps; is = is-rest .2; rule = k .1 .1 .1 } };
+          first = ap pairsOf e ∙ pairs-of (p ∷ ps) k ∙ ap (λ (l : List Pair). p ∷ l) (sym (ap pairsOf (is-rest .2) ∙ pairs-of ps (k .1 .1 .1)));
+        }
+
+-- where pairs stand and the end is not reached, there is one
+module _ (column : Bytes) (at : ℕ) (h : PairsFrom column at) where
+  is-one : (l : List Pair) → drop at column ≡ pairsText l → l ≡ [] → ⊥
+  is-one l e f = omega (arith, h .1, sym (length-drop at column) ∙ ap length (e ∙ ap pairsText f))
+
+  module _ (sign : ℕ) (x : sign ≡ at + reach 61 (drop at column)) where
+    pub sign-inside : sign + 1 ≤ length column
+    sign-inside = go (h .0 .text .pairs) (h .0 .text .is) (h .0 .text .rule)
+      where
+        go : (l : List Pair) → drop at column ≡ pairsText l → Meets (pairsRule l) → sign + 1 ≤ length column
+        go [] e k = absurd (is-one [] e refl)
+        go (p ∷ ps) e k = sign-within column at (h .0 .short) (h .0 .within) p ps e k sign (sign + 1 + reach 44 (drop (sign + 1) column)) (min (sign + 1 + reach 44 (drop (sign + 1) column) + 1) (length column)) x refl refl
+
+    pub pair-found : (end next : ℕ) → end ≡ sign + 1 + reach 44 (drop (sign + 1) column) → next ≡ min (end + 1) (length column)
+        → PairAt column at (record { equals = sign; end = end; next = next })
+    pair-found end next y z = go (h .0 .text .pairs) (h .0 .text .is) (h .0 .text .rule)
+      where
+        go : (l : List Pair) → drop at column ≡ pairsText l → Meets (pairsRule l) → PairAt column at (record { equals = sign; end = end; next = next })
+        go [] e k = absurd (is-one [] e refl)
+        go (p ∷ ps) e k = found-pair column at (h .0 .short) (h .0 .within) p ps e k sign end next x y z
+
+-- a place that is reached stands within
+pub reach-within : (b : ℕ) (s : Bytes) → reach b s ≤ length s
+unfolding reach
+reach-within b [] = omega arith
+reach-within b (x ∷ s) = pick (eqb x b) (reach-within b s)
+  where
+    pick : (t : Bool) → reach b s ≤ length s → cond t 0 (suc (reach b s)) ≤ suc (length s)
+    pick true h = omega arith
+    pick false h = omega arith
+
+-- ── the first pair
+
+pub column-some : (column : Bytes) → PairsColumn column → 0 < length column
+column-some column h = go (h .pairs) (h .text)
+  where
+    go : (ps : Option (List Pair)) → column ≡ writeList pairText ps → 0 < length column
+    go none e = omega (arith, ap length e)
+    go (some []) e = omega (arith, ap length e)
+    go (some (p ∷ ps)) e =
+        omega (arith, ap length e ∙ ap length (joined p ps) ∙ length-append (pairText p) (afterCommas ps), length-append (hex (p .0)) (equals ∷ hex (p .1)))
+
+-- no pair begins with `~` or `-`
+no-sign : (p : Pair) (ps : List Pair) (b : ℕ) → Meets (is (isUtf8 (p .0))) → eqb 61 b ≡ false → ((k : Bytes) → Meets (all isByte k) → Meets (lacks b (hex k))) → eqb (getD (pairsText (p ∷ ps)) 0 0) b ≡ false
+no-sign p ps b h e f = go (p .0) (f (p .0) (utf8-bytes (p .0) h))
+  where
+    go : (k : Bytes) → Meets (lacks b (hex k)) → eqb (getD ((hex k ++ (equals ∷ hex (p .1))) ++ afterCommas ps) 0 0) b ≡ false
+    go [] l = e
+    go (x ∷ k) l = not-true (eqb (getD (hex (x ∷ k)) 0 0) b) (l .0)
+
+pub pairs-rule : (column : Bytes) (at : ℕ) → Pairs column at → Meets (each textPair (pairsOf (drop at column)))
+pairs-rule column at h = subst (λ (l : List Pair). Meets (each textPair l)) (sym (ap pairsOf (h .text .is) ∙ pairs-of (h .text .pairs) (h .text .rule))) (pairs-text (h .text .pairs) (h .text .rule))
+
+pub pairs-end : (column : Bytes) (at : ℕ) → length column ≤ at → pairsOf (drop at column) ≡ []
+unfolding pairsOf pairsIn
+pairs-end column at h = ap pairsOf (drop-of-length-le column h)
+
+abbrev pub FirstPairs : Bytes → Type 0
+FirstPairs t = Pairs t (firstPlace t) × (pairsOf (drop (firstPlace t) t) ≡ orNone (pairsIn t))
+
+-- the pairs of the column are those from its first place on
+pub first-pairs : (column : Bytes) → PairsColumn column → length column < 65536 → FirstPairs column
+unfolding pairsOf pairsIn
+first-pairs column h s = subst FirstPairs (sym (h .text)) (go (h .pairs) (h .rule) (omega (arith, s, sym (ap length (h .text)))))
+  where
+    go : (ps : Option (List Pair)) → Meets (metadataRule ps) → length (writeList pairText ps) < 65536 → FirstPairs (writeList pairText ps)
+    go none k l = (record { short = l; within = omega arith; text = record { pairs = []; is = refl; rule = refl } }, refl)
+    go (some []) k l = (record { short = l; within = omega arith; text = record { pairs = []; is = refl; rule = refl } }, refl)
+    go (some (p ∷ ps)) k l =
+        let c : eqb (getD (pairsText (p ∷ ps)) 0 0) 126 ≡ false = no-sign p ps 126 (k .0) refl (hex-lacks 126 refl) in
+        let d : eqb (getD (pairsText (p ∷ ps)) 0 0) 45 ≡ false = no-sign p ps 45 (k .0) refl (hex-lacks 45 refl) in
+        subst FirstPairs (sym (joined p ps))
+        (rw (c, d) (record { short = omega (arith, l, ap length (joined p ps)); within = omega arith; text = record { pairs = p ∷ ps; is = refl; rule = k } }, refl))

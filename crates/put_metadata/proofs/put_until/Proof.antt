@@ -1,0 +1,88 @@
+-- `put_until` meets its contract: the pairs before the key are those that were written and those that are left. The measure is what is left of the column. Assumes nothing.
+use mathlib.Core.Path.{_≡_, refl, sym, _∙_}
+use Prim.Native.Nat.{_-_}
+use lib.ListN.{length}
+use borrow.Author.Tests.{not-true, not-false}
+use borrow.Author.Needs.{needs}
+use Rattle.put_metadata.proofs.WalkLaws.{Until, until-start, until-end, until-stop, until-more, walk-on}
+use Rattle.put_metadata.proofs.put_until.Statement.{statement}
+use Rattle.put_metadata.proofs.put_until.Tie as tie
+
+abbrev Inv-loop : tie.InvT-loop
+Inv-loop out₀ pairs key walk₀ out walk = (length out ≡ length out₀) × Until pairs key walk₀ out₀ out walk
+
+abbrev μ-loop : tie.MeasureT-loop
+μ-loop out₀ pairs key walk₀ out walk = length pairs - walk .place
+
+loop-holds : tie.Need-loop-holds Inv-loop μ-loop
+loop-holds c =
+    let a = c .before .before .before .args in
+    (refl, until-start (a .pairs .now) (a .key .now) (a .w) (a .out .now) (c .before .before .before .pre .stands))
+
+pair-at-requires : tie.Need-pair-at-requires Inv-loop μ-loop
+pair-at-requires c κs = (c .before .before .loop .inv .1 .moves .stands, c .if1 .taken)
+
+sub-is-before : tie.Need-sub-is-before Inv-loop μ-loop
+sub-is-before c = search needs
+
+part-is-before-start : tie.Need-part-is-before-start Inv-loop μ-loop
+part-is-before-start c = search needs
+
+part-is-before-end : tie.Need-part-is-before-end Inv-loop μ-loop
+part-is-before-end c = search needs
+
+is-before-requires : tie.Need-is-before-requires Inv-loop μ-loop
+is-before-requires c κs = search needs
+
+same-length : tie.Need-same-length Inv-loop μ-loop
+same-length c = search needs
+
+returns : tie.Need-returns Inv-loop μ-loop
+returns c =
+    let a = c .before .before .before .before .before .before .before .before .before .before .args in
+    let l = c .before .before .before .before .before .before .loop in
+    until-stop (a .pairs .now) (a .key .now) (a .w) (a .out .now) (l .out) (l .walk) (l .inv .1) (c .before .before .before .pair-at .result) (c .before .before .before .pair-at .ensures) (sym (c .before .is-before .ensures) ∙ not-true (c .before .is-before .result) (c .if2 .taken))
+
+put-found-requires : tie.Need-put-found-requires Inv-loop μ-loop
+put-found-requires c κs =
+    let a = c .before .before .before .before .before .before .before .before .before .before .before .args in
+    let l = c .before .before .before .before .before .before .before .loop in
+    (walk-on (a .pairs .now) (a .w) (l .walk) _ _ 0 0 _ (a .out .now) (l .out) (l .inv .1 .moves) (c .before .before .before .before .before .before .before .before .before .before .before .pre), c .before .before .before .before .pair-at .ensures)
+
+loop-less : tie.Need-loop-less Inv-loop μ-loop
+loop-less c = search needs
+
+loop-again : tie.Need-loop-again Inv-loop μ-loop
+loop-again c =
+    let a = c .before .before .before .before .before .before .before .before .before .before .before .before .before .before .args in
+    let l = c .before .before .before .before .before .before .before .before .before .before .loop in
+    (search needs, until-more (a .pairs .now) (a .key .now) (a .w) (a .out .now) (l .out) (l .walk) (l .inv .1) (c .before .before .before .before .before .before .before .pair-at .result) (c .before .before .before .before .before .before .before .pair-at .ensures) (sym (c .before .before .before .before .before .is-before .ensures) ∙ not-false (c .before .before .before .before .before .is-before .result) (c .before .before .before .before .if2 .left)) (c .before .before .put-found .result) (c .before .before .put-found .last .0) (c .before .before .put-found .ensures))
+
+same-length-2 : tie.Need-same-length-2 Inv-loop μ-loop
+same-length-2 c = search needs
+
+returns-2 : tie.Need-returns-2 Inv-loop μ-loop
+returns-2 c =
+    let a = c .before .before .before .before .before .before .args in
+    let l = c .before .before .loop in
+    until-end (a .pairs .now) (a .key .now) (a .w) (a .out .now) (l .out) (l .walk) (l .inv .1) (c .if1 .left)
+
+pub put-until-spec : {M : Type 1} → statement M
+put-until-spec =
+    tie.close
+    (tie.spec
+    Inv-loop
+    μ-loop
+    loop-holds
+    pair-at-requires
+    sub-is-before
+    part-is-before-start
+    part-is-before-end
+    is-before-requires
+    same-length
+    returns
+    put-found-requires
+    loop-less
+    loop-again
+    same-length-2
+    returns-2)
