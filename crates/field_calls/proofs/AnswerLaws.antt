@@ -64,7 +64,7 @@ module _ (c : Call) (s : Bytes) (at : ℕ) (lent part : Bytes) (r : Step) (h : C
     lines-long (i, t, es, f) =
         let w : WroteAs s at es (typeWalk (stepOf c) t (some i) (stateOf c false)) lent part (given (next, len)) =
         subst (λ (y : Answer (ℕ × ℕ)). WroteAs s at es (typeWalk (stepOf c) t (some i) (stateOf c false)) lent part y) (ap stepAnswer e) (h (some i) t es f) in
-        omega (arith, w .5, w .6, f .short)
+        omega (arith, w .4, w .5, f .short)
 
     pub lines-done : (out mid : Bytes) (head w : ℕ) → PutAt 0 (headingLine (headingOf c)) head out mid → w ≡ min head (length mid) → lent ≡ take (length mid - w) (drop w mid)
         → SheetWrote c s at out (take w mid ++ (part ++ drop (length mid - w) (drop w mid))) (Done next (head + len))

@@ -6,7 +6,7 @@ use mathlib.Core.List.{List, [], _∷_, _++_, append-assoc}
 use Prim.Native.Nat.{ℕ, _+_, _-_, _≤_, min}
 use native.Mathlib.Omega.{arith}
 use lib.ListN.{length, take, drop}
-use Rattle.sheets.specs.Refusal.{Refusal, numberOf}
+use Rattle.sheets.specs.Refusal.{numberOf}
 use Rattle.sheets.specs.Bytes.{Bytes}
 use Rattle.sheets.specs.Answer.{Answer, refused, given, _>>=_}
 use Rattle.sheets.specs.Sheet.{ended, writeSheet}
@@ -14,20 +14,19 @@ use Rattle.sheets.specs.Schema.{Schema, readSchemaSheet}
 use Rattle.sheets.specs.Field.{Field}
 use Rattle.sheets.specs.FieldSheet.{fieldHeading, writeFieldSheet, typeLines}
 use Rattle.sheets.specs.Import.{toField}
-use Rattle.sheets.specs.Outcome.{Outcome, imported, outcome, refusal, importOutcome}
-use Rattle.sheets.proofs.OutcomeLaws.{turned}
+use Rattle.sheets.specs.Outcome.{Outcome, imported, refusal, importOutcome}
 use Rattle.sheets.specs.ImportLines.{written, shown}
 use Rattle.buffer.specs.Over.{PutAt, PutFirst}
 use Rattle.buffer.proofs.OverLaws.{put-lent, put-over}
-use Rattle.outcome.specs.Answers.{outcomeOf, Tells}
+use Rattle.outcome.specs.Answers.{outcomeOf, Tells, SheetTold}
 use Rattle.outcome.specs.declared.Answered.{Answered}
-use Rattle.outcome.proofs.AnswerLaws.{refusal-over}
+use Rattle.outcome.proofs.AnswerLaws.{told-refused, told-done}
 use Rattle.refusal.specs.declared.Refusal.{Refusal as Reason}
 use Rattle.refusal.specs.Refusals.{refusalOf}
 use Rattle.schema_sheet.specs.Sheets.{sheetBody, sheetAnswer}
 use Rattle.schema_sheet.proofs.SheetLaws.{Opens, sheet-opens, sheet-refused as sheet-unread}
-use Rattle.import_field.specs.Contracts.{FieldAt, Wrote, FieldWrote}
-use Rattle.import_sheet.specs.Sheets.{sheetOf, treeOf, SheetTold, SheetWrote, HasSheet}
+use Rattle.import_field.specs.Contracts.{FieldAt, Wrote, FieldWrote, stepAnswer}
+use Rattle.import_sheet.specs.Sheets.{sheetOf, treeOf, SheetWrote, HasSheet}
 use Rattle.schema_sheet.specs.declared.SheetRead.{SheetRead}
 use Rattle.schema_sheet.specs.declared.SheetRead.the-variants.{Body, Refused as Unread}
 use Rattle.import_field.specs.declared.Step.{Step}
@@ -69,7 +68,7 @@ module _ (s : Bytes) (at : ℕ) (t : Schema) (ts : List Schema) (f : FieldAt s a
 
     pub sheet-done : (out mid : Bytes) (head w : ℕ) → PutAt 0 headLine head out mid → w ≡ min head (length mid)
         → lent ≡ take (length mid - w) (drop w mid)
-        → SheetTold t out (take w mid ++ (part ++ drop (length mid - w) (drop w mid))) (given (next, head + len))
+        → SheetTold (sheetOf t) out (take w mid ++ (part ++ drop (length mid - w) (drop w mid))) (given (next, head + len))
     sheet-done out mid head w p e₁ e₂ =
         let (ls, is, put, there, long, within) = lines-done in (
           headLine ++ ended ls,
@@ -80,16 +79,12 @@ module _ (s : Bytes) (at : ℕ) (t : Schema) (ts : List Schema) (f : FieldAt s a
 -- ── the outcome
 
 module _ (s out : Bytes) where
-  -- a refusal is the outcome of a sheet that is refused
-  turned-back : (q : Refusal) (o : Outcome) (mid : Bytes) → imported s ≡ refused q → o ≡ refusal (numberOf q) mid → length mid ≡ length out → o ≡ importOutcome s out
-  turned-back q o mid i c l = c ∙ refusal-over (numberOf q) mid out l ∙ sym (turned q out) ∙ ap (λ (y : Answer Bytes). outcome y out) (sym i)
-
   -- no schema sheet
   pub import-unread : (k : SheetRead) (q : Reason) → k ≡ Unread q → sheetAnswer k ≡ sheetBody s → (o : Outcome) → o ≡ refusal (numberOf (refusalOf q)) out → o ≡ importOutcome s out
   unfolding imported
   import-unread k q e h o c =
       let is : readSchemaSheet s ≡ refused (refusalOf q) = sheet-unread s (sym h ∙ ap sheetAnswer e) in
-      turned-back (refusalOf q) o out (ap (λ (a : Answer Schema). a >>= λ t. toField t >>= λ f. given (writeFieldSheet f)) is) c refl
+      told-refused (imported s) out out (refusalOf q) o (ap (λ (a : Answer Schema). a >>= λ t. toField t >>= λ f. given (writeFieldSheet f)) is) c refl
 
   module _ (k : SheetRead) (at : ℕ) (e : k ≡ Body at) (h : sheetAnswer k ≡ sheetBody s) where
     read : (t : Schema) × Opens s at t
@@ -110,11 +105,10 @@ module _ (s out : Bytes) where
       pub import-refused : (q : Reason) → z ≡ Refused q → length mid ≡ length out → (o : Outcome) → o ≡ refusal (numberOf (refusalOf q)) mid → o ≡ importOutcome s out
       import-refused q d l o c =
           let v : SheetWrote s at out mid (Refused q) = subst (λ (y : Step). SheetWrote s at out mid y) d w in
-          turned-back (refusalOf q) o mid (of-sheet ∙ v (read .0) [] field-at) c l
+          told-refused (imported s) out mid (refusalOf q) o (of-sheet ∙ v (read .0) [] field-at) c l
 
       -- the sheet is written, as far as it fits
       pub import-done : (next len : ℕ) → z ≡ Done next len → (a : Answered) (out' : Bytes) → Tells mid len a out' → outcomeOf (a .number) (a .length) out' ≡ importOutcome s out
       import-done next len d a out' c =
-          let v : SheetWrote s at out mid (Done next len) = subst (λ (y : Step). SheetWrote s at out mid y) d w in
-          let (x, is, put) = v (read .0) [] field-at in
-          c x out put ∙ ap (λ (y : Answer Bytes). outcome y out) (sym (of-sheet ∙ is))
+          let v : SheetTold (imported s) out mid (stepAnswer z) = subst (λ (a : Answer Bytes). SheetTold a out mid (stepAnswer z)) (sym of-sheet) (w (read .0) [] field-at) in
+          told-done (imported s) out mid (stepAnswer z) next len (ap stepAnswer d) v a out' c

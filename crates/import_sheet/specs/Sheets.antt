@@ -1,15 +1,14 @@
 -- What the functions of import tell of the whole sheet. Assumes nothing.
-use mathlib.Core.Path.{_≡_}
 use mathlib.Core.Bool.{false}
 use mathlib.Core.List.{List}
 use Prim.Native.Nat.{ℕ}
 use Rattle.sheets.specs.Bytes.{Bytes}
-use Rattle.sheets.specs.Answer.{Answer, refused, given, _>>=_}
+use Rattle.sheets.specs.Answer.{Answer, given, _>>=_}
 use Rattle.sheets.specs.Sheet.{levelLimit}
 use Rattle.sheets.specs.Schema.{Schema}
 use Rattle.sheets.specs.FieldSheet.{writeFieldSheet}
 use Rattle.sheets.specs.Import.{toField}
-use Rattle.buffer.specs.Over.{PutFirst}
+use Rattle.outcome.specs.Answers.{SheetTold}
 use Rattle.import_field.specs.declared.Tree.{Tree}
 use Rattle.import_field.specs.declared.Step.{Step}
 use Rattle.import_field.specs.Contracts.{FieldAt, HasField, stepAnswer}
@@ -22,12 +21,8 @@ sheetOf t = toField t >>= λ f. given (writeFieldSheet f)
 abbrev pub treeOf : ℕ → Tree
 treeOf at = record { at = at; levels = levelLimit; bare = false }
 
-abbrev pub SheetTold : Schema → Bytes → Bytes → Answer (ℕ × ℕ) → Type 0
-SheetTold t out out' (refused q) = sheetOf t ≡ refused q
-SheetTold t out out' (given (next, len)) = (x : Bytes) × (sheetOf t ≡ given x) × PutFirst x len out out'
-
 abbrev pub SheetWrote : Bytes → ℕ → Bytes → Bytes → Step → Type 0
-SheetWrote s at out out' r = (t : Schema) (ts : List Schema) → FieldAt s at levelLimit t ts → SheetTold t out out' (stepAnswer r)
+SheetWrote s at out out' r = (t : Schema) (ts : List Schema) → FieldAt s at levelLimit t ts → SheetTold (sheetOf t) out out' (stepAnswer r)
 
 abbrev pub HasSheet : Bytes → ℕ → Type 0
 HasSheet s at = HasField s (treeOf at)

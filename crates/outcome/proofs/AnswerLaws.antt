@@ -42,5 +42,5 @@ module _ (a : Answer Bytes) (out mid : Bytes) where
   pub told-done : (z : Answer (ℕ × ℕ)) (next len : ℕ) → z ≡ given (next, len) → SheetTold a out mid z → (r : Answered) (out' : Bytes) → Tells mid len r out'
       → outcomeOf (r .number) (r .length) out' ≡ outcome a out
   told-done z next len e h r out' c =
-      let (x, is, lenIs, laid) = subst (λ (y : Answer (ℕ × ℕ)). SheetTold a out mid y) e h in
-      c x out lenIs laid ∙ ap (λ (y : Answer Bytes). outcome y out) (sym is)
+      let (x, is, put) = subst (λ (y : Answer (ℕ × ℕ)). SheetTold a out mid y) e h in
+      c x out put ∙ ap (λ (y : Answer Bytes). outcome y out) (sym is)

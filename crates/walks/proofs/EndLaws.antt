@@ -39,7 +39,7 @@ module _ {S : Type 0} {step : S → Head → Answer (Step S)} {s : Bytes} {at le
 
     -- the sum of both lengths does not wrap
     pub both-long : b .len + more ≤ ownLimit * 65535
-    both-long = let d = row-done in omega (arith, g .long, d .5, d .6, g .row .short)
+    both-long = let d = row-done in omega (arith, g .long, d .4, d .5, g .row .short)
 
     -- all is written, or what was pending comes now
     pub type-ended : (w : ℕ) → w ≡ min (b .len) (length mid) → lent ≡ take (length mid - w) (drop w mid)
@@ -55,12 +55,12 @@ module _ {S : Type 0} {step : S → Head → Answer (Step S)} {s : Bytes} {at le
         go (refused r) (given u) c owns = absurd owns
         go (refused r) (refused q) c owns = chain (refused r) c ∙ ap refused owns
         go (given x) (given u) c owns =
-            let (ls, is, lenIs, laid, there, long, within) = row-done in (
+            let (ls, is, put, there, long, within) = row-done in (
               x ++ ls,
               chain (given x) c,
-              omega (arith, owns .0, lenIs, ap length (ended-append x ls), length-append (ended x) (ended ls)),
-              over-lent (ended x) (ended ls) out mid part (b .len) w (owns .1) (owns .0) e₁ (laid ∙ ap (over (ended ls)) e₂)
-                  ∙ ap (λ (y : Bytes). over y out) (sym (ended-append x ls)),
+              (omega (arith, owns .0, put .0, ap length (ended-append x ls), length-append (ended x) (ended ls)),
+              over-lent (ended x) (ended ls) out mid part (b .len) w (owns .1) (owns .0) e₁ (put .1 ∙ ap (over (ended ls)) e₂)
+                  ∙ ap (λ (y : Bytes). over y out) (sym (ended-append x ls))),
               there,
               omega (arith, g .long, long),
               within,

@@ -25,9 +25,8 @@ module _ (heading s : Bytes) (at : ℕ) (es : List Entry) (o : Answer (List Byte
   pub headed-done : (next len : ℕ) → a ≡ given (next, len) → (out mid : Bytes) (head w : ℕ) → PutAt 0 (headingLine heading) head out mid → w ≡ min head (length mid)
       → lent ≡ take (length mid - w) (drop w mid) → SheetTold (sheetOf heading o) out (take w mid ++ (part ++ drop (length mid - w) (drop w mid))) (given (next, head + len))
   headed-done next len e out mid head w p e₁ e₂ =
-      let (ls, is, lenIs, laid, there, long, within) = subst (λ (y : Answer (ℕ × ℕ)). WroteAs s at es o lent part y) e h in (
+      let (ls, is, put, there, long, within) = subst (λ (y : Answer (ℕ × ℕ)). WroteAs s at es o lent part y) e h in (
         headingLine heading ++ ended ls,
         ap (sheetOf heading) is ∙ ap given (sym (append-assoc heading (lineEnd ∷ []) (ended ls))),
-        omega (arith, p .0, lenIs, length-append (headingLine heading) (ended ls)),
-        over-lent (headingLine heading) (ended ls) out mid part head w (p .1 ∙ overAt-zero (headingLine heading) out) (omega (arith, p .0)) e₁ (laid ∙ ap (over (ended ls)) e₂),
+        (omega (arith, p .0, put .0, length-append (headingLine heading) (ended ls)), over-lent (headingLine heading) (ended ls) out mid part head w (p .1 ∙ overAt-zero (headingLine heading) out) (omega (arith, p .0)) e₁ (put .1 ∙ ap (over (ended ls)) e₂)),
       )

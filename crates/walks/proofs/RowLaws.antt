@@ -78,7 +78,7 @@ module _ {S : Type 0} (step : S → Head → Answer (Step S)) (s : Bytes) (at n 
         go (x ∷ vs) h b =
             let f : TypeWrote step s here levels inside σ (take (length out - w) (drop w out)) part (given (next, len)) =
             subst (λ (y : Answer (ℕ × ℕ)). TypeWrote step s here levels inside σ (take (length out - w) (drop w out)) part y) isDone wrote in
-            let (ls, is, lenIs, laid, there, long, within) = f (x .0) (x .1) (vs ++ es) (first-at x vs h) in
+            let (ls, is, put, there, long, within) = f (x .0) (x .1) (vs ++ es) (first-at x vs h) in
             record {
               vs = vs;
               lines = g .lines ++ ls;
@@ -87,9 +87,9 @@ module _ {S : Type 0} (step : S → Head → Answer (Step S)) (s : Bytes) (at n 
                   b
                   ∙ ap (λ (o : Answer (List Bytes)). (o >>= λ a. rowWalk step vs σ >>= λ b. given (a ++ b)) >>= λ b. given (g .lines ++ b)) is
                   ∙ both-before (g .lines) ls (rowWalk step vs σ);
-              sumIs = omega (arith, g .sumIs, lenIs, ap length (ended-append (g .lines) ls), length-append (ended (g .lines)) (ended ls));
+              sumIs = omega (arith, g .sumIs, put .0, ap length (ended-append (g .lines) ls), length-append (ended (g .lines)) (ended ls));
               laid =
-                  over-lent (ended (g .lines)) (ended ls) out₀ out part sum w (g .laid) (g .sumIs) e laid
+                  over-lent (ended (g .lines)) (ended ls) out₀ out part sum w (g .laid) (g .sumIs) e (put .1)
                   ∙ ap (λ (x : Bytes). over x out₀) (sym (ended-append (g .lines) ls));
               long = omega (arith, g .long, long);
             }
@@ -109,5 +109,5 @@ module _ {S : Type 0} (step : S → Head → Answer (Step S)) (s : Bytes) (at n 
     going-all l = go (g .vs) (g .left) (g .becomes)
       where
         go : (vs : List Entry) → RowAt s here (n - k) levels inside vs es → rowWalk step us σ ≡ (rowWalk step vs σ >>= λ ls. given (g .lines ++ ls)) → WroteAs s at es (rowWalk step us σ) out₀ out (given (here, sum))
-        go [] h b = (g .lines, b ∙ ap given (append-nil (g .lines)), g .sumIs, g .laid, h .stands, omega (arith, g .long), h .within)
+        go [] h b = (g .lines, b ∙ ap given (append-nil (g .lines)), (g .sumIs, g .laid), h .stands, omega (arith, g .long), h .within)
         go (x ∷ vs) h b = absurd (omega (arith, h .counted))

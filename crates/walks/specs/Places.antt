@@ -15,7 +15,7 @@ use Rattle.sheets.specs.FieldSheet.{Entry}
 use Rattle.sheets.specs.LineTrees.{tallest, Standing}
 use Rattle.sheets.specs.FieldTrees.{Head, entryLevels, fields}
 use Rattle.sheets.specs.Walk.{Step, lineMeasure, rowMeasure, typeWalk, rowWalk}
-use Rattle.buffer.specs.Over.{over}
+use Rattle.buffer.specs.Over.{PutFirst}
 
 -- ── what stands at a place of a sheet
 
@@ -53,8 +53,7 @@ WroteAs s from es o out out' (refused q) = o ≡ refused q
 WroteAs s from es o out out' (given (next, len)) =
     (ls : List Bytes)
     × (o ≡ given ls)
-    × (len ≡ length (ended ls))
-    × (out' ≡ over (ended ls) out)
+    × PutFirst (ended ls) len out out'
     × Standing fields (drop next s) es
     × (len + ownLimit * from ≤ ownLimit * next)
     × (next ≤ length s)
@@ -89,7 +88,7 @@ pub record Begun (S : Type 0) : Type 0 where
 
 -- a line's own is written, or its refusal is pending
 abbrev pub Owns : Answer (List Bytes) → Answer (Unit {0}) → ℕ → Bytes → Bytes → Type 0
-Owns (given ls) (given u) len out out' = (len ≡ length (ended ls)) × (out' ≡ over (ended ls) out)
+Owns (given ls) (given u) len out out' = PutFirst (ended ls) len out out'
 Owns (given ls) (refused q) len out out' = ⊥
 Owns (refused r) (given u) len out out' = ⊥
 Owns (refused r) (refused q) len out out' = r ≡ q
