@@ -3,8 +3,8 @@ use mathlib.Core.Path.{sym, _∙_}
 use native.Mathlib.Omega.{arith}
 use lib.ListN.{length-take}
 use borrow.Author.Needs.{needs}
-use Rattle.print_import.proofs.print_sheet.Statement.{statement}
-use Rattle.print_import.proofs.print_sheet.Tie as tie
+use Rattle.print_answer.proofs.print_sheet.Statement.{statement}
+use Rattle.print_answer.proofs.print_sheet.Tie as tie
 
 within-requires : tie.Need-within-requires
 within-requires c κs = search needs
