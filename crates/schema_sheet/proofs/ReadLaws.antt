@@ -1,7 +1,7 @@
 -- Reading a tree by its line and its row of subtrees, and a row by one tree after the other (`TreeWalks`), for the line that `read_line` shows and the
 -- answers of `read_tree` and `read_row`. Assumes nothing.
 use mathlib.Core.Path.{_≡_, refl, subst}
-use mathlib.Core.Logic.{_⊎_, inl, inr}
+use mathlib.Core.Logic.{inl, inr}
 use Prim.Native.Nat.{ℕ, _+_, _-_, _^_, _≤_, _<_}
 use native.Mathlib.Omega.{arith}
 use lib.ListN.{length}
@@ -11,7 +11,7 @@ use Rattle.sheets.specs.Answer.{refused, given}
 use Rattle.sheets.specs.SchemaTrees.{schemas}
 use Rattle.sheets.specs.TreeWalks.{RowEnds, RowBad}
 use Rattle.sheets.proofs.FormLaws.{schemas-lawful}
-use Rattle.sheets.proofs.TreeWalks.{below-ends, below-bad, below-none}
+use Rattle.sheets.proofs.TreeWalks.{told-deep, told-bad, below-ends, below-bad, below-none}
 use Rattle.sheets.proofs.TreeWalks as Walks
 use Rattle.schema_line.specs.declared.SchemaLine.{SchemaLine}
 use Rattle.schema_line.specs.Lines.{readLine, LineAt}
@@ -22,16 +22,6 @@ use Rattle.schema_sheet.specs.Trees.{treeAnswer, ReadsTree, ReadsRow}
 use Rattle.schema_sheet.specs.declared.trees.TreeRead.{TreeRead}
 use Rattle.schema_sheet.specs.declared.trees.TreeRead.the-variants as Read
 use Rattle.schema_sheet.proofs.SkipLaws.{no-level, line-count, row-to, row-deep}
-
--- ── which refusal it is
-
-pub told-deep : {D B : Type 0} → ((tooDeep ≡ tooDeep) × D) ⊎ ((tooDeep ≡ badLines) × B) → D
-told-deep (inl h) = h .1
-told-deep (inr h) = let e = h .0 in absurd (let z : _≡_ {A = ℕ} 0 1 = cc in omega arith)
-
-pub told-bad : {D B : Type 0} → ((badLines ≡ tooDeep) × D) ⊎ ((badLines ≡ badLines) × B) → B
-told-bad (inl h) = let e = h .0 in absurd (let z : _≡_ {A = ℕ} 0 1 = cc in omega arith)
-told-bad (inr h) = h .1
 
 -- ── a tree
 

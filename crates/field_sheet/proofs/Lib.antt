@@ -1,0 +1,5 @@
+pub mod LevelLaws
+pub mod SkipLaws
+pub mod ReadLaws
+pub mod WalkLaws
+pub mod SheetLaws

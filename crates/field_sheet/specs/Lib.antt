@@ -1,0 +1,3 @@
+pub mod Subtrees
+pub mod Trees
+pub mod Sheets

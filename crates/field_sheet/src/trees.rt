@@ -1,0 +1,96 @@
+// Trees of a field sheet read and tested: by the levels left, or by a forward count where there are too many. `bare` says what the line above asks of the
+// first line, `inside` that it stands directly in an extension.
+ghost use Prim.Native.Nat.{_≤_};
+ghost use lib.ListN.{length};
+ghost use Rattle.field_sheet.specs.Trees.{treeAnswer, Alone, Forms, ReadsTree, ReadsRow};
+use read_field_line::LineRead;
+
+// The end of a tree whose lines were tested; that it has too many levels; that there is none.
+pub enum TreeRead {
+    To(usize),
+    Deep,
+    Bad,
+}
+
+// Whether one tree that is not bare stands from place at on and nothing after it. No recursion: a sheet of any depth is tested.
+pub fn form(s: &[u8], at: usize) -> bool
+    ensures { λ r. ⌜ Forms (now (s .entry)) at r ⌝ }
+{
+    let mut here = at;
+    // the trees still to come, and whether the next one is to be bare
+    let mut due: usize = 1;
+    let mut bare = false;
+    while 0 < due {
+        let LineRead::Line(l) = read_field_line::read_field_line(s, here) else {
+            return false;
+        };
+        if l.bare != bare {
+            return false;
+        }
+        let room = s.len() - l.end;
+        // no more than there are bytes, so that no sum wraps
+        let other = due - 1;
+        if room < other {
+            return false;
+        }
+        if room - other < l.children as usize {
+            return false;
+        }
+        due = other + l.children as usize;
+        bare = field_kinds::is_bare_below(l.kind);
+        here = l.end;
+    }
+    s.len() <= here
+}
+
+// The end of the tree from place at on, every line of it tested, unless it has more levels than there may be.
+pub fn read_tree(s: &[u8], at: usize, bare: bool, inside: bool, levels: usize) -> TreeRead
+    ensures { λ r. ⌜ ReadsTree (now (s .entry)) at bare inside levels (treeAnswer r) ⌝ }
+{
+    if levels == 0 {
+        return TreeRead::Deep;
+    }
+    let LineRead::Line(l) = read_field_line::read_field_line(s, at) else {
+        return TreeRead::Bad;
+    };
+    if l.bare != bare {
+        return TreeRead::Bad;
+    }
+    // no more than there are bytes
+    if s.len() - l.end < l.children as usize {
+        return TreeRead::Bad;
+    }
+    let extension = crate::levels::is_extension(l.kind);
+    let cost = crate::levels::line_cost(inside, extension);
+    read_row(
+        s,
+        l.end,
+        l.children,
+        field_kinds::is_bare_below(l.kind),
+        extension,
+        levels - cost,
+    )
+}
+
+// The same of `count` trees from place at on, of which only a single one can be bare.
+fn read_row(s: &[u8], at: usize, count: u64, bare: bool, inside: bool, levels: usize) -> TreeRead
+    requires { ⌜ at ≤ length (now s) ⌝ }
+    requires { ⌜ Alone bare count ⌝ }
+    ensures { λ r. ⌜ ReadsRow (now (s .entry)) at count bare inside levels (treeAnswer r) ⌝ }
+{
+    let mut here = at;
+    let mut due = count;
+    let mut next = bare;
+    while due != 0 {
+        match read_tree(s, here, next, inside, levels) {
+            TreeRead::Deep => return TreeRead::Deep,
+            TreeRead::Bad => return TreeRead::Bad,
+            TreeRead::To(end) => {
+                here = end;
+                due -= 1;
+                next = false;
+            }
+        }
+    }
+    TreeRead::To(here)
+}
