@@ -1,6 +1,6 @@
 -- The kind of a field line of a leaf: one digit or two, and where they end. Assumes nothing.
 use mathlib.Core.Path.{_≡_, refl, sym, ap, _∙_}
-use mathlib.Core.Bool.{Bool, true, false, cond}
+use mathlib.Core.Bool.{Bool, true, false, _&&_, _||_, not, cond, and-true, true≢false}
 use mathlib.Core.List.{[], _∷_}
 use mathlib.Core.Option.{Option, none, some}
 use Prim.Native.Nat.{ℕ, suc, _+_, _*_, _-_, _≤_, _<_}
@@ -13,10 +13,47 @@ use Rattle.sheets.specs.Refusal.{badLines}
 use Rattle.sheets.specs.Rule.{is, _and_, passes, Meets}
 use Rattle.sheets.specs.Bytes.{Bytes, all}
 use Rattle.sheets.specs.Number.{isDigit, valueFrom, lean}
-use Rattle.sheets.proofs.Tests.{when-met}
+use Rattle.sheets.proofs.Tests.{when-met, every, at-each, meets}
 use Rattle.columns.specs.Columns.{part}
 use Rattle.columns.proofs.OneByteLaws.{two-cons}
 use Rattle.field_leaf.specs.FieldLeaves.{isShort, shortKind, kindOf, kindEnd}
+
+-- ── kinds that have no unit
+
+module _ (kind : ℕ) where
+  pub short-low : kind ≤ 14 → true ≡ isShort kind
+  short-low h = rw (le-leb kind 14 h, lt-leb 18 kind (omega arith))
+
+  abbrev dateOrBinary : ℕ → Bool
+  dateOrBinary k = (leb 16 k && leb k 17) || eqb k 22
+
+  pub short-middle : 14 < kind → kind < 24 → dateOrBinary kind ≡ isShort kind
+  short-middle h k = pick (leb kind 14) (lt-leb kind 14 h) (at-each 24 agree (meets (every 24 agree) refl) kind k)
+    where
+      alike : Bool → Bool → Bool
+      alike true b = b
+      alike false b = not b
+
+      agree : ℕ → Bool
+      agree n = leb n 14 || alike (dateOrBinary n) (isShort n)
+
+      alike-same : (a b : Bool) → alike a b ≡ true → a ≡ b
+      alike-same true true e = refl
+      alike-same true false e = sym e
+      alike-same false true e = e
+      alike-same false false e = refl
+
+      pick : (t : Bool) → t ≡ false → (t || alike (dateOrBinary kind) (isShort kind)) ≡ true → dateOrBinary kind ≡ isShort kind
+      pick true f e = absurd (true≢false f)
+      pick false f e = alike-same (dateOrBinary kind) (isShort kind) e
+
+  pub short-text : 24 ≤ kind → kind ≤ 26 → true ≡ isShort kind
+  short-text h k = rw (lt-leb kind 14 (omega arith), le-leb 16 kind (omega arith), lt-leb kind 22 (omega arith), le-leb 24 kind h, le-leb kind 26 k, le-leb 18 kind (omega arith), lt-leb kind 21 (omega arith))
+
+  pub short-last : 26 < kind → (leb 38 kind && leb kind 40) ≡ isShort kind
+  short-last h =
+      rw (lt-leb kind 14 (omega arith), le-leb 16 kind (omega arith), lt-leb kind 22 (omega arith), le-leb 24 kind (omega arith), lt-leb kind 26 h, le-leb 18 kind (omega arith), lt-leb kind 21 (omega arith))
+      (sym (and-true (leb 38 kind && leb kind 40)))
 
 -- ── the digits
 

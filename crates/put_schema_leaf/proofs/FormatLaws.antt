@@ -8,12 +8,13 @@ use Prim.Native.Nat.{ℕ, _+_, _*_, _-_, _/_, _%_, _≤_, _<_, min}
 use native.Mathlib.Omega.{arith}
 use lib.Dec.{eqb, leb, ltb}
 use lib.ListN.{length, length-append}
-use borrow.Author.Tests.{lt-ltb, ltb-true, ltb-false, lt-leb, leb-true, not-true}
+use borrow.Author.Tests.{ltb-true, ltb-false, lt-leb, leb-true, ne-eqb}
 use Rattle.sheets.specs.Rule.{Rule, is, _and_, each, Meets}
 use Rattle.sheets.specs.Bytes.{Bytes, lacks}
 use Rattle.sheets.specs.Text.{hexDigit, hex}
 use Rattle.sheets.specs.Metadata.{littleValue}
 use Rattle.sheets.specs.Sheet.{isSome}
+use Rattle.sheets.specs.Kind
 use Rattle.sheets.specs.Format.{Row, rows, rowOf}
 use Rattle.sheets.proofs.Tests.{not-some, same-some, every, at-each, meets}
 use Rattle.hex.proofs.PartLaws.{length-hex}
@@ -21,7 +22,7 @@ use Rattle.words.specs.Words.{Small, lowBytes}
 use Rattle.words.proofs.WordLaws.{low-is, length-low}
 use Rattle.datatypes.proofs.AtLaws.{Rest, listed, not-listed}
 use Rattle.field_leaf.specs.FieldLeaves.{isShort}
-use Rattle.put_schema_leaf.specs.Formats.{digitsText, nameDigits, formatDigits}
+use Rattle.put_schema_leaf.specs.Formats.{digitsText, nameDigits, formatDigits, isLong, longDigits}
 
 -- ── digits by numbers
 
@@ -90,20 +91,29 @@ format-told kind low high len e = pick (isShort kind) e
 
 -- ── a kind that is none of the arms'
 
--- a kind is listed, or it has no name
-abbrev pub unnamed : List (List ℕ) → ℕ → Bool
-unnamed kss k = listed kss k || not (isSome (formatDigits k))
+pub not-long : (x : ℕ) → (x ≡ Kind.Int128 → ⊥) → (x ≡ Kind.UInt128 → ⊥) → none ≡ longDigits x
+not-long x h k = rw (ne-eqb x Kind.Int128 h, ne-eqb x Kind.UInt128 k)
 
-pub no-format : (kss : List (List ℕ)) → Meets (every 41 (unnamed kss)) → (x : ℕ) → Rest kss x → none ≡ formatDigits x
-no-format kss h x rest = pick (ltb x 41) refl
+-- a kind is listed, or its name has seven bytes, or it has no name
+abbrev pub unnamed : List (List ℕ) → ℕ → Bool
+unnamed kss k = listed kss k || (isLong k || not (isSome (formatDigits k)))
+
+pub rest-format : (kss : List (List ℕ)) → Meets (every 41 (unnamed kss)) → (x : ℕ) → Rest kss x → longDigits x ≡ formatDigits x
+rest-format kss h x rest = pick (isLong x) refl
   where
-    nothing : (t : Bool) (o : Option Bytes) → not t ≡ true → (t || not (isSome o)) ≡ true → none ≡ o
+    nothing : (t : Bool) (o : Option Bytes) → not t ≡ true → (t || (false || not (isSome o))) ≡ true → none ≡ o
     nothing true o f g = absurd (true≢false (sym f))
     nothing false none f g = refl
     nothing false (some d) f g = absurd (true≢false (sym g))
 
-    pick : (t : Bool) → ltb x 41 ≡ t → none ≡ formatDigits x
-    pick true e = nothing (listed kss x) (formatDigits x) (not-listed x kss rest) (at-each 41 (unnamed kss) h x (ltb-true x 41 e))
-    pick false e =
-        let l : 41 ≤ x = ltb-false x 41 e in
+    unlisted : isLong x ≡ false → (t : Bool) → ltb x 41 ≡ t → none ≡ formatDigits x
+    unlisted l true e =
+        nothing (listed kss x) (formatDigits x) (not-listed x kss rest)
+        (ap (λ (u : Bool). listed kss x || (u || not (isSome (formatDigits x)))) (sym l) ∙ at-each 41 (unnamed kss) h x (ltb-true x 41 e))
+    unlisted l false e =
+        let past : 41 ≤ x = ltb-false x 41 e in
         rw (lt-leb x 14 (omega arith), lt-leb x 22 (omega arith), lt-leb x 26 (omega arith), lt-leb x 40 (omega arith), and-false (leb 16 x), and-false (leb 24 x), and-false (leb 38 x))
+
+    pick : (t : Bool) → isLong x ≡ t → cond t (formatDigits x) none ≡ formatDigits x
+    pick true l = refl
+    pick false l = unlisted l (ltb x 41) refl

@@ -119,6 +119,12 @@ module _ (out : Bytes) (low high len : ℕ) (room : len + 1 ≤ length out) wher
       let t : digitsText low high len ≡ lowBytes len low = ap₂ (λ (i j : ℕ). lowBytes i low ++ lowBytes j high) m z ∙ append-nil (lowBytes len low) in
       spaced mid to (record { place = p .0 ∙ ap (λ (b : Bytes). 0 + length b) (sym t); holds = p .1 ∙ ap (λ (b : Bytes). overAt 0 b out) (sym t) })
 
+  -- the two digits of a name of one byte
+  pub format-pair : (mid : Bytes) → len ≡ 2 → mid ≡ overAt 0 (lowBytes 2 low) out → PutAt 0 (digitsText low high len ++ (32 ∷ [])) 3 out (set mid 2 32)
+  format-pair mid is e =
+      let n : lowBytes 2 low ≡ lowBytes len low = ap (λ (i : ℕ). lowBytes i low) (sym is) in
+      format-short mid 2 (omega arith) (omega (arith, is, length-low len low), e ∙ ap (λ (b : Bytes). overAt 0 b out) n)
+
   pub format-long : (first mid : Bytes) (to : ℕ) → 8 < len → first ≡ overAt 0 (lowBytes 8 low) out → PutAt 8 (lowBytes (len - 8) high) to first mid → PutAt 0 (digitsText low high len ++ (32 ∷ [])) (to + 1) out (set mid to 32)
   format-long first mid to h e p =
       let m : min len 8 ≡ 8 = omega arith in

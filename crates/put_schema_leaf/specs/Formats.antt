@@ -1,10 +1,12 @@
 -- The format of a type that has no unit, as the digits in which a schema line has it. Assumes nothing.
 use mathlib.Core.Path.{_≡_}
-use mathlib.Core.Bool.{cond}
+use mathlib.Core.Bool.{Bool, _||_, cond}
 use mathlib.Core.List.{_++_}
 use mathlib.Core.Option.{Option, none, some}
 use Prim.Native.Nat.{ℕ, _-_, min}
+use lib.Dec.{eqb}
 use Rattle.sheets.specs.Bytes.{Bytes}
+use Rattle.sheets.specs.Kind
 use Rattle.sheets.specs.Text.{hex}
 use Rattle.sheets.specs.Format.{Row, rows, rowOf}
 use Rattle.sheets.specs.Metadata.{littleValue}
@@ -33,3 +35,10 @@ nameDigits (some r) = some (hex (r .name))
 -- the digits of the fixed name of a type that has no unit; Unknown has none
 abbrev pub formatDigits : ℕ → Option Bytes
 formatDigits kind = cond (isShort kind) (nameDigits (rowOf kind 0 rows)) none
+
+-- the same of the two kinds whose names have seven bytes, and of no other
+abbrev pub isLong : ℕ → Bool
+isLong kind = eqb kind Kind.Int128 || eqb kind Kind.UInt128
+
+abbrev pub longDigits : ℕ → Option Bytes
+longDigits kind = cond (isLong kind) (formatDigits kind) none

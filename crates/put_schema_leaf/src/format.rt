@@ -4,7 +4,7 @@ ghost use mathlib.Core.List.{[], _∷_};
 ghost use mathlib.Core.Option.{some};
 ghost use lib.ListN.{getD};
 ghost use Rattle.sheets.specs.Text.{hex};
-ghost use Rattle.put_schema_leaf.specs.Formats.{WordOf, digitsOption, formatDigits};
+ghost use Rattle.put_schema_leaf.specs.Formats.{WordOf, digitsOption, longDigits, formatDigits};
 use datatypes::kind;
 use words::hex_digits::pair_of;
 
@@ -65,6 +65,17 @@ fn seven(name: &[u8; 7]) -> Digits
     Digits::Are(low, three_pairs(name[4], name[5], name[6]), 14)
 }
 
+// The format of a kind whose name has seven bytes. It stands apart, since these names are not folded to constants.
+fn long_format(kind: u64) -> Digits
+    ensures { λ r. ⌜ digitsOption r ≡ longDigits kind ⌝ }
+{
+    match kind {
+        kind::INT128 => seven(b"_pli128"),
+        kind::UINT128 => seven(b"_plu128"),
+        _ => Digits::Nothing,
+    }
+}
+
 // The format of a kind, if it has no unit and a fixed name.
 pub fn format_of(kind: u64) -> Digits
     ensures { λ r. ⌜ digitsOption r ≡ formatDigits kind ⌝ }
@@ -76,12 +87,10 @@ pub fn format_of(kind: u64) -> Digits
         kind::INT16 => one(b"s"),
         kind::INT32 => one(b"i"),
         kind::INT64 => one(b"l"),
-        kind::INT128 => seven(b"_pli128"),
         kind::UINT8 => one(b"C"),
         kind::UINT16 => one(b"S"),
         kind::UINT32 => one(b"I"),
         kind::UINT64 => one(b"L"),
-        kind::UINT128 => seven(b"_plu128"),
         kind::FLOAT16 => one(b"e"),
         kind::FLOAT32 => one(b"f"),
         kind::FLOAT64 => one(b"g"),
@@ -93,6 +102,9 @@ pub fn format_of(kind: u64) -> Digits
         kind::LARGE_UTF8 => one(b"U"),
         kind::BINARY_VIEW => two(b"vz"),
         kind::UTF8_VIEW => two(b"vu"),
-        _ => Digits::Nothing,
+        _ => match long_format(kind) {
+            Digits::Are(low, high, len) => Digits::Are(low, high, len),
+            Digits::Nothing => Digits::Nothing,
+        },
     }
 }

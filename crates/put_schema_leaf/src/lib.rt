@@ -34,8 +34,8 @@ fn put_low(out: &mut [u8], at: usize, w: u64, len: usize) -> usize
     i
 }
 
-// Writes a format's digits and a space; the place after them.
-fn put_format(out: &mut [u8], low: u64, high: u64, len: usize) -> usize
+// Writes a format's digits and a space; the place after them. For names of any size.
+fn put_long_format(out: &mut [u8], low: u64, high: u64, len: usize) -> usize
     requires { ⌜ (len % 2 ≡ 0) × (len + 1 ≤ length (now out)) ⌝ }
     ensures { λ r. ⌜ PutAt 0 (digitsText low high len ++ (32 ∷ [])) r (now (out .entry)) (now (out .exit)) ⌝ }
 {
@@ -48,6 +48,19 @@ fn put_format(out: &mut [u8], low: u64, high: u64, len: usize) -> usize
     let end = put_low(out, 8, high, len - 8);
     out[end] = b' ';
     end + 1
+}
+
+// The same; the two digits of a name of one byte at once, as most names are.
+fn put_format(out: &mut [u8], low: u64, high: u64, len: usize) -> usize
+    requires { ⌜ (len % 2 ≡ 0) × (len + 1 ≤ length (now out)) ⌝ }
+    ensures { λ r. ⌜ PutAt 0 (digitsText low high len ++ (32 ∷ [])) r (now (out .entry)) (now (out .exit)) ⌝ }
+{
+    if len == 2 {
+        words::put_word2(out, 0, low);
+        out[2] = b' ';
+        return 3;
+    }
+    put_long_format(out, low, high, len)
 }
 
 // Writes ` F ~ 0 0` and byte 10 from place at on, with F the flag of nullable; the place after it.
