@@ -2,10 +2,10 @@
 use denote.Ref.{now}
 use Rattle.sheets.specs.Outcome.{exportOutcome, exported, imported}
 use Rattle.sheets.specs.Demand3.{written}
-use Rattle.round_trip.proofs.TripLaws.{part-length, first-out, second-out, both-out, handed}
+use Rattle.round_trips.proofs.TripLaws.{part-length, first-out, second-out, both-out, handed}
 use borrow.Author.Needs.{needs}
-use Rattle.round_trip.proofs.out_and_back.Statement.{statement}
-use Rattle.round_trip.proofs.out_and_back.Tie as tie
+use Rattle.round_trips.proofs.out_and_back.Statement.{statement}
+use Rattle.round_trips.proofs.out_and_back.Tie as tie
 
 export-requires : tie.Need-export-requires
 export-requires c κs = search needs

@@ -1,9 +1,9 @@
 -- `same_within` meets its contract: each part ends at the buffer's end at the latest. Assumes nothing.
 use denote.Ref.{now}
-use Rattle.round_trip.proofs.TripLaws.{part-length, parts-same}
+use Rattle.round_trips.proofs.TripLaws.{part-length, parts-same}
 use borrow.Author.Needs.{needs}
-use Rattle.round_trip.proofs.same_within.Statement.{statement}
-use Rattle.round_trip.proofs.same_within.Tie as tie
+use Rattle.round_trips.proofs.same_within.Statement.{statement}
+use Rattle.round_trips.proofs.same_within.Tie as tie
 
 within-requires : tie.Need-within-requires
 within-requires c κs = search needs

@@ -1,9 +1,9 @@
 -- `same_exports` meets its contract: a law for each way out. Assumes nothing.
 use denote.Ref.{now}
-use Rattle.round_trip.proofs.TripLaws.{one-export-out, other-export-out, one-plain-out, other-plain-out, compared-out}
+use Rattle.round_trips.proofs.TripLaws.{one-export-out, other-export-out, one-plain-out, other-plain-out, compared-out}
 use borrow.Author.Needs.{needs}
-use Rattle.round_trip.proofs.same_exports.Statement.{statement}
-use Rattle.round_trip.proofs.same_exports.Tie as tie
+use Rattle.round_trips.proofs.same_exports.Statement.{statement}
+use Rattle.round_trips.proofs.same_exports.Tie as tie
 
 exports-requires : tie.Need-exports-requires
 exports-requires c κs = search needs

@@ -7,9 +7,9 @@ use Rattle.sheets.specs.Outcome.{Outcome}
 use Rattle.sheets.specs.RoundTrip.{Buffers, RoundTripOutcome, SameExportsOutcome}
 use Rattle.sheets.specs.RoundTrip as S
 use Rattle.outcome.specs.Answers.{outcomeOf}
-use Rattle.round_trip.specs.declared.TwoSteps.{TwoSteps}
-use Rattle.round_trip.specs.declared.RoundTrip.{RoundTrip}
-use Rattle.round_trip.specs.declared.SameExports.{SameExports}
+use Rattle.round_trips.specs.declared.TwoSteps.{TwoSteps}
+use Rattle.round_trips.specs.declared.RoundTrip.{RoundTrip}
+use Rattle.round_trips.specs.declared.SameExports.{SameExports}
 
 -- each case of the enum
 abbrev pub tripTold : RoundTrip → S.RoundTrip

@@ -18,10 +18,10 @@ use Rattle.sheets.proofs.OutcomeLaws.{refusal-empty, Cases, turnedBack, tooLong
 use Rattle.sheets.proofs.RoundTripLaws.{after-refusal, after-answer}
 use Rattle.outcome.specs.declared.Answered.{Answered}
 use Rattle.outcome.specs.Answers.{outcomeOf}
-use Rattle.round_trip.specs.declared.TwoSteps.{TwoSteps}
-use Rattle.round_trip.specs.declared.RoundTrip.{RoundTrip}
-use Rattle.round_trip.specs.declared.SameExports.{SameExports}
-use Rattle.round_trip.specs.Trips.{tripTold, pairTold, four, tripOf, pairOf, Zeros, Told}
+use Rattle.round_trips.specs.declared.TwoSteps.{TwoSteps}
+use Rattle.round_trips.specs.declared.RoundTrip.{RoundTrip}
+use Rattle.round_trips.specs.declared.SameExports.{SameExports}
+use Rattle.round_trips.specs.Trips.{tripTold, pairTold, four, tripOf, pairOf, Zeros, Told}
 
 -- ── the first n bytes, or all where there are fewer
 

@@ -2,13 +2,13 @@
 use denote.Ref.{now}
 use Rattle.sheets.specs.Outcome.{exported, plainOutcome, plained}
 use Rattle.sheets.specs.Demand3.{written}
-use Rattle.round_trip.proofs.TripLaws.{part-length, first-out, second-out, both-out, handed}
+use Rattle.round_trips.proofs.TripLaws.{part-length, first-out, second-out, both-out, handed}
 use borrow.Author.Needs.{needs}
-use Rattle.round_trip.proofs.plain_and_out.Statement.{statement}
-use Rattle.round_trip.proofs.plain_and_out.Tie as tie
+use Rattle.round_trips.proofs.plain_and_out.Statement.{statement}
+use Rattle.round_trips.proofs.plain_and_out.Tie as tie
 
-plain-requires : tie.Need-plain-requires
-plain-requires c κs = search needs
+plain-form-requires : tie.Need-plain-form-requires
+plain-form-requires c κs = search needs
 
 clear-requires : tie.Need-clear-requires
 clear-requires c κs = search needs
@@ -33,7 +33,7 @@ slice-reshare-prefix-export c = search needs
 
 slice-aggregate-export : tie.Need-slice-aggregate-export
 slice-aggregate-export c =
-    part-length (c .before .within .result) (c .before .before .before .before .before .before .plain .result .length) _ (c .before .within .ensures)
+    part-length (c .before .within .result) (c .before .before .before .before .before .before .plain-form .result .length) _ (c .before .within .ensures)
 
 export-requires : tie.Need-export-requires
 export-requires c κs = search needs
@@ -71,7 +71,7 @@ pub plain-and-out-spec : {M : Type 1} → statement M
 plain-and-out-spec =
     tie.close
     (tie.spec
-    plain-requires
+    plain-form-requires
     clear-requires
     same-length
     same-length-2

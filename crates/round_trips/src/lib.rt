@@ -7,30 +7,8 @@ ghost use Rattle.sheets.specs.Outcome.{importOutcome, exportOutcome, plainOutco
 ghost use Rattle.sheets.specs.Demand3.{written};
 ghost use Rattle.sheets.specs.RoundTrip.{roundTripOutcome, sameExportsOutcome};
 ghost use Rattle.outcome.specs.Answers.{outcomeOf};
-ghost use Rattle.round_trip.specs.Trips.{Told, four, tripOf, pairOf};
+ghost use Rattle.round_trips.specs.Trips.{Told, four, tripOf, pairOf};
 use outcome::Answered;
-
-// STAND-IN for export, until its crate is there.
-fn export(s: &[u8], out: &mut [u8]) -> Answered
-    ensures { λ r. ⌜ outcomeOf (r .number) (r .length) (now (out .exit)) ≡ exportOutcome (now (s .entry)) (now (out .entry)) ⌝ }
-{
-    buffer::clear(out);
-    Answered {
-        number: 0,
-        length: s.len(),
-    }
-}
-
-// STAND-IN for the plain form, until its crate is there.
-fn plain(s: &[u8], out: &mut [u8]) -> Answered
-    ensures { λ r. ⌜ outcomeOf (r .number) (r .length) (now (out .exit)) ≡ plainOutcome (now (s .entry)) (now (out .entry)) ⌝ }
-{
-    buffer::clear(out);
-    Answered {
-        number: 0,
-        length: s.len(),
-    }
-}
 
 pub enum RoundTrip {
     // Import gave the plain form, and the export of the plain form is the export of the field.
@@ -76,7 +54,7 @@ fn same_within(a: &[u8], n: usize, b: &[u8], m: usize) -> bool
 fn out_and_back(sheet: &[u8], first: &mut [u8], second: &mut [u8]) -> TwoSteps
     ensures { λ r. ⌜ Told (exportOutcome (now (sheet .entry)) (now (first .entry))) (importOutcome (written (exportOutcome (now (sheet .entry)) (now (first .entry)))) (now (second .entry))) (now (first .entry)) (now (second .entry)) (now (first .exit)) (now (second .exit)) r ⌝ }
 {
-    let x = export(sheet, first);
+    let x = field_calls::export(sheet, first);
     if x.number != 0 {
         buffer::clear(second);
         return TwoSteps::FirstRefused(x.number);
@@ -94,13 +72,13 @@ fn out_and_back(sheet: &[u8], first: &mut [u8], second: &mut [u8]) -> TwoSteps
 fn plain_and_out(sheet: &[u8], third: &mut [u8], fourth: &mut [u8]) -> TwoSteps
     ensures { λ r. ⌜ Told (plainOutcome (now (sheet .entry)) (now (third .entry))) (exportOutcome (written (plainOutcome (now (sheet .entry)) (now (third .entry)))) (now (fourth .entry))) (now (third .entry)) (now (fourth .entry)) (now (third .exit)) (now (fourth .exit)) r ⌝ }
 {
-    let p = plain(sheet, third);
+    let p = field_calls::plain_form(sheet, third);
     if p.number != 0 {
         buffer::clear(fourth);
         return TwoSteps::FirstRefused(p.number);
     }
     let n = buffer::within(p.length, third.len());
-    let z = export(&third[..n], fourth);
+    let z = field_calls::export(&third[..n], fourth);
     if z.number != 0 {
         buffer::clear(third);
         return TwoSteps::SecondRefused(z.number);
@@ -157,12 +135,12 @@ pub fn round_trip(
 fn exports(one: &[u8], other: &[u8], first: &mut [u8], second: &mut [u8]) -> TwoSteps
     ensures { λ r. ⌜ Told (exportOutcome (now (one .entry)) (now (first .entry))) (exportOutcome (now (other .entry)) (now (second .entry))) (now (first .entry)) (now (second .entry)) (now (first .exit)) (now (second .exit)) r ⌝ }
 {
-    let x = export(one, first);
+    let x = field_calls::export(one, first);
     if x.number != 0 {
         buffer::clear(second);
         return TwoSteps::FirstRefused(x.number);
     }
-    let y = export(other, second);
+    let y = field_calls::export(other, second);
     if y.number != 0 {
         buffer::clear(first);
         return TwoSteps::SecondRefused(y.number);
@@ -174,12 +152,12 @@ fn exports(one: &[u8], other: &[u8], first: &mut [u8], second: &mut [u8]) -> Two
 fn plains(one: &[u8], other: &[u8], third: &mut [u8], fourth: &mut [u8]) -> TwoSteps
     ensures { λ r. ⌜ Told (plainOutcome (now (one .entry)) (now (third .entry))) (plainOutcome (now (other .entry)) (now (fourth .entry))) (now (third .entry)) (now (fourth .entry)) (now (third .exit)) (now (fourth .exit)) r ⌝ }
 {
-    let p = plain(one, third);
+    let p = field_calls::plain_form(one, third);
     if p.number != 0 {
         buffer::clear(fourth);
         return TwoSteps::FirstRefused(p.number);
     }
-    let z = plain(other, fourth);
+    let z = field_calls::plain_form(other, fourth);
     if z.number != 0 {
         buffer::clear(third);
         return TwoSteps::SecondRefused(z.number);

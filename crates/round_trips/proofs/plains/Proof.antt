@@ -1,13 +1,13 @@
 -- `plains` meets its contract: a law for each way out. Assumes nothing.
 use denote.Ref.{now}
 use Rattle.sheets.specs.Outcome.{plained}
-use Rattle.round_trip.proofs.TripLaws.{first-out, second-out, both-out}
+use Rattle.round_trips.proofs.TripLaws.{first-out, second-out, both-out}
 use borrow.Author.Needs.{needs}
-use Rattle.round_trip.proofs.plains.Statement.{statement}
-use Rattle.round_trip.proofs.plains.Tie as tie
+use Rattle.round_trips.proofs.plains.Statement.{statement}
+use Rattle.round_trips.proofs.plains.Tie as tie
 
-plain-requires : tie.Need-plain-requires
-plain-requires c κs = search needs
+plain-form-requires : tie.Need-plain-form-requires
+plain-form-requires c κs = search needs
 
 clear-requires : tie.Need-clear-requires
 clear-requires c κs = search needs
@@ -24,8 +24,8 @@ returns c =
     let x = c .before .before .before .before .before .before .before .before .plain in
     first-out (plained (now (a .one))) (plained (now (a .other))) (now (a .third)) (now (a .fourth)) (x .last .1 .0) (x .result) (x .ensures) (c .before .before .before .before .if1 .taken) (c .before .before .clear .last .0) (c .before .before .clear .ensures)
 
-plain-requires-2 : tie.Need-plain-requires-2
-plain-requires-2 c κs = search needs
+plain-form-requires-2 : tie.Need-plain-form-requires-2
+plain-form-requires-2 c κs = search needs
 
 clear-requires-2 : tie.Need-clear-requires-2
 clear-requires-2 c κs = search needs
@@ -60,12 +60,12 @@ pub plains-spec : {M : Type 1} → statement M
 plains-spec =
     tie.close
     (tie.spec
-    plain-requires
+    plain-form-requires
     clear-requires
     same-length
     same-length-2
     returns
-    plain-requires-2
+    plain-form-requires-2
     clear-requires-2
     same-length-3
     same-length-4

@@ -1,10 +1,10 @@
 -- `exports` meets its contract: a law for each way out. Assumes nothing.
 use denote.Ref.{now}
 use Rattle.sheets.specs.Outcome.{exported}
-use Rattle.round_trip.proofs.TripLaws.{first-out, second-out, both-out}
+use Rattle.round_trips.proofs.TripLaws.{first-out, second-out, both-out}
 use borrow.Author.Needs.{needs}
-use Rattle.round_trip.proofs.exports.Statement.{statement}
-use Rattle.round_trip.proofs.exports.Tie as tie
+use Rattle.round_trips.proofs.exports.Statement.{statement}
+use Rattle.round_trips.proofs.exports.Tie as tie
 
 export-requires : tie.Need-export-requires
 export-requires c κs = search needs

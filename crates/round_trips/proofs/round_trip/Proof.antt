@@ -2,10 +2,10 @@
 use mathlib.Core.Path.{sym, _∙_}
 use denote.Ref.{now}
 use borrow.Author.Tests.{not-true, not-false}
-use Rattle.round_trip.proofs.TripLaws.{export-out, import-out, plain-out, again-out, import-apart, again-apart, all-alike}
+use Rattle.round_trips.proofs.TripLaws.{export-out, import-out, plain-out, again-out, import-apart, again-apart, all-alike}
 use borrow.Author.Needs.{needs}
-use Rattle.round_trip.proofs.round_trip.Statement.{statement}
-use Rattle.round_trip.proofs.round_trip.Tie as tie
+use Rattle.round_trips.proofs.round_trip.Statement.{statement}
+use Rattle.round_trips.proofs.round_trip.Tie as tie
 
 out-and-back-requires : tie.Need-out-and-back-requires
 out-and-back-requires c κs = search needs
