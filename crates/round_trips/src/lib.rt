@@ -8,7 +8,6 @@ ghost use Rattle.sheets.specs.Demand3.{written};
 ghost use Rattle.sheets.specs.RoundTrip.{roundTripOutcome, sameExportsOutcome};
 ghost use Rattle.outcome.specs.Answers.{outcomeOf};
 ghost use Rattle.round_trips.specs.Trips.{Told, four, tripOf, pairOf};
-use outcome::Answered;
 
 pub enum RoundTrip {
     // Import gave the plain form, and the export of the plain form is the export of the field.

@@ -22,7 +22,7 @@ same-length-2 c = search needs
 returns : tie.Need-returns
 returns c =
     let a = c .before .before .before .before .before .before .before .before .before .before .before .before .before .args in
-    let x = c .before .before .before .before .before .before .before .before .plain in
+    let x = c .before .before .before .before .before .before .before .before .plain-form in
     first-out (plained (now (a .sheet))) (exported (written (plainOutcome (now (a .sheet)) (now (a .third))))) (now (a .third)) (now (a .fourth)) (x .last .1 .0) (x .result) (x .ensures) (c .before .before .before .before .if1 .taken) (c .before .before .clear .last .0) (c .before .before .clear .ensures)
 
 within-requires : tie.Need-within-requires
@@ -50,7 +50,7 @@ same-length-4 c = search needs
 returns-2 : tie.Need-returns-2
 returns-2 c =
     let a = c .before .before .before .before .before .before .before .before .before .before .before .before .before .before .before .before .before .before .before .before .before .args in
-    let x = c .before .before .before .before .before .before .before .before .before .before .before .before .before .before .before .before .plain in
+    let x = c .before .before .before .before .before .before .before .before .before .before .before .before .before .before .before .before .plain-form in
     let y = c .before .before .before .before .before .before .before .before .export in
     second-out (plained (now (a .sheet))) (exported (written (plainOutcome (now (a .sheet)) (now (a .third))))) (now (a .third)) (now (a .fourth)) (x .last .1 .0) (x .result) (x .ensures) (c .before .before .before .before .before .before .before .before .before .before .before .before .if1 .left) (y .last .1 .0) (y .result) (handed exported (c .before .before .before .before .before .before .before .before .before .before .before .within .result) (x .last .1 .0) (now (a .fourth)) (y .last .1 .0) (x .result) (y .result) _ (x .ensures) (c .before .before .before .before .before .before .before .before .before .before .before .within .ensures) (y .ensures)) (c .before .before .before .before .if2 .taken) (c .before .before .clear2 .last .0) (c .before .before .clear2 .ensures)
 
@@ -63,7 +63,7 @@ same-length-6 c = search needs
 returns-3 : tie.Need-returns-3
 returns-3 c =
     let a = c .before .before .before .before .before .before .before .before .before .before .before .before .before .before .before .before .before .args in
-    let x = c .before .before .before .before .before .before .before .before .before .before .before .before .plain in
+    let x = c .before .before .before .before .before .before .before .before .before .before .before .before .plain-form in
     let y = c .before .before .before .before .export in
     both-out (plained (now (a .sheet))) (exported (written (plainOutcome (now (a .sheet)) (now (a .third))))) (now (a .third)) (now (a .fourth)) (x .last .1 .0) (x .result) (x .ensures) (c .before .before .before .before .before .before .before .before .if1 .left) (y .last .1 .0) (y .result) (handed exported (c .before .before .before .before .before .before .before .within .result) (x .last .1 .0) (now (a .fourth)) (y .last .1 .0) (x .result) (y .result) _ (x .ensures) (c .before .before .before .before .before .before .before .within .ensures) (y .ensures)) (c .if2 .left)
 

@@ -21,7 +21,7 @@ same-length-2 c = search needs
 returns : tie.Need-returns
 returns c =
     let a = c .before .before .before .before .before .before .before .before .before .before .before .before .before .before .args in
-    let x = c .before .before .before .before .before .before .before .before .plain in
+    let x = c .before .before .before .before .before .before .before .before .plain-form in
     first-out (plained (now (a .one))) (plained (now (a .other))) (now (a .third)) (now (a .fourth)) (x .last .1 .0) (x .result) (x .ensures) (c .before .before .before .before .if1 .taken) (c .before .before .clear .last .0) (c .before .before .clear .ensures)
 
 plain-form-requires-2 : tie.Need-plain-form-requires-2
@@ -39,8 +39,8 @@ same-length-4 c = search needs
 returns-2 : tie.Need-returns-2
 returns-2 c =
     let a = c .before .before .before .before .before .before .before .before .before .before .before .before .before .before .before .before .before .before .before .before .args in
-    let x = c .before .before .before .before .before .before .before .before .before .before .before .before .before .before .plain in
-    let y = c .before .before .before .before .before .before .before .before .plain2 in
+    let x = c .before .before .before .before .before .before .before .before .before .before .before .before .before .before .plain-form in
+    let y = c .before .before .before .before .before .before .before .before .plain-form2 in
     second-out (plained (now (a .one))) (plained (now (a .other))) (now (a .third)) (now (a .fourth)) (x .last .1 .0) (x .result) (x .ensures) (c .before .before .before .before .before .before .before .before .before .before .if1 .left) (y .last .1 .0) (y .result) (y .ensures) (c .before .before .before .before .if2 .taken) (c .before .before .clear2 .last .0) (c .before .before .clear2 .ensures)
 
 same-length-5 : tie.Need-same-length-5
@@ -52,8 +52,8 @@ same-length-6 c = search needs
 returns-3 : tie.Need-returns-3
 returns-3 c =
     let a = c .before .before .before .before .before .before .before .before .before .before .before .before .before .before .before .before .args in
-    let x = c .before .before .before .before .before .before .before .before .before .before .plain in
-    let y = c .before .before .before .before .plain2 in
+    let x = c .before .before .before .before .before .before .before .before .before .before .plain-form in
+    let y = c .before .before .before .before .plain-form2 in
     both-out (plained (now (a .one))) (plained (now (a .other))) (now (a .third)) (now (a .fourth)) (x .last .1 .0) (x .result) (x .ensures) (c .before .before .before .before .before .before .if1 .left) (y .last .1 .0) (y .result) (y .ensures) (c .if2 .left)
 
 pub plains-spec : {M : Type 1} → statement M
