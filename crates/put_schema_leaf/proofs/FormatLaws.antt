@@ -15,7 +15,7 @@ use Rattle.sheets.specs.Text.{hexDigit, hex}
 use Rattle.sheets.specs.Metadata.{littleValue}
 use Rattle.sheets.specs.Sheet.{isSome}
 use Rattle.sheets.specs.Kind
-use Rattle.sheets.specs.Format.{Row, rows, rowOf}
+use Rattle.sheets.specs.Format.{FormatRow, rows, rowOf}
 use Rattle.sheets.proofs.Tests.{not-some, same-some, every, at-each, meets}
 use Rattle.hex.proofs.PartLaws.{length-hex}
 use Rattle.words.specs.Words.{Small, lowBytes}
@@ -52,24 +52,24 @@ hex-small b l h k = (digit-small (b / 16) (omega arith), (digit-small (b % 16) (
 -- ── the table
 
 -- of each name: it is no longer than seven bytes, not empty, and has no byte 00
-abbrev named : Row → Rule
+abbrev named : FormatRow → Rule
 named r = is (ltb 0 (length (r .name))) and (is (leb (length (r .name)) 7) and lacks 0 (r .name))
 
 all-named : Meets (each named rows)
 unfolding rows
 all-named = meets (each named rows) refl
 
-row-named : (l : List Row) → Meets (each named l) → (k u : ℕ) (r : Row) → rowOf k u l ≡ some r → Meets (named r)
+row-named : (l : List FormatRow) → Meets (each named l) → (k u : ℕ) (r : FormatRow) → rowOf k u l ≡ some r → Meets (named r)
 row-named [] h k u r e = not-some e
 row-named (x ∷ l) h k u r e = pick (eqb k (x .kind) && eqb u (x .unit)) e (row-named l (h .1) k u r)
   where
     pick : (t : Bool) → cond t (some x) (rowOf k u l) ≡ some r → (rowOf k u l ≡ some r → Meets (named r)) → Meets (named r)
-    pick true f next = subst (λ (y : Row). Meets (named y)) (same-some f) (h .0)
+    pick true f next = subst (λ (y : FormatRow). Meets (named y)) (same-some f) (h .0)
     pick false f next = next f
 
 -- a format's digits: those of the name in the table
 pub record Format (kind low high len : ℕ) : Type 0 where
-  pub row : Row
+  pub row : FormatRow
   pub is-row : rowOf kind 0 rows ≡ some row
   pub is : digitsText low high len ≡ hex (row .name)
   pub some : 0 < length (row .name)
@@ -79,7 +79,7 @@ pub record Format (kind low high len : ℕ) : Type 0 where
 pub format-told : (kind low high len : ℕ) → formatDigits kind ≡ some (digitsText low high len) → Format kind low high len
 format-told kind low high len e = pick (isShort kind) e
   where
-    found : (o : Option Row) → rowOf kind 0 rows ≡ o → nameDigits o ≡ some (digitsText low high len) → Format kind low high len
+    found : (o : Option FormatRow) → rowOf kind 0 rows ≡ o → nameDigits o ≡ some (digitsText low high len) → Format kind low high len
     found none q f = not-some f
     found (some r) q f =
         let n = row-named rows all-named kind 0 r q in

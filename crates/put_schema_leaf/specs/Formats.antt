@@ -8,7 +8,7 @@ use lib.Dec.{eqb}
 use Rattle.sheets.specs.Bytes.{Bytes}
 use Rattle.sheets.specs.Kind
 use Rattle.sheets.specs.Text.{hex}
-use Rattle.sheets.specs.Format.{Row, rows, rowOf}
+use Rattle.sheets.specs.Format.{FormatRow, rows, rowOf}
 use Rattle.sheets.specs.Metadata.{littleValue}
 use Rattle.words.specs.Words.{Small, lowBytes}
 use Rattle.field_leaf.specs.FieldLeaves.{isShort}
@@ -28,7 +28,7 @@ abbrev pub digitsOption : Digits → Option Bytes
 digitsOption (Are low high len) = some (digitsText low high len)
 digitsOption Nothing = none
 
-abbrev pub nameDigits : Option Row → Option Bytes
+abbrev pub nameDigits : Option FormatRow → Option Bytes
 nameDigits none = none
 nameDigits (some r) = some (hex (r .name))
 
