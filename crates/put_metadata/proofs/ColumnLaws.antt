@@ -29,7 +29,7 @@ use Rattle.column_text.proofs.ColumnTextLaws.{HasText, column-none, column-some
 use Rattle.put_metadata.specs.Pairs.{Pairs, pairsIn, pairsOf, pairsText, firstPlace}
 use Rattle.put_metadata.proofs.PairsLaws.{pairs-rule, pairs-end, pairs-of, pairs-in, first-pairs}
 use Rattle.put_metadata.specs.Block.{metadataColumn, pairPieces, blockText, beforeText, fromText, afterText, moreDone, moreRest}
-use Rattle.put_metadata.specs.Walks.{Moves, leftOf, metadataMost, PutsUntil, PutsReserved, PutsMore, PutsLeft, IsAfter, CanWalk, CanPutReserved, CanPutMore, CanPutMetadata}
+use Rattle.put_metadata.specs.Walks.{Moves, leftOf, PutsUntil, PutsReserved, PutsMore, PutsLeft, IsAfter, CanWalk, CanPutReserved, CanPutMore, CanPutMetadata}
 use Rattle.put_metadata.specs.declared.Walk.{Walk}
 use Rattle.put_metadata.proofs.BlockLaws.{pieces-length, pair-block, block-append, block-none, block-whole}
 use Rattle.put_metadata.proofs.WalkLaws.{no-move, then-move, as-move}
@@ -123,7 +123,6 @@ module _ (column : Bytes) (w a : Walk) (h : CanWalk column w 0) (old mid : Bytes
   left-put at out e = (
     m .place ∙ ap (λ (l : List Pair). w .end + length (blockText l)) is-all,
     e ∙ ap₂ (λ (n : ℕ) (b : Bytes). overAt at (hex (wordBytes n)) b) (m .counted ∙ ap (λ (l : List Pair). w .count + length l) is-all) (m .holds ∙ ap (λ (l : List Pair). overAt (w .end) (blockText l) old) is-all),
-    omega (arith, m .room),
   )
 
 -- ── the count before them
@@ -193,12 +192,8 @@ module _ (pairs name more : Bytes) (at : ℕ) (h : CanPutMetadata pairs name mor
   is-left : pairsOf (drop place pairs) ≡ orNone (pairsIn pairs)
   is-left = ap (λ (i : ℕ). pairsOf (drop i pairs)) f ∙ first-pairs pairs (h .column) (h .short) .1
 
-  -- what is promised
-  abbrev Put : ℕ → Bytes → Bytes → Type 0
-  Put r old out = PutAt at (metadataColumn pairs name more) r old out × (r ≤ at + metadataMost pairs name more)
-
-  said : (t : Bytes) (r : ℕ) (old out : Bytes) → metadataColumn pairs name more ≡ t → PutAt at t r old out → r ≤ at + metadataMost pairs name more → Put r old out
-  said t r old out e p l = ((p .0 ∙ ap (λ (x : Bytes). at + length x) (sym e), p .1 ∙ ap (λ (x : Bytes). overAt at x old) (sym e)), l)
+  said : (t : Bytes) (r : ℕ) (old out : Bytes) → metadataColumn pairs name more ≡ t → PutAt at t r old out → PutAt at (metadataColumn pairs name more) r old out
+  said t r old out e p = subst (λ (x : Bytes). PutAt at x r old out) (sym e) p
 
   module _ (n : same name (126 ∷ []) ≡ true) where
     no-extension : metadataColumn pairs name more ≡ writeText (blockOf (pairsOf (drop place pairs)))
@@ -209,14 +204,14 @@ module _ (pairs name more : Bytes) (at : ℕ) (h : CanPutMetadata pairs name mor
     pub no-metadata : length pairs ≤ place → metadataColumn pairs name more ≡ 126 ∷ []
     no-metadata l = no-extension ∙ ap (λ (l : List Pair). writeText (blockOf l)) (pairs-end pairs place l)
 
-    pub none-put : place ≡ length pairs → (r : ℕ) (old out : Bytes) → PutAt at (126 ∷ []) r old out → Put r old out
-    none-put e r old out p = said (126 ∷ []) r old out (no-metadata (omega arith)) p (omega (arith, p .0))
+    pub none-put : place ≡ length pairs → (r : ℕ) (old out : Bytes) → PutAt at (126 ∷ []) r old out → PutAt at (metadataColumn pairs name more) r old out
+    none-put e r old out p = said (126 ∷ []) r old out (no-metadata (omega arith)) p
 
-    pub plain-put : (place ≡ length pairs → ⊥) → (r : ℕ) (old out : Bytes) → PutsLeft pairs at start r old out → Put r old out
+    pub plain-put : (place ≡ length pairs → ⊥) → (r : ℕ) (old out : Bytes) → PutsLeft pairs at start r old out → PutAt at (metadataColumn pairs name more) r old out
     plain-put d r old out p =
         let l = pairsOf (drop place pairs) in
         said (writeText (some (metadataToBytes l))) r old out (no-extension ∙ some-block l (left-some pairs place start-stands (omega (arith, d, start-stands .within))))
-        (whole-put at old l r (0 + length l) (overAt (at + 8) (blockText l) old) out (p .0) refl (omega arith) (p .1)) (omega (arith, p .2))
+        (whole-put at old l r (0 + length l) (overAt (at + 8) (blockText l) old) out (p .0) refl (omega arith) (p .1))
 
   module _ (n : same name (126 ∷ []) ≡ false) where
     abbrev named : HasText name
@@ -265,7 +260,7 @@ module _ (pairs name more : Bytes) (at : ℕ) (h : CanPutMetadata pairs name mor
         unfolding metadataColumn
         is-extended = ap (λ (x : Option Bytes). writeText (schemaMetadata (pairsIn pairs) (extensionOf x (columnText more)))) (named .says)
 
-        pub extended-put : (r : ℕ) (out : Bytes) → PutsLeft pairs at b r two out → Put r old out
+        pub extended-put : (r : ℕ) (out : Bytes) → PutsLeft pairs at b r two out → PutAt at (metadataColumn pairs name more) r old out
         extended-put r out p =
             let d = moreDone (columnText more) (pairsOf (drop place pairs)) in
             let s = beforeText (hex nameKey) (leftOf pairs a) in
@@ -274,7 +269,7 @@ module _ (pairs name more : Bytes) (at : ℕ) (h : CanPutMetadata pairs name mor
             said (writeText (some (metadataToBytes (insertOver (nameKey, named .text) (withMetadata (columnText more) (orNone (pairsIn pairs))))))) r old out is-extended
             (joined-put at (b .end) r (b .count) old two out (blockText d ++ (blockText s ++ pairPieces (hex nameKey) value)) d (placed nameKey (named .text) (leftOf pairs a)) (leftOf pairs b) (insertOver (nameKey, named .text) (withMetadata (columnText more) (orNone (pairsIn pairs)))) all-pairs
             (ap (λ (x : Bytes). blockText d ++ (blockText s ++ x)) (ap (pairPieces (hex nameKey)) (v ∙ named .is) ∙ pair-block nameKey (named .text)) ∙ ap (λ (x : Bytes). blockText d ++ x) (sym (block-append s ((nameKey, named .text) ∷ []))))
-            (g .place) (g .holds) (omega (arith, g .counted, length-append s ((nameKey, named .text) ∷ []))) (p .0) (p .1)) (omega (arith, p .2, g .room, value-short))
+            (g .place) (g .holds) (omega (arith, g .counted, length-append s ((nameKey, named .text) ∷ []))) (p .0) (p .1))
 
 -- ── for the caller: columns that were written from a field
 

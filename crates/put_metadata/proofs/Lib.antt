@@ -3,3 +3,4 @@ pub mod BlockLaws
 pub mod WalkLaws
 pub mod MergeLaws
 pub mod ColumnLaws
+pub mod SizeLaws

@@ -57,7 +57,7 @@ pub pairs-in : (ps : Option (List Pair)) → Meets (metadataRule ps) → pairsIn
 unfolding pairsIn
 pairs-in ps h = ap (givenOr none) (read-pairs ps (pairs-listed ps h))
 
-joined : (p : Pair) (ps : List Pair) → join comma (pairText p ∷ map pairText ps) ≡ pairsText (p ∷ ps)
+pub joined : (p : Pair) (ps : List Pair) → join comma (pairText p ∷ map pairText ps) ≡ pairsText (p ∷ ps)
 joined p [] = sym (append-nil (pairText p))
 joined p (q ∷ ps) = ap (λ (t : Bytes). pairText p ++ (comma ∷ t)) (joined q ps)
 

@@ -69,11 +69,7 @@ IsAfter column key place r = (place ≤ r) × Pairs column r × (pairsOf (drop r
 abbrev pub PutsLeft : Bytes → ℕ → Walk → ℕ → Bytes → Bytes → Type 0
 PutsLeft column at w r old out =
     let left = leftOf column w in
-    (r ≡ w .end + length (blockText left)) × (out ≡ overAt at (hex (wordBytes (w .count + length left))) (overAt (w .end) (blockText left) old)) × (r ≤ reachOf column w)
-
--- how long the metadata column can be
-abbrev pub metadataMost : Bytes → Bytes → Bytes → ℕ
-metadataMost pairs name more = 128 + 16 * length pairs + length name + length more
+    (r ≡ w .end + length (blockText left)) × (out ≡ overAt at (hex (wordBytes (w .count + length left))) (overAt (w .end) (blockText left) old))
 
 -- ── what the writers require
 

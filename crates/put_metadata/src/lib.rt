@@ -2,11 +2,10 @@
 // columns of its extension. The pairs stand in the order of their keys, so that the reserved keys are merged in on one walk.
 pub mod pairs;
 
-ghost use Prim.Native.Nat.{_+_, _≤_};
 ghost use Rattle.buffer.specs.Over.{PutAt};
 ghost use Rattle.put_metadata.specs.Pairs.{Pairs, PairAt};
 ghost use Rattle.put_metadata.specs.Block.{sizedText, pairPieces, metadataColumn};
-ghost use Rattle.put_metadata.specs.Walks.{metadataMost, PutsFound, PutsUntil, PutsReserved, PutsMore, IsAfter, PutsLeft, CanPutText, CanPutPair, CanWalk, CanPutReserved, CanPutMore, CanPutLeft, CanPutMetadata};
+ghost use Rattle.put_metadata.specs.Walks.{PutsFound, PutsUntil, PutsReserved, PutsMore, IsAfter, PutsLeft, CanPutText, CanPutPair, CanWalk, CanPutReserved, CanPutMore, CanPutLeft, CanPutMetadata};
 use crate::pairs::PairPlace;
 
 // How far the pairs are written: a place in the column, the place in the buffer, and the number of pairs.
@@ -133,7 +132,7 @@ fn put_left(out: &mut [u8], at: usize, w: Walk, pairs: &[u8]) -> usize
 // Writes the column from place `at` on, as much as fits; the place after it. An extension's name is never `~`: that stands for no extension.
 pub fn put_metadata(out: &mut [u8], at: usize, pairs: &[u8], name: &[u8], more: &[u8]) -> usize
     requires { ⌜ CanPutMetadata (now pairs) (now name) (now more) at ⌝ }
-    ensures { λ r. ⌜ PutAt at (metadataColumn (now (pairs .entry)) (now (name .entry)) (now (more .entry))) r (now (out .entry)) (now (out .exit)) × (r ≤ at + metadataMost (now (pairs .entry)) (now (name .entry)) (now (more .entry))) ⌝ }
+    ensures { λ r. ⌜ PutAt at (metadataColumn (now (pairs .entry)) (now (name .entry)) (now (more .entry))) r (now (out .entry)) (now (out .exit)) ⌝ }
 {
     let place = crate::pairs::first_place(pairs);
     let w = Walk {

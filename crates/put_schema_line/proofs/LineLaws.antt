@@ -29,14 +29,16 @@ use Rattle.buffer.proofs.OverLaws.{Written, none-yet, and-then, overAt-zero, ov
 use Rattle.hex.proofs.PartLaws.{length-hex}
 use Rattle.words.specs.Words.{lowBytes}
 use Rattle.words.proofs.WordLaws.{low-is, length-low}
-use Rattle.decimal.proofs.WriteLaws.{decimal-start, first-digit}
+use Rattle.decimal.proofs.WriteLaws.{decimal-start, first-digit, decimal-short}
 use Rattle.field_line.specs.Columns.{column, endPiece}
+use Rattle.field_line.proofs.LengthLaws.{number-short}
 use Rattle.column_text.specs.ColumnText.{columnText, hasZero, TextColumn}
 use Rattle.column_text.proofs.ColumnTextLaws.{column-is, column-says}
 use Rattle.put_metadata.specs.Pairs.{firstPlace}
 use Rattle.put_metadata.specs.Block.{metadataColumn}
 use Rattle.put_metadata.proofs.PairsLaws.{pairs-in}
 use Rattle.put_metadata.proofs.ColumnLaws.{no-metadata}
+use Rattle.put_metadata.proofs.SizeLaws.{metadata-size}
 use Rattle.put_format.specs.Formats.{exportedAnswer, Formats}
 use Rattle.put_format.specs.LineFormat.{lineFormat, shapeRule}
 use Rattle.put_format.specs.declared.Exported.{Exported}
@@ -210,6 +212,34 @@ module _ (n : LineNumbers) (text name pairs extension more : Bytes) (h : CanPutC
   rest-low at zero old mid w =
       let l : at < 2 ^ 60 = omega (arith, w .place, length-hex (w .format), format-size (n .kind) (n .p) (n .q) text (n .children) 0 (h .format) (w .format) (w .is) .1, h .format .short, h .format .few) in
       record { named = record { named = h .named; low = l }; tail = record { column = h .column; short = h .short; extended = h .extended; metadata = h .metadata; low = omega (arith, l) } }
+
+  -- how long a line is, by its columns
+  pub line-size : (f : Bytes) → format ≡ given f → n .flags < 2 ^ 64 → n .dictionary < 2 ^ 64
+      → length (lineText n name pairs extension more f) ≤ 323 + 2 * length text + 42 * n .children + length name + 16 * length pairs + length extension + length more
+  unfolding restPiece tailPiece endPiece
+  line-size f e k l =
+      let s = format-size (n .kind) (n .p) (n .q) text (n .children) 0 (h .format) f e in
+      let m = metadataColumn pairs extension more in
+      let a = (space ∷ []) ++ column (decimal (n .flags)) in
+      omega (
+        arith,
+        ap length (sym (line-is n name pairs extension more f (s .0))),
+        length-append (hex f) rest,
+        length-hex f,
+        s .1,
+        length-append (namePiece name) (tailPiece n m),
+        name-short name (h .named),
+        length-append (((a ++ m) ++ (space ∷ [])) ++ column (decimal (n .children))) (endPiece (n .dictionary)),
+        length-append ((a ++ m) ++ (space ∷ [])) (column (decimal (n .children))),
+        length-append (a ++ m) (space ∷ []),
+        length-append a m,
+        length-append (space ∷ []) (column (decimal (n .flags))),
+        number-short (n .flags) k,
+        number-short (n .children) (omega (arith, h .format .few)),
+        length-append (decimal (n .dictionary)) (lineEnd ∷ []),
+        decimal-short (n .dictionary) l,
+        metadata-size pairs extension more (h .column) (h .extended) (h .metadata),
+      )
 
 -- ── for the caller: the line of a field's node
 
