@@ -111,7 +111,7 @@ reading-all g none = (Walks.reading-ends fields-lawful g none, Walks.reading-to 
 -- a leaf's line is a tree that is not bare, of one level
 module _ {s : Bytes} {at kind from e n : ℕ} (k : FieldLeafAt s at kind from e n) where
   -- no tree stands below it
-  none-below : (inside : Bool) (levels : ℕ) → Walks.Reading fields s (e + 7) false inside 0 levels (e + 7) false 0
+  none-below : (inside : Bool) (levels : ℕ) → Walks.Reading fields-lawful s (e + 7) false inside 0 levels (e + 7) false 0
   none-below inside levels = Walks.reading-none fields-lawful s (e + 7) false inside 0 levels (k .high) (inl refl)
 
   pub leaf-read : (bare : Bool) → bare ≡ false → (inside : Bool) (levels : ℕ) → 0 < levels → ReadsTree s at bare inside levels (given (e + 7))
