@@ -48,7 +48,7 @@ module _ {s : Bytes} {at kind from e n : ℕ} (k : FieldLeafAt s at kind from e 
   rest-stands : (next : ℕ) → next ≡ e + 7 → Standing fields (drop next s) es
   rest-stands next a = subst (λ (p : ℕ). Standing fields (drop p s) es) (sym a) (subst (λ (u : ArrowDataType). Standing fields (drop (e + 7) s) (typeBelow u ++ es)) is-type (below .1))
 
-module _ {s : Bytes} {at : ℕ} (levels : ℕ) (inside : Bool) {out out' : Bytes} where
+module _ (s : Bytes) (at levels : ℕ) (inside : Bool) (out out' : Bytes) where
   -- export: the schema line of the leaf
   pub leaf-exported : (o : Option (ℕ × ℕ)) → SchemaLeafTold s at out out' o → LeafWrote schemaStep s at levels inside none out out' o
   leaf-exported none w = w .1
