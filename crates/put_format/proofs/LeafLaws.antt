@@ -14,7 +14,7 @@ use Rattle.sheets.specs.Rule.{passes, Meets}
 use Rattle.sheets.specs.Bytes.{Bytes, same}
 use Rattle.sheets.specs.Answer.{Answer, refused, given, _>>=_, found}
 use Rattle.sheets.specs.Field.{leaf, isLeaf, hasUnit, leafRule}
-use Rattle.sheets.specs.Format.{Row, rows, rowOf, scalarFormat}
+use Rattle.sheets.specs.Format.{FormatRow, rows, rowOf, scalarFormat}
 use Rattle.sheets.proofs.Tests.{and-left, and-right, every, at-each, meets, passing}
 use Rattle.sheets.proofs.BytesLaws.{same-eq}
 use Rattle.format_names.specs.Names.{tableLength, rowAt, names, IsNameAt}
@@ -40,7 +40,7 @@ abbrev pub leafRow : ℕ → ℕ → ℕ
 leafRow k u = getD firstRows k 0 + u
 
 -- row r is what the definition finds
-abbrev agrees : Option Row → ℕ → Row → Bool
+abbrev agrees : Option FormatRow → ℕ → FormatRow → Bool
 agrees none k r = not (eqb (r .kind) k)
 agrees (some x) k r = eqb (r .kind) k && same (x .name) (r .name)
 
@@ -85,20 +85,20 @@ module _ (k u : ℕ) (h : Meets (leafRule k u)) where
   agreed = and-right (ltb (leafRow k u) tableLength) (agrees (rowOf k u rows) k (rowAt (leafRow k u))) tested
 
   -- what the definition says of the row that it finds
-  abbrev Said : Option Row → Answer Bytes
+  abbrev Said : Option FormatRow → Answer Bytes
   Said o = found noFormat o >>= λ r. given (r .name)
 
   pub leaf-named : rowAt (leafRow k u) .kind ≡ k → given (rowAt (leafRow k u) .name) ≡ scalarFormat (leaf k u)
   leaf-named e = go (rowOf k u rows) agreed
     where
-      go : (o : Option Row) → agrees o k (rowAt (leafRow k u)) ≡ true → given (rowAt (leafRow k u) .name) ≡ Said o
+      go : (o : Option FormatRow) → agrees o k (rowAt (leafRow k u)) ≡ true → given (rowAt (leafRow k u) .name) ≡ Said o
       go none a = absurd (true≢false (sym a ∙ ap not (eq-eqb (rowAt (leafRow k u) .kind) k e)))
       go (some x) a = ap given (sym (same-eq (x .name) (rowAt (leafRow k u) .name) (and-right (eqb (rowAt (leafRow k u) .kind) k) (same (x .name) (rowAt (leafRow k u) .name)) a)))
 
   pub leaf-nameless : (rowAt (leafRow k u) .kind ≡ k → ⊥) → refused noFormat ≡ scalarFormat (leaf k u)
   leaf-nameless n = go (rowOf k u rows) agreed
     where
-      go : (o : Option Row) → agrees o k (rowAt (leafRow k u)) ≡ true → refused noFormat ≡ Said o
+      go : (o : Option FormatRow) → agrees o k (rowAt (leafRow k u)) ≡ true → refused noFormat ≡ Said o
       go none a = refl
       go (some x) a = absurd (true≢false (sym (and-left (eqb (rowAt (leafRow k u) .kind) k) (same (x .name) (rowAt (leafRow k u) .name)) a) ∙ ne-eqb (rowAt (leafRow k u) .kind) k n))
 

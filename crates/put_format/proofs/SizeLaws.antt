@@ -17,7 +17,7 @@ use Rattle.sheets.specs.Number.{decimal, writeSigned}
 use Rattle.sheets.specs.Text.{writeText}
 use Rattle.sheets.specs.Field.{second, millisecond, microsecond, nanosecond, bits128, bits32, bits64, bits256, Scalar, leaf, timestamp, fixedSizeBinary, decimalType, list, largeList, fixedSizeList, map, struct, union, UnionMode, upFrom}
 use Rattle.sheets.specs.FieldSheet.{Shape, ofScalar, ofNesting, ofGrouping, ofDictionary, ofExtension, columns}
-use Rattle.sheets.specs.Format.{Row, rows, rowOf, scalarFormat, unionName, orEmpty}
+use Rattle.sheets.specs.Format.{FormatRow, rows, rowOf, scalarFormat, unionName, orEmpty}
 use Rattle.sheets.proofs.Tests.{same-given, not-given, meets}
 use Rattle.hex.proofs.PartLaws.{length-hex}
 use Rattle.decimal.proofs.WriteLaws.{decimal-short}
@@ -25,17 +25,17 @@ use Rattle.put_format.specs.LineFormat.{shapeFormat, lineFormat, shapeRu
 
 -- ── names
 
-abbrev shortRow : Row → Rule
+abbrev shortRow : FormatRow → Rule
 shortRow r = is (ltb 0 (length (r .name))) and is (ltb (length (r .name)) 8)
 
-row-short : (k u : ℕ) (l : List Row) → Meets (each shortRow l) → (r : Row) → rowOf k u l ≡ some r → Meets (shortRow r)
+row-short : (k u : ℕ) (l : List FormatRow) → Meets (each shortRow l) → (r : FormatRow) → rowOf k u l ≡ some r → Meets (shortRow r)
 row-short k u [] h r e = absurd (let z : _≡_ {A = ℕ} 0 1 = cc in omega arith)
 row-short k u (x ∷ l) h r e = pick (eqb k (x .kind) && eqb u (x .unit)) e (row-short k u l (h .1) r)
   where
     pick : (t : Bool) → cond t (some x) (rowOf k u l) ≡ some r → (rowOf k u l ≡ some r → Meets (shortRow r)) → Meets (shortRow r)
     pick true f next =
         let s : x ≡ r = cc in
-        subst (λ (y : Row). Meets (shortRow y)) s (h .0)
+        subst (λ (y : FormatRow). Meets (shortRow y)) s (h .0)
     pick false f next = next f
 
 rows-short : Meets (each shortRow rows)
@@ -45,7 +45,7 @@ rows-short = meets (each shortRow rows) refl
 named-short : (k u : ℕ) (f : Bytes) → scalarFormat (leaf k u) ≡ given f → (0 < length f) × (length f < 8)
 named-short k u f h = go (rowOf k u rows) refl h
   where
-    go : (o : Option Row) → rowOf k u rows ≡ o → (found noFormat o >>= λ r. given (r .name)) ≡ given f → (0 < length f) × (length f < 8)
+    go : (o : Option FormatRow) → rowOf k u rows ≡ o → (found noFormat o >>= λ r. given (r .name)) ≡ given f → (0 < length f) × (length f < 8)
     go none e g = not-given g
     go (some r) e g =
         let s = row-short k u rows rows-short r e in

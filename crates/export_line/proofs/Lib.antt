@@ -1,0 +1,4 @@
+pub mod InnerLaws
+pub mod ColumnLaws
+pub mod StepLaws
+pub mod BelowLaws
