@@ -52,6 +52,3 @@ CallRowWrote c s w out out' r = RowWrote (stepOf c) s (w .at) (w .count) (w .lev
 
 abbrev pub ExportBegins : Bytes → Subtree → Bytes → Bytes → LineBegun → Type 0
 ExportBegins s t out out' r = TypeBegins schemaStep s (t .at) (t .levels) (t .inside) none out out' (begunAnswer (λ (inside : Bool). none) r)
-
-abbrev pub PlainBegins : Bytes → Subtree → Bytes → Bytes → LineBegun → Type 0
-PlainBegins s t out out' r = TypeBegins plainStep s (t .at) (t .levels) (t .inside) (t .inside) out out' (begunAnswer (λ (inside : Bool). inside) r)

@@ -1,6 +1,6 @@
 -- The proof of the cycle of calls {read_tree, read_row}. The measure is four times the number of levels that are left, two more outside an extension,
 -- and one more in `read_row`. In the loop of `read_row`: the row is read as far as the trees that are due (`Reading`). Assumes nothing.
-use mathlib.Core.Path.{sym, subst}
+use mathlib.Core.Path.{subst}
 use native.Mathlib.Omega.{arith}
 use borrow.Author.Needs.{needs}
 use Prim.Native.Nat.{_+_, _*_}

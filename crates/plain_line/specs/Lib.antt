@@ -1,0 +1,2 @@
+pub mod PlainLines
+pub mod Begins
