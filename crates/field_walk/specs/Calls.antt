@@ -49,6 +49,3 @@ CallWrote c s t out out' r = TypeWrote (stepOf c) s (t .at) (t .levels) (t .insi
 
 abbrev pub CallRowWrote : Call → Bytes → Subtrees → Bytes → Bytes → Stepped → Type 0
 CallRowWrote c s w out out' r = RowWrote (stepOf c) s (w .at) (w .count) (w .levels) (w .inside) (stateOf c (w .inside)) out out' (stepAnswer r)
-
-abbrev pub ExportBegins : Bytes → Subtree → Bytes → Bytes → LineBegun → Type 0
-ExportBegins s t out out' r = TypeBegins schemaStep s (t .at) (t .levels) (t .inside) none out out' (begunAnswer (λ (inside : Bool). none) r)

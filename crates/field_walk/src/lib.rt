@@ -1,7 +1,7 @@
 // The walk over the lines of a field sheet, once for every call that answers a sheet for it: the lines that a call makes of a type are written line by line
 // into a lent buffer, by a recursion on the levels left.
 ghost use Rattle.walks.specs.Places.{HasType, HasRow};
-ghost use Rattle.field_walk.specs.Calls.{ExportBegins, CallBegins, CallLeafWrote, CallWrote, CallRowWrote};
+ghost use Rattle.field_walk.specs.Calls.{CallBegins, CallLeafWrote, CallWrote, CallRowWrote};
 use walks::LeafPut;
 use walks::LineBegun;
 use walks::Step;
@@ -14,20 +14,13 @@ pub enum Call {
     Plain,
 }
 
-fn begin_export(s: &[u8], tree: Subtree, out: &mut [u8]) -> LineBegun
-    requires { ⌜ HasType (now s) (tree .at) (tree .levels) (tree .inside) ⌝ }
-    ensures { λ r. ⌜ ExportBegins (now (s .entry)) tree (now (out .entry)) (now (out .exit)) r ⌝ }
-{
-    LineBegun::Refused(refusal::Refusal::NoFormat)
-}
-
 // A call is one case here: what it writes for the line at `at`, and what is left to be visited below.
 fn begin_line(call: Call, s: &[u8], tree: Subtree, out: &mut [u8]) -> LineBegun
     requires { ⌜ HasType (now s) (tree .at) (tree .levels) (tree .inside) ⌝ }
     ensures { λ r. ⌜ CallBegins call (now (s .entry)) tree (now (out .entry)) (now (out .exit)) r ⌝ }
 {
     match call {
-        Call::Export => begin_export(s, tree, out),
+        Call::Export => export_line::begin_export(s, tree, out),
         Call::Plain => plain_line::begin_plain(s, tree, out),
     }
 }

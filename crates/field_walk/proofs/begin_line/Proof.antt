@@ -8,7 +8,7 @@ use Rattle.field_walk.proofs.begin_line.Statement.{statement}
 use Rattle.field_walk.proofs.begin_line.Tie as tie
 use Rattle.field_walk.proofs.begin_line.Reads as reads
 use Rattle.field_walk.proofs.begin_line.Lts as lts
-use Rattle.field_walk.proofs.begin_export.Reads as begin-export-reads
+use Rattle.export_line.proofs.begin_export.Reads as begin-export-reads
 use Rattle.plain_line.proofs.begin_plain.Reads as begin-plain-reads
 
 enum-told : tie.Need-enum-told
