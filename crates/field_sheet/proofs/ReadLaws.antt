@@ -3,7 +3,7 @@
 use mathlib.Core.Path.{_≡_, refl, sym, subst, _∙_}
 use mathlib.Core.Bool.{Bool, true, false, not, Bool·beq, true≢false}
 use mathlib.Core.Logic.{inl, inr}
-use Prim.Native.Nat.{ℕ, _-_, _≤_, _<_}
+use Prim.Native.Nat.{ℕ, _+_, _-_, _≤_, _<_}
 use native.Mathlib.Omega.{arith}
 use lib.Dec.{eqb}
 use lib.ListN.{length}
@@ -17,6 +17,7 @@ use Rattle.sheets.proofs.FieldTrees.{fields-lawful}
 use Rattle.sheets.proofs.TreeWalks.{told-deep, told-bad, other-form, below-none, below-ends, below-bad}
 use Rattle.sheets.proofs.TreeWalks as Walks
 use Rattle.read_field_line.specs.FieldLines.{FieldLineAt, ReadsLine}
+use Rattle.field_leaf.specs.FieldLeaves.{FieldLeafAt}
 use Rattle.read_field_line.specs.declared.FieldLine.{FieldLine}
 use Rattle.field_sheet.specs.Trees.{treeAnswer, Alone, ReadsTree, ReadsRow}
 use Rattle.field_sheet.specs.declared.trees.TreeRead.{TreeRead}
@@ -104,3 +105,17 @@ module _ {s : Bytes} {at count : ℕ} {bare inside : Bool} {levels here due : �
 
 pub reading-all : {s : Bytes} {at count : ℕ} {bare inside : Bool} {levels here due : ℕ} {next : Bool} → Reading s at count bare inside levels here due next → due ≤ 0 → ReadsRow s at count bare inside levels (given here)
 reading-all g none = (Walks.reading-ends fields-lawful g none, Walks.reading-to fields-lawful g none)
+
+-- ── a leaf
+
+-- a leaf's line is a tree that is not bare, of one level
+module _ {s : Bytes} {at kind from e n : ℕ} (k : FieldLeafAt s at kind from e n) where
+  -- no tree stands below it
+  none-below : (inside : Bool) (levels : ℕ) → Walks.Reading fields-lawful s (e + 7) false inside 0 levels (e + 7) false 0
+  none-below inside levels = Walks.reading-none fields-lawful s (e + 7) false inside 0 levels (k .high) (inl refl)
+
+  pub leaf-read : (bare : Bool) → bare ≡ false → (inside : Bool) (levels : ℕ) → 0 < levels → ReadsTree s at bare inside levels (given (e + 7))
+  leaf-read bare is inside levels some = (
+    subst (λ (b : Bool). TreeEnds fields s at b (e + 7)) (sym is) (below-ends fields-lawful (k .line) (e + 7) (Walks.reading-ends fields-lawful (none-below false levels) (omega arith))),
+    Walks.below-to fields-lawful (k .line) inside levels (levels - 1) (e + 7) (omega arith) (Walks.reading-to fields-lawful (none-below false (levels - 1)) (omega arith)),
+  )

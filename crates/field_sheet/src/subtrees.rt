@@ -2,6 +2,7 @@
 ghost use Rattle.sheets.specs.FieldTrees.{fields};
 ghost use Rattle.sheets.specs.TreeWalks.{HasTree, HasRow};
 ghost use Rattle.field_sheet.specs.Subtrees.{skipAnswer, SkipsTree, SkipsRow};
+use field_leaf::FieldLeaf;
 
 // The end of a tree, or that it has too many levels.
 pub enum Skipped {
@@ -16,6 +17,9 @@ pub fn skip(s: &[u8], at: usize, inside: bool, most: usize) -> Skipped
 {
     if most == 0 {
         return Skipped::Deep;
+    }
+    if let FieldLeaf::Line(_, _, e, _) = field_leaf::leaf_at(s, at) {
+        return Skipped::To(e + field_leaf::AFTER_NAME);
     }
     let l = read_field_line::field_line_at(s, at);
     let extension = crate::levels::is_extension(l.kind);

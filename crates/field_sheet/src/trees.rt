@@ -3,6 +3,7 @@
 ghost use Prim.Native.Nat.{_≤_};
 ghost use lib.ListN.{length};
 ghost use Rattle.field_sheet.specs.Trees.{treeAnswer, Alone, Forms, ReadsTree, ReadsRow};
+use field_leaf::FieldLeaf;
 use read_field_line::LineRead;
 
 // The end of a tree whose lines were tested; that it has too many levels; that there is none.
@@ -43,12 +44,17 @@ pub fn form(s: &[u8], at: usize) -> bool
     s.len() <= here
 }
 
-// The end of the tree from place at on, every line of it tested, unless it has more levels than there may be.
+// The end of the tree from place at on, every line of it tested, unless it has more levels than there may be. A leaf's short line is recognised at once.
 pub fn read_tree(s: &[u8], at: usize, bare: bool, inside: bool, levels: usize) -> TreeRead
     ensures { λ r. ⌜ ReadsTree (now (s .entry)) at bare inside levels (treeAnswer r) ⌝ }
 {
     if levels == 0 {
         return TreeRead::Deep;
+    }
+    if !bare {
+        if let FieldLeaf::Line(_, _, e, _) = field_leaf::leaf_at(s, at) {
+            return TreeRead::To(e + field_leaf::AFTER_NAME);
+        }
     }
     let LineRead::Line(l) = read_field_line::read_field_line(s, at) else {
         return TreeRead::Bad;

@@ -15,20 +15,11 @@ pub enum ShortName {
     Other,
 }
 
-// The two digits of a name as a number; with the name known, a constant.
-fn pair_of(name: u8) -> u64
-    ensures { λ r. ⌜ r ≡ littleValue (hex (name ∷ [])) ⌝ }
-{
-    let high = hex::put::digit_of(name / 16);
-    let low = hex::put::digit_of(name % 16);
-    buffer::wide(high) + buffer::wide(low) * 256
-}
-
 // Whether the pair w is the name.
 fn says(w: u64, name: u8) -> bool
     ensures { λ r. ⌜ r ≡ eqb w (littleValue (hex (name ∷ []))) ⌝ }
 {
-    w == pair_of(name)
+    w == words::hex_digits::pair_of(name)
 }
 
 // Null, Boolean and the integers.

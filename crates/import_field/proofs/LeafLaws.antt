@@ -1,24 +1,23 @@
 -- The line of a leaf that was written at once is what import makes of the tree that stands there. Assumes nothing.
 use mathlib.Core.Path.{_≡_, refl, sym, ap, subst, _∙_}
 use mathlib.Core.Bool.{Bool, true, false}
-use mathlib.Core.List.{List, [], _∷_, _++_, append-assoc}
+use mathlib.Core.List.{List, [], _∷_, _++_}
 use mathlib.Core.Option.{none, some}
 use Prim.Native.Nat.{ℕ, _+_, _*_, _-_, _/_, _%_, _≤_, _<_}
 use native.Mathlib.Omega.{arith}
 use lib.IntN.{pos}
 use lib.ListN.{length, drop, length-append, length-take, length-drop}
-use borrow.Author.Tests.{eqb-true, eqb-false, le-leb}
+use borrow.Author.Tests.{le-leb}
 use Rattle.sheets.specs.Bytes.{Bytes}
 use Rattle.sheets.specs.Answer.{given}
 use Rattle.sheets.specs.Sheet.{ended}
-use Rattle.sheets.specs.Text.{hex}
 use Rattle.sheets.specs.Number.{decimal}
-use Rattle.sheets.specs.Flags.{odd, isSorted, nullable}
+use Rattle.sheets.specs.Flags.{isSorted, nullable}
 use Rattle.sheets.specs.Utf8.{isUtf8}
 use Rattle.sheets.specs.Field.{Info, leaf}
 use Rattle.sheets.specs.Format.{ofScalar, readFormat}
 use Rattle.sheets.specs.Schema.{Line, nodeOf, Schema, schema, Schemas, end, _&_, Dictionary, absent, present, countSchemas, countDictionary}
-use Rattle.sheets.specs.FieldSheet.{toNat, fieldLine, lineOf, ofScalar as scalarShape}
+use Rattle.sheets.specs.FieldSheet.{fieldLine, lineOf, ofScalar as scalarShape}
 use Rattle.sheets.specs.SchemaTrees.{pushChildren, pushDictionary, Standing}
 use Rattle.sheets.proofs.FormLaws.{standing-on}
 use Rattle.sheets.specs.ImportLines.{written}
@@ -27,7 +26,9 @@ use Rattle.decimal.proofs.WriteLaws.{decimal-length}
 use Rattle.buffer.specs.Over.{PutFirst}
 use Rattle.columns.specs.Columns.{part}
 use Rattle.leaf_line.proofs.LeafLaws.{leaf-says, name-some}
-use Rattle.put_leaf.specs.LeafText.{headText, tailText, leafText, LeafWritten, isPut, LeafPuts}
+use Rattle.field_leaf.specs.LeafText.{unusedText, headText, tailText, leafText}
+use Rattle.field_leaf.proofs.LeafLaws.{line-text}
+use Rattle.put_leaf.specs.Written.{LeafWritten, isPut, LeafPuts}
 use Rattle.put_leaf.specs.declared.LeafPut.{LeafPut}
 use Rattle.put_leaf.specs.declared.LeafPut.the-variants.{Put, Other}
 use Rattle.import_field.specs.Contracts.{FieldWrote, Wrote}
@@ -48,40 +49,21 @@ leaf-becomes : (f n : Bytes) (kind flags : ℕ) → isUtf8 f ≡ true → isUtf8
     → written false (schema (record { format = some f; name = some n; flags = pos flags; metadata = none }) end absent) ≡ given (fieldText kind n flags ∷ [])
 leaf-becomes f n kind flags hf hn means = rw (hf, means (isSorted (pos flags)), hn)
 
--- nullable, as a digit
-nullable-digit : (flags : ℕ) → toNat (nullable (pos flags)) ≡ flags / 2 % 2
-nullable-digit flags = pick (odd (flags / 2)) refl
-  where
-    pick : (t : Bool) → odd (flags / 2) ≡ t → toNat t ≡ flags / 2 % 2
-    pick true e = sym (eqb-true (flags / 2 % 2) 1 e)
-    pick false e = let d = eqb-false (flags / 2 % 2) 1 e in omega arith
-
--- the line as it is written
-line-text : (kind : ℕ) (b : Bytes) (flags : ℕ) → 0 < length b → leafText kind (hex b) (flags / 2 % 2) ≡ ended (fieldText kind b flags ∷ [])
-unfolding headText tailText decimal
-line-text kind [] flags h = absurd (omega arith)
-line-text kind (x ∷ b) flags h = ap (leafText kind (hex (x ∷ b))) (sym (nullable-digit flags)) ∙ by-flag (nullable (pos flags))
-  where
-    by-flag : (t : Bool) → leafText kind (hex (x ∷ b)) (toNat t) ≡ ended (fieldLine .write (lineOf (scalarShape (leaf kind 0)) (some (record { name = x ∷ b; nullable = t; pairs = none })) 0) ∷ [])
-    by-flag true = simp append-assoc
-    by-flag false = simp append-assoc
-
 -- ── the tree that stands there
 
 module _ {s : Bytes} {at : ℕ} {out out' : Bytes} {next len : ℕ} (w : LeafWritten s at out out' next len) where
   text : leafText (w .kind) (part s (at + 3) (w .e)) (w .flags / 2 % 2) ≡ ended (fieldText (w .kind) (w .leaf .bytes) (w .flags) ∷ [])
   text =
       ap (λ (b : Bytes). leafText (w .kind) b (w .flags / 2 % 2)) (w .leaf .name)
-      ∙ line-text (w .kind) (w .leaf .bytes) (w .flags) (name-some (w .leaf))
+      ∙ line-text (w .kind) (w .leaf .bytes) (w .flags / 2 % 2) (name-some (w .leaf)) (omega arith)
 
   -- the line is not much longer than the schema's
   text-short : len + 32 * at ≤ 32 * next
-  unfolding headText tailText
+  unfolding unusedText headText tailText
   text-short =
       let k = w .leaf in
       let name = part s (at + 3) (w .e) in
-      let rest : Bytes = 32 ∷ 48 ∷ 32 ∷ 48 ∷ 32 ∷ 126 ∷ 32 ∷ 126 ∷ 32 ∷ [] in
-      let a : length (headText (w .kind)) ≡ length (decimal (w .kind)) + 9 = length-append (decimal (w .kind)) rest in
+      let a : length (headText (w .kind)) ≡ length (decimal (w .kind)) + 9 = length-append (decimal (w .kind)) unusedText in
       let b : length (decimal (w .kind)) ≤ 2 = decimal-length 2 (w .kind) (omega arith) (omega (arith, k .known)) in
       let c : length name ≡ w .e - (at + 3) = length-take (w .e - (at + 3)) (drop (at + 3) s) ∙ omega (arith, length-drop (at + 3) s, k .high, k .some) in
       omega (arith, w .put .0, w .after, k .some, length-append (headText (w .kind) ++ name) (tailText (w .flags / 2 % 2)), length-append (headText (w .kind)) name)

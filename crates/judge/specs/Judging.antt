@@ -7,8 +7,8 @@ use Prim.Native.Nat.{ℕ, zero, suc, _-_}
 use lib.Dec.{eqb}
 use lib.ListN.{length, replicate}
 use Rattle.sheets.specs.Bytes.{Bytes, same}
-use Rattle.sheets.specs.Outcome.{Outcome, importOutcome}
-use Rattle.recorded_list.specs.Codes.{importCall}
+use Rattle.sheets.specs.Outcome.{Outcome, importOutcome, exportOutcome, plainOutcome}
+use Rattle.recorded_list.specs.Codes.{importCall, exportCall, plainCall}
 use Rattle.recorded_list.specs.ListText.{Record}
 use Rattle.recorded_list.specs.declared.records.Header.{Header}
 use Rattle.judge.specs.declared.Replayed.{Replayed}
@@ -38,10 +38,22 @@ sameOutcome a b = eqb (a .number) (b .number) && (eqb (a .size) (b .size) && sam
 abbrev pub difference : Outcome → Outcome → Option (ℕ × ℕ)
 difference came told = cond (sameOutcome came told) none (some (came .number, came .size))
 
--- what is told of a record, for a buffer of so many bytes: nothing where its call is not replayed yet. The definition's outcome stands for the answer,
--- since the call is proved to have it
+-- the outcome of a call that is replayed. The definition's outcome stands for the answer, since the call is proved to have it
+abbrev pub outcomeFor : ℕ → Bytes → Bytes → Option Outcome
+outcomeFor call s out =
+    cond (eqb call importCall) (some (importOutcome s out))
+    (cond (eqb call exportCall) (some (exportOutcome s out))
+    (cond (eqb call plainCall) (some (plainOutcome s out))
+    none))
+
+-- what is told of the outcome that came: nothing where the call is not replayed yet
+abbrev pub toldOf : Option Outcome → Outcome → Option (Option (ℕ × ℕ))
+toldOf none told = none
+toldOf (some came) told = some (difference came told)
+
+-- what is told of a record, for a buffer of so many bytes
 abbrev pub replayed : ℕ → Record → Option (Option (ℕ × ℕ))
-replayed room r = cond (eqb (r .header .call) importCall) (some (difference (importOutcome (r .input) (filled room)) (recorded (r .header) (r .output) room))) none
+replayed room r = toldOf (outcomeFor (r .header .call) (r .input) (filled room)) (recorded (r .header) (r .output) room)
 
 -- the answer, case by case
 abbrev pub replayedOption : Replayed → Option (Option (ℕ × ℕ))

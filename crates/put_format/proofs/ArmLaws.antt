@@ -18,6 +18,7 @@ use Rattle.sheets.specs.Text.{readText}
 use Rattle.sheets.specs.Field.{TimeUnit, leaf, timestamp, map, union, isLeaf, leafRule, ArrowDataType, scalar, nested, grouped, dictionary, extension}
 use Rattle.sheets.specs.FieldSheet.{Shape, ofScalar, ofNesting, ofGrouping, ofDictionary, columns, shapeAt, unitAt, boolAt, readList}
 use Rattle.sheets.specs.Format.{orEmpty, scalarFormat, groupingFormat, unionName, toFormat}
+use Rattle.sheets.specs.Kind
 use Rattle.sheets.proofs.Tests.{same-given, not-given, every, at-each, meets}
 use Rattle.hex.specs.Hex.{givenOr}
 use Rattle.datatypes.proofs.AtLaws.{Rest}
@@ -87,10 +88,10 @@ mode-is p b h = pick (eqb p 0) (eqb p 1) refl refl h
 
 -- an index type is a leaf
 abbrev indexTest : ℕ → Bool
-indexTest k = passes (leafRule (k + 2) 0)
+indexTest k = passes (leafRule (k + Kind.Int8) 0)
 
-pub can-index : (p at : ℕ) → p < 10 → at < 2 ^ 62 → CanPutLeaf (p + 2) 0 at
-can-index p at h l = record { rule = meets (leafRule (p + 2) 0) (at-each 10 indexTest (meets (every 10 indexTest) refl) p h); low = l }
+pub can-index : (p at : ℕ) → p < 10 → at < 2 ^ 62 → CanPutLeaf (p + Kind.Int8) 0 at
+can-index p at h l = record { rule = meets (leafRule (p + Kind.Int8) 0) (at-each 10 indexTest (meets (every 10 indexTest) refl) p h); low = l }
 
 -- ── the arms
 
@@ -111,22 +112,22 @@ module _ (kind p q : ℕ) (text : Bytes) (fields at : ℕ) (h : CanFormat kind p
   unfolding lineShape
   read-at k e = ap (λ (x : ℕ). shapeAt (lineColumns x p q text)) (sym e) ∙ h .read
 
-  pub map-arm : kind ≡ 31 → given (ascii "+m") ≡ lineFormat kind p q text fields
-  map-arm e = let s = flag-shape p (λ b. ofNesting (map b)) (h .shape) (read-at 31 e) in of-shape (ofNesting (map (s .0))) (s .1)
+  pub map-arm : kind ≡ Kind.Map → given (ascii "+m") ≡ lineFormat kind p q text fields
+  map-arm e = let s = flag-shape p (λ b. ofNesting (map b)) (h .shape) (read-at Kind.Map e) in of-shape (ofNesting (map (s .0))) (s .1)
 
-  module _ (e : kind ≡ 32) where
+  module _ (e : kind ≡ Kind.Dictionary) where
     abbrev index : (b : Bool) × (h .shape ≡ ofDictionary p b)
-    index = flag-shape q (λ b. ofDictionary p b) (h .shape) (read-at 32 e)
+    index = flag-shape q (λ b. ofDictionary p b) (h .shape) (read-at Kind.Dictionary e)
 
-    pub index-arm : scalarFormat (leaf (p + 2) 0) ≡ lineFormat kind p q text fields
+    pub index-arm : scalarFormat (leaf (p + Kind.Int8) 0) ≡ lineFormat kind p q text fields
     index-arm = of-shape (ofDictionary p (index .0)) (index .1)
 
     pub index-small : p < 10
     index-small = ltb-true p 10 (subst (λ (s : Shape). Meets (shapeRule s)) (index .1) (h .rule))
 
-  module _ (e : kind ≡ 15) where
+  module _ (e : kind ≡ Kind.Timestamp) where
     abbrev stamp : ZoneShape p text (h .shape)
-    stamp = zone-shape p text (h .shape) (read-at 15 e)
+    stamp = zone-shape p text (h .shape) (read-at Kind.Timestamp e)
 
     pub can-zone : CanPutZone p text at
     can-zone =
@@ -148,9 +149,9 @@ module _ (kind p q : ℕ) (text : Bytes) (fields at : ℕ) (h : CanFormat kind p
         ap₂ (λ (a : Answer TimeUnit) (z : Answer (Option Bytes)). a >>= λ u. scalarFormat (timestamp u (givenOr none z))) (stamp .isUnit) (stamp .isZone)
         ∙ of-shape (ofScalar (timestamp (stamp .unit) (stamp .zone))) (stamp .is)
 
-  module _ (e : kind ≡ 41) where
+  module _ (e : kind ≡ Kind.Union) where
     abbrev joint : UnionShape p text (h .shape)
-    joint = union-shape p text (h .shape) (read-at 41 e)
+    joint = union-shape p text (h .shape) (read-at Kind.Union e)
 
     pub can-union : CanPutUnion text fields at
     can-union =
@@ -174,7 +175,7 @@ module _ (kind p q : ℕ) (text : Bytes) (fields at : ℕ) (h : CanFormat kind p
   -- the kinds of the arms, the last arm's first
   abbrev formatArms : List (List ℕ)
   formatArms =
-      (41 ∷ []) ∷ (36 ∷ []) ∷ (35 ∷ []) ∷ (34 ∷ []) ∷ (33 ∷ []) ∷ (32 ∷ []) ∷ (31 ∷ []) ∷ (30 ∷ []) ∷ (29 ∷ []) ∷ (28 ∷ []) ∷ (27 ∷ []) ∷ (23 ∷ []) ∷ (15 ∷ []) ∷ []
+      (Kind.Union ∷ []) ∷ (Kind.Decimal256 ∷ []) ∷ (Kind.Decimal64 ∷ []) ∷ (Kind.Decimal32 ∷ []) ∷ (Kind.Decimal ∷ []) ∷ (Kind.Dictionary ∷ []) ∷ (Kind.Map ∷ []) ∷ (Kind.Struct ∷ []) ∷ (Kind.LargeList ∷ []) ∷ (Kind.FixedSizeList ∷ []) ∷ (Kind.List ∷ []) ∷ (Kind.FixedSizeBinary ∷ []) ∷ (Kind.Timestamp ∷ []) ∷ []
 
   module _ (r : Rest formatArms kind) where
     is-leaf : h .shape ≡ ofScalar (leaf kind p)
@@ -189,20 +190,20 @@ module _ (kind p q : ℕ) (text : Bytes) (fields at : ℕ) (h : CanFormat kind p
             let f : refused badLines ≡ shapeAt (lineColumns kind p q text) =
             rw (
               e,
-              ne-eqb kind 15 (r .0 .0 .0 .0 .0 .0 .0 .0 .0 .0 .0 .0 .1),
-              ne-eqb kind 23 (r .0 .0 .0 .0 .0 .0 .0 .0 .0 .0 .0 .1),
-              ne-eqb kind 27 (r .0 .0 .0 .0 .0 .0 .0 .0 .0 .0 .1),
-              ne-eqb kind 28 (r .0 .0 .0 .0 .0 .0 .0 .0 .0 .1),
-              ne-eqb kind 29 (r .0 .0 .0 .0 .0 .0 .0 .0 .1),
-              ne-eqb kind 30 (r .0 .0 .0 .0 .0 .0 .0 .1),
-              ne-eqb kind 31 (r .0 .0 .0 .0 .0 .0 .1),
-              ne-eqb kind 32 (r .0 .0 .0 .0 .0 .1),
-              ne-eqb kind 33 (r .0 .0 .0 .0 .1),
-              ne-eqb kind 34 (r .0 .0 .0 .1),
-              ne-eqb kind 35 (r .0 .0 .1),
-              ne-eqb kind 36 (r .0 .1),
-              ne-eqb kind 37 (h .plain),
-              ne-eqb kind 41 (r .1),
+              ne-eqb kind Kind.Timestamp (r .0 .0 .0 .0 .0 .0 .0 .0 .0 .0 .0 .0 .1),
+              ne-eqb kind Kind.FixedSizeBinary (r .0 .0 .0 .0 .0 .0 .0 .0 .0 .0 .0 .1),
+              ne-eqb kind Kind.List (r .0 .0 .0 .0 .0 .0 .0 .0 .0 .0 .1),
+              ne-eqb kind Kind.FixedSizeList (r .0 .0 .0 .0 .0 .0 .0 .0 .0 .1),
+              ne-eqb kind Kind.LargeList (r .0 .0 .0 .0 .0 .0 .0 .0 .1),
+              ne-eqb kind Kind.Struct (r .0 .0 .0 .0 .0 .0 .0 .1),
+              ne-eqb kind Kind.Map (r .0 .0 .0 .0 .0 .0 .1),
+              ne-eqb kind Kind.Dictionary (r .0 .0 .0 .0 .0 .1),
+              ne-eqb kind Kind.Decimal (r .0 .0 .0 .0 .1),
+              ne-eqb kind Kind.Decimal32 (r .0 .0 .0 .1),
+              ne-eqb kind Kind.Decimal64 (r .0 .0 .1),
+              ne-eqb kind Kind.Decimal256 (r .0 .1),
+              ne-eqb kind Kind.Extension (h .plain),
+              ne-eqb kind Kind.Union (r .1),
             ) in
             not-given (f ∙ h .read)
 

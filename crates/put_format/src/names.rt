@@ -60,7 +60,7 @@ pub fn put_name(out: &mut [u8], at: usize, name: &[u8]) -> Exported
     Exported::Written(end, false)
 }
 
-// The format of a type that its kind and its unit tell. No name has a kind other than its row's: that is a unit without a format, or a kind without one.
+// The format of a type that its kind and its unit tell. Where the row that is looked at is another kind's, the kind has no format in this unit.
 pub fn put_leaf(out: &mut [u8], at: usize, kind: u64, unit: u64) -> Exported
     requires { ⌜ CanPutLeaf kind unit at ⌝ }
     ensures { λ r. ⌜ Formats (scalarFormat (leaf kind unit)) at r (now (out .entry)) (now (out .exit)) ⌝ }

@@ -1,14 +1,14 @@
 -- The column `pairs`: read back from what was written, and its pairs one after the other. By the pairs that stand from a place on: their text
 -- begins with the first one's key, its sign, its value. Assumes nothing.
 use mathlib.Core.Path.{_≡_, refl, sym, ap, ap₂, subst, _∙_}
-use mathlib.Core.Bool.{Bool, true, false, cond}
+use mathlib.Core.Bool.{Bool, true, false, not, cond, true≢false}
 use mathlib.Core.List.{List, [], _∷_, _++_, map, append-assoc, append-nil}
 use mathlib.Core.Option.{Option, none, some}
-use Prim.Native.Nat.{ℕ, suc, _+_, _-_, _≤_, _<_, min}
+use Prim.Native.Nat.{ℕ, zero, suc, _+_, _-_, _≤_, _<_, min}
 use native.Mathlib.Numerals.{add-one}
 use native.Mathlib.Omega.{arith}
 use lib.Dec.{eqb}
-use lib.ListN.{length, getD, take, drop, length-append, length-drop, drop-of-length-le}
+use lib.ListN.{length, getD, take, drop, length-append, length-take, length-drop, drop-of-length-le}
 use lib.Seq.{drop-cons, drop-drop, drop-append-seam, take-append-seam}
 use borrow.Author.Tests.{eq-eqb, ne-eqb, not-true}
 use Rattle.sheets.specs.Rule.{is, each, Meets}
@@ -22,7 +22,9 @@ use Rattle.sheets.proofs.TextLaws.{hex-lacks}
 use Rattle.sheets.proofs.Utf8Laws.{utf8-bytes}
 use Rattle.sheets.proofs.MetadataLaws.{textPair, pairs-text}
 use Rattle.sheets.proofs.FieldSheetLaws.{pairs-listed, read-pairs}
-use Rattle.hex.specs.Hex.{givenOr}
+use Rattle.hex.specs.Hex.{isDigit, isHex, givenOr}
+use Rattle.hex.proofs.HexLaws.{first-digit, second-digit, hex-after, hex-one}
+use Rattle.columns.specs.Columns.{part}
 use Rattle.put_metadata.specs.Pairs.{reach, pairsIn, pairsOf, PairsColumn, firstPlace, afterCommas, pairsText, Pairs, PairsFrom, PairAt}
 
 -- ── the first byte that is s
@@ -49,6 +51,72 @@ reach-all : (b : ℕ) (a : Bytes) → Meets (lacks b a) → reach b a ≡ length
 unfolding reach
 reach-all b [] h = refl
 reach-all b (x ∷ a) h = rw (not-true (eqb x b) (h .0)) (ap suc (reach-all b a (h .1)))
+
+-- a place that is reached stands within
+pub reach-within : (b : ℕ) (s : Bytes) → reach b s ≤ length s
+unfolding reach
+reach-within b [] = omega arith
+reach-within b (x ∷ s) = pick (eqb x b) (reach-within b s)
+  where
+    pick : (t : Bool) → reach b s ≤ length s → cond t 0 (suc (reach b s)) ≤ suc (length s)
+    pick true h = omega arith
+    pick false h = omega arith
+
+-- a look at the first n bytes finds it, or passes them
+near : (b n : ℕ) (l : Bytes) → reach b (take n l) < n → n ≤ length l → reach b l ≡ reach b (take n l)
+unfolding reach
+near b zero l h k = absurd (omega arith)
+near b (suc n) [] h k = absurd (omega arith)
+near b (suc n) (x ∷ l) h k = pick (eqb x b) h (λ i. near b n l i (omega arith))
+  where
+    pick : (t : Bool) → cond t 0 (suc (reach b (take n l))) < suc n → (reach b (take n l) < n → reach b l ≡ reach b (take n l)) → cond t 0 (suc (reach b l)) ≡ cond t 0 (suc (reach b (take n l)))
+    pick true h i = refl
+    pick false h i = ap suc (i (omega arith))
+
+past : (b n : ℕ) (l : Bytes) → n ≤ reach b (take n l) → n ≤ length l → reach b l ≡ n + reach b (drop n l)
+unfolding reach
+past b zero l h k = omega arith
+past b (suc n) [] h k = absurd (omega arith)
+past b (suc n) (x ∷ l) h k = pick (eqb x b) h (λ i. past b n l i (omega arith))
+  where
+    pick : (t : Bool) → suc n ≤ cond t 0 (suc (reach b (take n l))) → (n ≤ reach b (take n l) → reach b l ≡ n + reach b (drop n l)) → cond t 0 (suc (reach b l)) ≡ suc n + reach b (drop n l)
+    pick true h i = absurd (omega arith)
+    pick false h i = omega (arith, i (omega arith))
+
+pub sign-no-digit : isDigit 61 ≡ false
+unfolding isDigit
+sign-no-digit = refl
+
+pub comma-no-digit : isDigit 44 ≡ false
+unfolding isDigit
+comma-no-digit = refl
+
+digits-lack : (b : ℕ) (t : Bytes) → isDigit b ≡ false → isHex t ≡ true → Meets (lacks b t)
+digits-lack b [] n h = refl
+digits-lack b (x ∷ []) n h = absurd (hex-one x h)
+digits-lack b (x ∷ y ∷ t) n h = (other x (first-digit x y t h), (other y (second-digit x y t h), digits-lack b t n (hex-after x y t h)))
+  where
+    other : (c : ℕ) → isDigit c ≡ true → not (eqb c b) ≡ true
+    other c d = ap not (ne-eqb c b (λ e. true≢false (sym d ∙ ap isDigit e ∙ n)))
+
+module _ (s : Bytes) (a e : ℕ) (below : a ≤ e) (high : e ≤ length s) where
+  part-size : length (part s a e) ≡ e - a
+  part-size = length-take (e - a) (drop a s) ∙ omega (arith, length-drop a s)
+
+  module _ (b : ℕ) where
+    pub near-short : reach b (part s a e) ≤ e - a
+    near-short = omega (arith, reach-within b (part s a e), part-size)
+
+    pub near-found : reach b (part s a e) < e - a → reach b (drop a s) ≡ reach b (part s a e)
+    near-found h = near b (e - a) (drop a s) h (omega (arith, length-drop a s))
+
+    pub near-passed : e - a ≤ reach b (part s a e) → a + reach b (drop a s) ≡ e + reach b (drop e s)
+    near-passed h =
+        let n : a + (e - a) ≡ e = omega arith in
+        omega (arith, past b (e - a) (drop a s) h (omega (arith, length-drop a s)), ap (reach b) (drop-drop (e - a) a s ∙ ap (λ (m : ℕ). drop m s) n))
+
+    pub digits-passed : isDigit b ≡ false → isHex (part s a e) ≡ true → a + reach b (drop a s) ≡ e + reach b (drop e s)
+    digits-passed n h = near-passed (omega (arith, reach-all b (part s a e) (digits-lack b (part s a e) n h), part-size))
 
 -- ── read back
 
@@ -172,16 +240,6 @@ module _ (column : Bytes) (at : ℕ) (h : PairsFrom column at) where
         go : (l : List Pair) → drop at column ≡ pairsText l → Meets (pairsRule l) → PairAt column at (record { equals = sign; end = end; next = next })
         go [] e k = absurd (is-one [] e refl)
         go (p ∷ ps) e k = found-pair column at (h .0 .short) (h .0 .within) p ps e k sign end next x y z
-
--- a place that is reached stands within
-pub reach-within : (b : ℕ) (s : Bytes) → reach b s ≤ length s
-unfolding reach
-reach-within b [] = omega arith
-reach-within b (x ∷ s) = pick (eqb x b) (reach-within b s)
-  where
-    pick : (t : Bool) → reach b s ≤ length s → cond t 0 (suc (reach b s)) ≤ suc (length s)
-    pick true h = omega arith
-    pick false h = omega arith
 
 -- ── the first pair
 

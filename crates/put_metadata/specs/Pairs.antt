@@ -1,7 +1,7 @@
 -- The column `pairs` of a field line: "`pairs` is `key=value` in hexadecimal, joined by commas", and the pairs from a place of it on. Assumes
 -- nothing.
 use mathlib.Core.Path.{_≡_}
-use mathlib.Core.Bool.{_||_, cond}
+use mathlib.Core.Bool.{false, _||_, cond}
 use mathlib.Core.List.{List, [], _∷_, _++_}
 use mathlib.Core.Option.{Option, none}
 use Prim.Native.Nat.{ℕ, suc, _+_, _≤_, _<_}
@@ -13,7 +13,7 @@ use Rattle.sheets.specs.Text.{hex}
 use Rattle.sheets.specs.Field.{Pair, pairsRule, metadataRule}
 use Rattle.sheets.specs.FieldSheet.{pairText, writeList, readList, readPair}
 use Rattle.sheets.specs.Metadata.{orNone}
-use Rattle.hex.specs.Hex.{givenOr}
+use Rattle.hex.specs.Hex.{isDigit, givenOr}
 use Rattle.columns.specs.Columns.{part}
 use Rattle.put_metadata.specs.declared.pairs.PairPlace.{PairPlace}
 
@@ -21,6 +21,11 @@ use Rattle.put_metadata.specs.declared.pairs.PairPlace.{PairPlace}
 unfoldable pub reach : ℕ → Bytes → ℕ
 reach s [] = 0
 reach s (b ∷ bs) = cond (eqb b s) 0 (suc (reach s bs))
+
+-- only digits stand from a on before e: a byte that is none is looked for from e on
+pub record PassesDigits (s : Bytes) (a e : ℕ) : Type 0 where
+  pub within : e ≤ length s
+  pub same : (b : ℕ) → isDigit b ≡ false → a + reach b (drop a s) ≡ e + reach b (drop e s)
 
 -- what the column says: `~` is None
 unfoldable pub pairsIn : Bytes → Option (List Pair)

@@ -18,6 +18,7 @@ use Rattle.sheets.specs.Refusal.{Refusal}
 use Rattle.sheets.specs.Format.{orEmpty}
 use Rattle.sheets.specs.Rule.{Meets}
 use Rattle.sheets.specs.Flags.{ORDERED}
+use Rattle.sheets.specs.Kind
 use Rattle.sheets.specs.Field.{Info, bits128, bits32, bits64, bits256, leaf, timestamp, fixedSizeBinary, decimalType, list, largeList, fixedSizeList, map, struct, union, isLeaf, textRule, infoRule}
 use Rattle.sheets.specs.FieldSheet.{Shape, ofScalar, ofNesting, ofGrouping, ofDictionary, ofExtension, columns, infoColumns, noText, pairText, writeList}
 use Rattle.sheets.specs.Metadata.{extensionOf, schemaMetadata}
@@ -161,7 +162,7 @@ line-is n name pairs extension more f h =
 -- ── flags
 
 pub other-small : (kind p q : ℕ) → otherFlags kind p q ≤ 4
-other-small kind p q = go (eqb kind 31) (eqb kind 32) (eqb p 1) (eqb q 1)
+other-small kind p q = go (eqb kind Kind.Map) (eqb kind Kind.Dictionary) (eqb p 1) (eqb q 1)
   where
     go : (a b c d : Bool) → cond a (flag c 4) (cond b (flag d 1) 0) ≤ 4
     go true b true d = omega arith
@@ -268,7 +269,7 @@ shapeFlags (ofDictionary ix ordered) = flag ordered ORDERED
 shapeFlags (ofExtension a b) = 0
 
 leaf-flags : (k p : ℕ) → isLeaf k ≡ true → otherFlags k p 0 ≡ 0
-leaf-flags k p h = rw (ne-eqb k 31 (other 31 refl), ne-eqb k 32 (other 32 refl))
+leaf-flags k p h = rw (ne-eqb k Kind.Map (other Kind.Map refl), ne-eqb k Kind.Dictionary (other Kind.Dictionary refl))
   where
     other : (j : ℕ) → isLeaf j ≡ false → k ≡ j → ⊥
     other j e q = true≢false (sym h ∙ ap isLeaf q ∙ e)

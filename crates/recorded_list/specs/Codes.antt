@@ -4,6 +4,12 @@ use Prim.Native.Nat.{ℕ}
 abbrev pub importCall : ℕ
 importCall = 0
 
+abbrev pub exportCall : ℕ
+exportCall = 1
+
+abbrev pub plainCall : ℕ
+plainCall = 2
+
 -- the codes are the numbers below this
 abbrev pub calls : ℕ
 calls = 13

@@ -3,7 +3,7 @@
 ghost use mathlib.Core.Path.{_≡_};
 ghost use mathlib.Core.Option.{some};
 ghost use lib.ListN.{length};
-ghost use Rattle.sheets.specs.Outcome.{importOutcome};
+ghost use Rattle.sheets.specs.Outcome.{importOutcome, exportOutcome, plainOutcome};
 ghost use Rattle.recorded_list.specs.Answers.{recordIn};
 ghost use Rattle.recorded_list.specs.Moving.{longestPart, Within};
 ghost use Rattle.judge.specs.Judging.{filled, recorded, difference, replayed, replayedOption};
@@ -49,6 +49,24 @@ fn replay_import(h: Header, input: &[u8], output: &[u8], lent: &mut [u8]) -> Rep
     judge::judge(a.number as u64, a.length as u64, h, output, lent)
 }
 
+// Export replayed on a filled buffer.
+fn replay_export(h: Header, input: &[u8], output: &[u8], lent: &mut [u8]) -> Replayed
+    ensures { λ r. ⌜ replayedOption r ≡ some (difference (exportOutcome (now (input .entry)) (filled (length (now (lent .entry))))) (recorded h (now (output .entry)) (length (now (lent .entry))))) ⌝ }
+{
+    judge::fill(lent, judge::FILLER);
+    let a = field_calls::export(input, lent);
+    judge::judge(a.number as u64, a.length as u64, h, output, lent)
+}
+
+// Plain form replayed on a filled buffer.
+fn replay_plain(h: Header, input: &[u8], output: &[u8], lent: &mut [u8]) -> Replayed
+    ensures { λ r. ⌜ replayedOption r ≡ some (difference (plainOutcome (now (input .entry)) (filled (length (now (lent .entry))))) (recorded h (now (output .entry)) (length (now (lent .entry))))) ⌝ }
+{
+    judge::fill(lent, judge::FILLER);
+    let a = field_calls::plain_form(input, lent);
+    judge::judge(a.number as u64, a.length as u64, h, output, lent)
+}
+
 // A call that is replayed is one case here.
 fn replay(h: Header, input: &[u8], output: &[u8], lent: &mut [u8]) -> Replayed
     ensures { λ r. ⌜ replayedOption r ≡ replayed (length (now (lent .entry))) (recordOf h (now (input .entry)) (now (output .entry))) ⌝ }
@@ -56,6 +74,8 @@ fn replay(h: Header, input: &[u8], output: &[u8], lent: &mut [u8]) -> Replayed
     let code = h.call;
     match code {
         call::IMPORT => replay_import(h, input, output, lent),
+        call::EXPORT => replay_export(h, input, output, lent),
+        call::PLAIN => replay_plain(h, input, output, lent),
         _ => Replayed::NotYet,
     }
 }

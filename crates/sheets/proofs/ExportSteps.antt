@@ -2,7 +2,7 @@
 -- around a type by a loop: `export-opened` is a field's walk from the line of its type in all of them on. Assumes nothing.
 use mathlib.Core.Path.{_≡_, refl, sym, _∙_, ap, subst}
 use mathlib.Core.Bool.{Bool, true, false}
-use mathlib.Core.List.{List, [], _∷_, _++_, append-nil}
+use mathlib.Core.List.{List, [], _++_, append-nil}
 use mathlib.Core.Option.{Option, none, some}
 use Prim.Native.Nat.{ℕ, suc}
 use Rattle.sheets.specs.Refusal.{Refusal, zeroByte}
@@ -11,7 +11,7 @@ use Rattle.sheets.specs.Bytes.{Bytes, lacks}
 use Rattle.sheets.specs.Answer.{Answer, refused, given, _>>=_, decide}
 use Rattle.sheets.specs.Flags.{ORDERED}
 use Rattle.sheets.specs.Sheet.{writeSheet}
-use Rattle.sheets.specs.Schema.{Schema, schema, Schemas, end, _&_, Dictionary, absent, present, countSchemas, countDictionary, schemaLines, childrenLines, dictionaryLines, schemaHeading}
+use Rattle.sheets.specs.Schema.{Schema, Schemas, end, _&_, Dictionary, absent, present, countSchemas, countDictionary, schemaLines, childrenLines, dictionaryLines, schemaHeading}
 use Rattle.sheets.specs.Field.{Info, ArrowDataType, scalar, nested, grouped, dictionary, extension, Fields, nil, add, countFields}
 use Rattle.sheets.specs.FieldSheet.{typeLines, fieldsLines, readFieldSheet}
 use Rattle.sheets.specs.FieldTrees.{typeShape, typeCount, typeBelow, entryLines}
@@ -20,7 +20,7 @@ use Rattle.sheets.specs.Metadata.{Extension}
 use Rattle.sheets.specs.Export.{flag, sortedFlag, valuesInfo, outermost, schemaNode, schemaNewOf, schemaChildren, schemaNew}
 use Rattle.sheets.specs.Mappings.{toStorage}
 use Rattle.sheets.specs.Outcome.{exported}
-use Rattle.sheets.specs.Walk.{visit, skip, writes, lineWritten, typeWalk, fieldsWalk, rowWalk, sheetWalk}
+use Rattle.sheets.specs.Walk.{visit, skip, Step, writes, lineWritten, typeWalk, fieldsWalk, rowWalk, sheetWalk}
 use Rattle.sheets.specs.ExportSteps.{schemaWritten, childrenWritten, Bearer, orValues, infoOf, extensionOf, schemaOwn, schemaStepOf, schemaStep, extensionIn}
 use Rattle.sheets.proofs.Tests.{chained, chain-same}
 use Rattle.sheets.proofs.WalkLaws.{nothing-own, walk-opened, sheet-walked}
@@ -142,3 +142,14 @@ export-opened (dictionary ix ordered t) i = walk-opened schemaStep (dictionary i
 export-opened (extension n m t) i =
     let w : Bearer = record { info = orValues i; extension = (n, m) } in
     nothing-own (typeWalk schemaStep t none (some w)) ∙ around t none w
+
+-- refused at once, and not: what is left of the walk
+pub export-refused : (t : ArrowDataType) (i : Option Info) (r : Refusal) → schemaStepOf (typeShape (toStorage t)) (typeCount (toStorage t)) (orValues i) (extensionIn (typeShape t)) ≡ refused r
+    → typeWalk schemaStep t i none ≡ refused r
+export-refused t i r e =
+    export-opened t i ∙ ap (λ (a : Answer (Step (Option Bearer))). lineWritten a (λ τ. rowWalk schemaStep (typeBelow (toStorage t)) τ) (entryLines (typeBelow (toStorage t)))) e
+
+pub export-given : (t : ArrowDataType) (i : Option Info) (p : Step (Option Bearer)) → schemaStepOf (typeShape (toStorage t)) (typeCount (toStorage t)) (orValues i) (extensionIn (typeShape t)) ≡ given p
+    → typeWalk schemaStep t i none ≡ lineWritten (given p) (λ τ. rowWalk schemaStep (typeBelow (toStorage t)) τ) (entryLines (typeBelow (toStorage t)))
+export-given t i p e =
+    export-opened t i ∙ ap (λ (a : Answer (Step (Option Bearer))). lineWritten a (λ τ. rowWalk schemaStep (typeBelow (toStorage t)) τ) (entryLines (typeBelow (toStorage t)))) e

@@ -11,7 +11,7 @@ use Rattle.sheets.specs.Refusal.{undefinedMapping}
 use Rattle.sheets.specs.Bytes.{Bytes}
 use Rattle.sheets.specs.Answer.{Answer, refused, given, _>>=_}
 use Rattle.sheets.specs.Sheet.{writeSheet}
-use Rattle.sheets.specs.Field.{Info, ArrowDataType, scalar, nested, grouped, dictionary, extension, Fields, nil, add, Field, countFields}
+use Rattle.sheets.specs.Field.{Info, ArrowDataType, scalar, nested, grouped, dictionary, extension, Fields, nil, add, countFields}
 use Rattle.sheets.specs.FieldSheet.{Entry, ofNesting, ofGrouping, ofDictionary, typeLines, fieldsLines, fieldHeading, readFieldSheet, writeBareSheet}
 use Rattle.sheets.specs.FieldTrees.{Head, pushFields}
 use Rattle.sheets.specs.Plain.{indexType}

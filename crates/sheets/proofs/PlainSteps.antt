@@ -1,27 +1,27 @@
 -- Plain form line by line (specs/PlainSteps) gives the lines of the plain form; what becomes of each column; and when nothing changes. By cases of
 -- the type. Assumes nothing.
-use mathlib.Core.Path.{_≡_, refl, sym, _∙_, ap, subst}
-use mathlib.Core.Bool.{Bool, true, false, _&&_, cond}
+use mathlib.Core.Path.{_≡_, refl, sym, _∙_, ap}
+use mathlib.Core.Bool.{Bool, true, false, _&&_}
 use mathlib.Core.List.{List, [], _∷_, _++_, append-nil}
 use mathlib.Core.List.{map as mapList}
 use mathlib.Core.Option.{Option, none, some}
-use Prim.Native.Nat.{ℕ, suc, _/_, _%_}
+use Prim.Native.Nat.{ℕ, _/_, _%_}
 use native.Mathlib.Omega.{arith}
 use lib.Dec.{eqb, leb}
 use lib.IntN.{ℤ, pos, negsuc}
 use borrow.Author.Tests.{leb-true, ne-eqb}
 use Rattle.sheets.specs.Rule.{Meets}
-use Rattle.sheets.specs.Bytes.{Bytes, ascii, same, join, all}
-use Rattle.sheets.specs.Answer.{Answer, refused, given, _>>=_}
+use Rattle.sheets.specs.Bytes.{Bytes, same, join, all}
+use Rattle.sheets.specs.Answer.{given}
 use Rattle.sheets.specs.Number.{decimal, writeSigned, lean, isDigit}
 use Rattle.sheets.specs.Text.{hexDigit, hex, writeText}
-use Rattle.sheets.specs.Field.{Pair, Info, Scalar, leaf, timestamp, fixedSizeBinary, decimalType, Grouping, struct, union, ArrowDataType, scalar, nested, grouped, dictionary, extension, Fields, nil, add, Field, countFields}
+use Rattle.sheets.specs.Field.{Pair, Info, Scalar, leaf, timestamp, fixedSizeBinary, decimalType, Grouping, struct, union, ArrowDataType, scalar, nested, grouped, dictionary, extension, Fields, nil, add, countFields}
 use Rattle.sheets.specs.FieldSheet.{Entry, columns, ofScalar, ofGrouping, ofDictionary, ofExtension, typeLines, fieldsLines, pairText, writeList, fieldHeading}
 use Rattle.sheets.specs.Plain.{plainZone, plainPairs, plainInfo, plainScalar, plainGrouping, plainType, plainFields, plain}
 use Rattle.sheets.specs.Outcome.{plained}
 use Rattle.sheets.specs.FieldTrees.{isExtension, pushFields, typeShape, typeBelow}
 use Rattle.sheets.specs.Walk.{typeWalk, fieldsWalk, sheetWalk}
-use Rattle.sheets.specs.PlainSteps.{plainOwn, plainStepOf, plainStep, emptyToNone, plainIds, plainText, isPlainOwn, isPlainShape, isPlain, arePlain, rowPlain}
+use Rattle.sheets.specs.PlainSteps.{plainOwn, plainStep, emptyToNone, plainIds, plainText, isPlainOwn, isPlainShape, isPlain, arePlain, rowPlain}
 use Rattle.sheets.proofs.Tests.{never, not-some, and-left, and-right}
 use Rattle.sheets.proofs.NumberLaws.{decimal-lean, decimal-digits}
 use Rattle.sheets.proofs.PlainLaws.{count-plain}

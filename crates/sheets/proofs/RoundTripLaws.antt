@@ -11,7 +11,7 @@ use lib.Dec.{eqb, leb}
 use lib.ListN.{length}
 use borrow.Author.Tests.{le-leb, leb-true, leb-false, eqb-true, eqb-false, eq-eqb, ne-eqb}
 use Rattle.sheets.specs.Bytes.{Bytes, same}
-use Rattle.sheets.specs.Refusal.{Refusal, numberOf, notSheet}
+use Rattle.sheets.specs.Refusal.{numberOf, notSheet}
 use Rattle.sheets.specs.Answer.{Answer, refused, given}
 use Rattle.sheets.specs.FieldSheet.{readFieldSheet, writeFieldSheet}
 use Rattle.sheets.specs.Rule.{Meets}
@@ -19,7 +19,7 @@ use Rattle.sheets.specs.Schema.{Schema, writeSchemaSheet}
 use Rattle.sheets.specs.Field.{Field, fieldRule, fieldLevels}
 use Rattle.sheets.specs.Export.{schemaNew}
 use Rattle.sheets.specs.Plain.{plain}
-use Rattle.sheets.specs.Outcome.{Outcome, success, outcome, imported, exported, plained, exportOutcome, plainOutcome}
+use Rattle.sheets.specs.Outcome.{Outcome, success, outcome, imported, exported, plained, exportOutcome}
 use Rattle.sheets.specs.Demand3.{NoReservedKey, NoWideIndex, IsShort, written, Exportable, exportOf, plainFormOf}
 use Rattle.sheets.specs.RoundTrip.{Steps, Buffers, stepBuffers, cleared, buffersAfter, sameWritten, RoundTrip, allSame, exportRefused, importRefused, plainRefused, againRefused, importDiffers, againDiffers, roundTripNumber, tripSteps, tripAnswer, roundTripOutcome, TripRoom, fourSheets}
 use Rattle.sheets.proofs.BytesLaws.{same-refl, same-eq}

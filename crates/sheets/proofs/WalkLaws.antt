@@ -13,14 +13,13 @@ use Rattle.sheets.specs.Bytes.{Bytes}
 use Rattle.sheets.specs.Answer.{Answer, refused, given, _>>=_}
 use Rattle.sheets.specs.Sheet.{ended, writeSheet}
 use Rattle.sheets.specs.Field.{Info, ArrowDataType, scalar, nested, grouped, dictionary, extension, Fields, nil, add, Field, typeLevels}
-use Rattle.sheets.specs.FieldSheet.{Entry, Shape, Line, fieldLine, columnsOf, ownOf, childrenOf, readShape, readInfo, typeLines, fieldsLines, readFieldSheet}
+use Rattle.sheets.specs.FieldSheet.{Entry, Shape, fieldLine, columnsOf, ownOf, childrenOf, readShape, readInfo, typeLines, fieldsLines, readFieldSheet}
 use Rattle.sheets.specs.LineTrees.{tallest, Standing}
 use Rattle.sheets.specs.FieldTrees.{Head, readHead, isExtension, lineCost, pushFields, typeShape, typeBelow, entryHead, entryLevels, entryLines, fields}
 use Rattle.sheets.specs.Walk.{headText, levelsBelow, lineMeasure, rowMeasure, Below, visit, copy, skip, Step, belowWritten, lineWritten, typeWalk, fieldsWalk, rowWalk, sheetWalk}
 use Rattle.sheets.proofs.Tests.{first-gave, same-given, chain-same}
 use Rattle.sheets.proofs.SheetLaws.{ended-append}
 use Rattle.sheets.proofs.FieldSheetLaws.{fields-lines, field-line-read, line-parts, shape-read, info-read}
-use Rattle.sheets.proofs.LineTrees.{Lawful}
 use Rattle.sheets.proofs.FieldTrees.{fields-lawful, standing-lines}
 
 -- ── lines

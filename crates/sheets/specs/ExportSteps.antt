@@ -1,5 +1,4 @@
 -- Export line by line (`Walk`), as code does it that writes a line's own output before it goes on to the lines below. Assumes nothing.
-use mathlib.Core.Bool.{Bool, true, false}
 use mathlib.Core.List.{List, [], _∷_}
 use mathlib.Core.Option.{Option, none, some}
 use Prim.Native.Nat.{ℕ, _+_}

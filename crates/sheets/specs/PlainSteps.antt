@@ -7,7 +7,7 @@ use Rattle.sheets.specs.Bytes.{Bytes, ascii, same}
 use Rattle.sheets.specs.Answer.{Answer, given}
 use Rattle.sheets.specs.Number.{writeSigned}
 use Rattle.sheets.specs.Kind
-use Rattle.sheets.specs.Field.{Info, Pair, Scalar, leaf, timestamp, fixedSizeBinary, decimalType, Grouping, struct, union, ArrowDataType, scalar, nested, grouped, dictionary, extension, Fields, nil, add, upFrom}
+use Rattle.sheets.specs.Field.{Info, leaf, timestamp, fixedSizeBinary, decimalType, struct, union, ArrowDataType, scalar, nested, grouped, dictionary, extension, Fields, nil, add, upFrom}
 use Rattle.sheets.specs.FieldSheet.{Entry, Shape, ofScalar, ofNesting, ofGrouping, ofDictionary, ofExtension, noText, writeList}
 use Rattle.sheets.specs.FieldTrees.{Head}
 use Rattle.sheets.specs.Plain.{plainScalar, plainGrouping, plainInfo}

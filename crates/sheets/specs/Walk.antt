@@ -9,7 +9,7 @@ use Prim.Native.Nat.{ℕ, _+_, _-_, _*_}
 use Rattle.sheets.specs.Bytes.{Bytes}
 use Rattle.sheets.specs.Answer.{Answer, given, _>>=_}
 use Rattle.sheets.specs.Sheet.{writeSheet}
-use Rattle.sheets.specs.Field.{Info, ArrowDataType, scalar, nested, grouped, dictionary, extension, Fields, nil, add, Field, countFields}
+use Rattle.sheets.specs.Field.{Info, ArrowDataType, scalar, nested, grouped, dictionary, extension, Fields, nil, add, countFields}
 use Rattle.sheets.specs.FieldSheet.{Entry, Shape, ofScalar, ofNesting, ofGrouping, ofDictionary, ofExtension, fieldLine, lineOf, typeLines, fieldsLines, readFieldSheet}
 use Rattle.sheets.specs.FieldTrees.{Head, isExtension, lineCost}
 

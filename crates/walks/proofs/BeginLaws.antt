@@ -1,5 +1,5 @@
 -- From a line that was read to what is left of its walk: what is below is visited, skipped or copied. What is to be written is o, whose line's step was p
--- over the row us: `walk-given` says it of a type, `export-opened` of a field in extensions. Assumes nothing.
+-- over the row us: `walk-given` says it of a type, `export-given` of a type in extensions. Assumes nothing.
 use mathlib.Core.Path.{_≡_, refl, sym, ap, _∙_}
 use mathlib.Core.Bool.{Bool, true, false}
 use mathlib.Core.List.{List, [], _++_, append-nil}
@@ -15,7 +15,6 @@ use Rattle.sheets.specs.LineTrees.{tallest, Standing}
 use Rattle.sheets.specs.FieldTrees.{Head, isExtension, typeShape, typeCount, typeBelow, entryLevels, entryLines, fields}
 use Rattle.sheets.specs.Mappings.{toStorage}
 use Rattle.sheets.specs.Walk.{levelsBelow, lineMeasure, rowMeasure, Below, visit, copy, skip, Step, belowWritten, lineWritten, rowWalk}
-use Rattle.sheets.proofs.LineTrees.{Lawful}
 use Rattle.sheets.proofs.FieldTrees.{fields-lawful, levels-some}
 use Rattle.sheets.proofs.WalkLaws.{levels-below, row-falls}
 use Rattle.sheets.proofs.StorageLaws.{storage-levels}

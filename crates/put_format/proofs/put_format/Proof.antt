@@ -7,6 +7,7 @@ use Rattle.sheets.specs.Format.{scalarFormat, unionName}
 use Rattle.sheets.specs.Field.{leaf}
 use Rattle.sheets.specs.Number.{decimal}
 use Rattle.sheets.specs.Answer.{given}
+use Rattle.sheets.specs.Kind
 use Rattle.sheets.specs.Bytes.{ascii}
 use lib.Dec.{eqb}
 use native.Mathlib.Omega.{arith}
@@ -121,7 +122,7 @@ returns-2 c =
     let a = c .before .before .before .before .before .before .before .before .args in
     let h = c .before .before .before .before .before .before .before .before .pre in
     let r = c .before .before .put-sized in
-    formats-as (given (ascii "w:" ++ decimal (a .p))) (lineFormat (a .kind) (a .p) (a .q) (a .text .now) (a .fields)) (a .at) (r .result) (a .out .now) (r .last .0) (fixed-arm (a .kind) (a .p) (a .q) (a .text .now) (a .fields) (a .at) h 23 (given (ascii "w:" ++ decimal (a .p))) (c .before .before .before .before .before .match .keys2) refl) (r .ensures)
+    formats-as (given (ascii "w:" ++ decimal (a .p))) (lineFormat (a .kind) (a .p) (a .q) (a .text .now) (a .fields)) (a .at) (r .result) (a .out .now) (r .last .0) (fixed-arm (a .kind) (a .p) (a .q) (a .text .now) (a .fields) (a .at) h Kind.FixedSizeBinary (given (ascii "w:" ++ decimal (a .p))) (c .before .before .before .before .before .match .keys2) refl) (r .ensures)
 
 same-length-3 : tie.Need-same-length-3
 same-length-3 c = search needs
@@ -132,7 +133,7 @@ returns-3 c =
     let a = c .before .before .before .before .before .before .before .before .args in
     let h = c .before .before .before .before .before .before .before .before .pre in
     let r = c .before .before .put-name in
-    formats-as (given (ascii "+l")) (lineFormat (a .kind) (a .p) (a .q) (a .text .now) (a .fields)) (a .at) (r .result) (a .out .now) (r .last .0) (fixed-arm (a .kind) (a .p) (a .q) (a .text .now) (a .fields) (a .at) h 27 (given (ascii "+l")) (c .before .before .before .before .before .match .keys3) refl) (r .ensures)
+    formats-as (given (ascii "+l")) (lineFormat (a .kind) (a .p) (a .q) (a .text .now) (a .fields)) (a .at) (r .result) (a .out .now) (r .last .0) (fixed-arm (a .kind) (a .p) (a .q) (a .text .now) (a .fields) (a .at) h Kind.List (given (ascii "+l")) (c .before .before .before .before .before .match .keys3) refl) (r .ensures)
 
 same-length-4 : tie.Need-same-length-4
 same-length-4 c = search needs
@@ -143,7 +144,7 @@ returns-4 c =
     let a = c .before .before .before .before .before .before .before .before .args in
     let h = c .before .before .before .before .before .before .before .before .pre in
     let r = c .before .before .put-sized2 in
-    formats-as (given (ascii "+w:" ++ decimal (a .p))) (lineFormat (a .kind) (a .p) (a .q) (a .text .now) (a .fields)) (a .at) (r .result) (a .out .now) (r .last .0) (fixed-arm (a .kind) (a .p) (a .q) (a .text .now) (a .fields) (a .at) h 28 (given (ascii "+w:" ++ decimal (a .p))) (c .before .before .before .before .before .match .keys4) refl) (r .ensures)
+    formats-as (given (ascii "+w:" ++ decimal (a .p))) (lineFormat (a .kind) (a .p) (a .q) (a .text .now) (a .fields)) (a .at) (r .result) (a .out .now) (r .last .0) (fixed-arm (a .kind) (a .p) (a .q) (a .text .now) (a .fields) (a .at) h Kind.FixedSizeList (given (ascii "+w:" ++ decimal (a .p))) (c .before .before .before .before .before .match .keys4) refl) (r .ensures)
 
 same-length-5 : tie.Need-same-length-5
 same-length-5 c = search needs
@@ -154,7 +155,7 @@ returns-5 c =
     let a = c .before .before .before .before .before .before .before .before .args in
     let h = c .before .before .before .before .before .before .before .before .pre in
     let r = c .before .before .put-name2 in
-    formats-as (given (ascii "+L")) (lineFormat (a .kind) (a .p) (a .q) (a .text .now) (a .fields)) (a .at) (r .result) (a .out .now) (r .last .0) (fixed-arm (a .kind) (a .p) (a .q) (a .text .now) (a .fields) (a .at) h 29 (given (ascii "+L")) (c .before .before .before .before .before .match .keys5) refl) (r .ensures)
+    formats-as (given (ascii "+L")) (lineFormat (a .kind) (a .p) (a .q) (a .text .now) (a .fields)) (a .at) (r .result) (a .out .now) (r .last .0) (fixed-arm (a .kind) (a .p) (a .q) (a .text .now) (a .fields) (a .at) h Kind.LargeList (given (ascii "+L")) (c .before .before .before .before .before .match .keys5) refl) (r .ensures)
 
 same-length-6 : tie.Need-same-length-6
 same-length-6 c = search needs
@@ -165,7 +166,7 @@ returns-6 c =
     let a = c .before .before .before .before .before .before .before .before .args in
     let h = c .before .before .before .before .before .before .before .before .pre in
     let r = c .before .before .put-name3 in
-    formats-as (given (ascii "+s")) (lineFormat (a .kind) (a .p) (a .q) (a .text .now) (a .fields)) (a .at) (r .result) (a .out .now) (r .last .0) (fixed-arm (a .kind) (a .p) (a .q) (a .text .now) (a .fields) (a .at) h 30 (given (ascii "+s")) (c .before .before .before .before .before .match .keys6) refl) (r .ensures)
+    formats-as (given (ascii "+s")) (lineFormat (a .kind) (a .p) (a .q) (a .text .now) (a .fields)) (a .at) (r .result) (a .out .now) (r .last .0) (fixed-arm (a .kind) (a .p) (a .q) (a .text .now) (a .fields) (a .at) h Kind.Struct (given (ascii "+s")) (c .before .before .before .before .before .match .keys6) refl) (r .ensures)
 
 same-length-7 : tie.Need-same-length-7
 same-length-7 c = search needs
@@ -185,7 +186,7 @@ returns-8 c =
     let a = c .before .before .before .before .before .before .before .args in
     let h = c .before .before .before .before .before .before .before .pre in
     let r = c .before .before .put-leaf in
-    formats-as (scalarFormat (leaf (a .p + 2) 0)) (lineFormat (a .kind) (a .p) (a .q) (a .text .now) (a .fields)) (a .at) (r .result) (a .out .now) (r .last .0) (index-arm (a .kind) (a .p) (a .q) (a .text .now) (a .fields) (a .at) h (c .before .before .before .before .match .keys8)) (r .ensures)
+    formats-as (scalarFormat (leaf (a .p + Kind.Int8) 0)) (lineFormat (a .kind) (a .p) (a .q) (a .text .now) (a .fields)) (a .at) (r .result) (a .out .now) (r .last .0) (index-arm (a .kind) (a .p) (a .q) (a .text .now) (a .fields) (a .at) h (c .before .before .before .before .match .keys8)) (r .ensures)
 
 same-length-9 : tie.Need-same-length-9
 same-length-9 c = search needs
@@ -196,7 +197,7 @@ returns-9 c =
     let a = c .before .before .before .before .before .before .before .before .args in
     let h = c .before .before .before .before .before .before .before .before .pre in
     let r = c .before .before .put-decimal-type in
-    formats-as (given (decimalText (a .p) (a .q) [])) (lineFormat (a .kind) (a .p) (a .q) (a .text .now) (a .fields)) (a .at) (r .result) (a .out .now) (r .last .0) (fixed-arm (a .kind) (a .p) (a .q) (a .text .now) (a .fields) (a .at) h 33 (given (decimalText (a .p) (a .q) [])) (c .before .before .before .before .before .match .keys9) (ap given (sym (decimal-none (a .p) (a .q))))) (r .ensures)
+    formats-as (given (decimalText (a .p) (a .q) [])) (lineFormat (a .kind) (a .p) (a .q) (a .text .now) (a .fields)) (a .at) (r .result) (a .out .now) (r .last .0) (fixed-arm (a .kind) (a .p) (a .q) (a .text .now) (a .fields) (a .at) h Kind.Decimal (given (decimalText (a .p) (a .q) [])) (c .before .before .before .before .before .match .keys9) (ap given (sym (decimal-none (a .p) (a .q))))) (r .ensures)
 
 same-length-10 : tie.Need-same-length-10
 same-length-10 c = search needs
@@ -207,7 +208,7 @@ returns-10 c =
     let a = c .before .before .before .before .before .before .before .before .args in
     let h = c .before .before .before .before .before .before .before .before .pre in
     let r = c .before .before .put-decimal-type2 in
-    formats-as (given (decimalText (a .p) (a .q) (ascii ",32"))) (lineFormat (a .kind) (a .p) (a .q) (a .text .now) (a .fields)) (a .at) (r .result) (a .out .now) (r .last .0) (fixed-arm (a .kind) (a .p) (a .q) (a .text .now) (a .fields) (a .at) h 34 (given (decimalText (a .p) (a .q) (ascii ",32"))) (c .before .before .before .before .before .match .keys10) (ap given (sym (decimal-wide (a .p) (a .q) (ascii "32"))))) (r .ensures)
+    formats-as (given (decimalText (a .p) (a .q) (ascii ",32"))) (lineFormat (a .kind) (a .p) (a .q) (a .text .now) (a .fields)) (a .at) (r .result) (a .out .now) (r .last .0) (fixed-arm (a .kind) (a .p) (a .q) (a .text .now) (a .fields) (a .at) h Kind.Decimal32 (given (decimalText (a .p) (a .q) (ascii ",32"))) (c .before .before .before .before .before .match .keys10) (ap given (sym (decimal-wide (a .p) (a .q) (ascii "32"))))) (r .ensures)
 
 same-length-11 : tie.Need-same-length-11
 same-length-11 c = search needs
@@ -218,7 +219,7 @@ returns-11 c =
     let a = c .before .before .before .before .before .before .before .before .args in
     let h = c .before .before .before .before .before .before .before .before .pre in
     let r = c .before .before .put-decimal-type3 in
-    formats-as (given (decimalText (a .p) (a .q) (ascii ",64"))) (lineFormat (a .kind) (a .p) (a .q) (a .text .now) (a .fields)) (a .at) (r .result) (a .out .now) (r .last .0) (fixed-arm (a .kind) (a .p) (a .q) (a .text .now) (a .fields) (a .at) h 35 (given (decimalText (a .p) (a .q) (ascii ",64"))) (c .before .before .before .before .before .match .keys11) (ap given (sym (decimal-wide (a .p) (a .q) (ascii "64"))))) (r .ensures)
+    formats-as (given (decimalText (a .p) (a .q) (ascii ",64"))) (lineFormat (a .kind) (a .p) (a .q) (a .text .now) (a .fields)) (a .at) (r .result) (a .out .now) (r .last .0) (fixed-arm (a .kind) (a .p) (a .q) (a .text .now) (a .fields) (a .at) h Kind.Decimal64 (given (decimalText (a .p) (a .q) (ascii ",64"))) (c .before .before .before .before .before .match .keys11) (ap given (sym (decimal-wide (a .p) (a .q) (ascii "64"))))) (r .ensures)
 
 same-length-12 : tie.Need-same-length-12
 same-length-12 c = search needs
@@ -229,7 +230,7 @@ returns-12 c =
     let a = c .before .before .before .before .before .before .before .before .args in
     let h = c .before .before .before .before .before .before .before .before .pre in
     let r = c .before .before .put-decimal-type4 in
-    formats-as (given (decimalText (a .p) (a .q) (ascii ",256"))) (lineFormat (a .kind) (a .p) (a .q) (a .text .now) (a .fields)) (a .at) (r .result) (a .out .now) (r .last .0) (fixed-arm (a .kind) (a .p) (a .q) (a .text .now) (a .fields) (a .at) h 36 (given (decimalText (a .p) (a .q) (ascii ",256"))) (c .before .before .before .before .before .match .keys12) (ap given (sym (decimal-wide (a .p) (a .q) (ascii "256"))))) (r .ensures)
+    formats-as (given (decimalText (a .p) (a .q) (ascii ",256"))) (lineFormat (a .kind) (a .p) (a .q) (a .text .now) (a .fields)) (a .at) (r .result) (a .out .now) (r .last .0) (fixed-arm (a .kind) (a .p) (a .q) (a .text .now) (a .fields) (a .at) h Kind.Decimal256 (given (decimalText (a .p) (a .q) (ascii ",256"))) (c .before .before .before .before .before .match .keys12) (ap given (sym (decimal-wide (a .p) (a .q) (ascii "256"))))) (r .ensures)
 
 same-length-13 : tie.Need-same-length-13
 same-length-13 c = search needs

@@ -1,6 +1,7 @@
 -- The proof of the cycle of calls {skip, skip_row}. The measure is four times the number of levels that are left, two more outside an extension, and one
 -- more in `skip_row`. In the loop of `skip_row`: the trees that are left stand here, and none that was passed has too many levels. Assumes nothing.
-use mathlib.Core.Path.{_≡_, refl}
+use mathlib.Core.Path.{_≡_, refl, sym, ap, subst, _∙_}
+use mathlib.Core.Bool.{false}
 use mathlib.Core.List.{List, _++_}
 use native.Mathlib.Omega.{arith}
 use borrow.Author.Needs.{needs}
@@ -12,6 +13,9 @@ use Rattle.sheets.specs.FieldTrees.{fields}
 use Rattle.sheets.proofs.FieldTrees.{fields-lawful}
 use Rattle.sheets.proofs.TreeWalks.{going-none, going-tree, going-all}
 use Rattle.field_sheet.proofs.LevelLaws.{spare, cost-low, levels-fall, no-level}
+use Rattle.field_leaf.specs.FieldLeaves.{leafOption, FieldLeafAt}
+use Rattle.field_leaf.proofs.LeafLaws.{leaf-told}
+use Rattle.field_sheet.proofs.ReadLaws.{leaf-read}
 use Rattle.field_sheet.proofs.SkipLaws.{line-row, tree-skipped, Going, going-next, going-more, going-deep}
 use Prim.Native.Nat.{ℕ, _<_}
 use borrow.Fn.Kinds.{In}
@@ -23,6 +27,7 @@ use Rattle.field_sheet.proofs.subtrees.skip_row.Reads as skip-row
 use Rattle.field_sheet.proofs.subtrees.skip_row.Kinds as skip-row-kinds
 use Rattle.field_sheet.proofs.subtrees.+skip+skip_row.Lts-skip_row as skip-row-lts
 use Rattle.read_field_line.proofs.field_line_at.Reads as field-line-at-reads
+use Rattle.field_leaf.proofs.leaf_at.Reads as leaf-at-reads
 use Rattle.field_sheet.proofs.levels.is_extension.Reads as is-extension-reads
 use Rattle.field_sheet.proofs.levels.line_cost.Reads as line-cost-reads
 use Rattle.field_sheet.proofs.subtrees.+skip+skip_row.{statement}
@@ -48,7 +53,7 @@ skip-row-below t =
     and 1 skip-row-kinds.ps (falls 1 skip-row-kinds.ps _<_ μ-skip-row t) skip-row.Pre
 
 abbrev skip-calls : ℕ → skip-lts.Claims
-skip-calls t = (field-line-at-reads.Asked, field-line-at-reads.Learnt, is-extension-reads.Asked, is-extension-reads.Learnt, line-cost-reads.Asked, line-cost-reads.Learnt, skip-row-below t, skip-row.Post)
+skip-calls t = (leaf-at-reads.Asked, leaf-at-reads.Learnt, field-line-at-reads.Asked, field-line-at-reads.Learnt, is-extension-reads.Asked, is-extension-reads.Learnt, line-cost-reads.Asked, line-cost-reads.Learnt, skip-row-below t, skip-row.Post)
 
 abbrev skip-row-calls : ℕ → skip-row-lts.Claims
 skip-row-calls t = (skip-below t, skip.Post)
@@ -56,8 +61,32 @@ skip-row-calls t = (skip-below t, skip.Post)
 skip-returns : (t : ℕ) → skip-lts.Need-returns (skip-calls t) (skip-at t) skip.Post
 skip-returns t c = let a = c .before .before .args in (refl, no-level (a .s .now) (a .at) (a .inside) (a .most) (c .if1 .taken))
 
+-- the leaf's line that was recognised
+the-leaf : (t : ℕ) (c : skip-lts.After-known-told (skip-calls t) (skip-at t) skip.Post)
+    → let g = c .before .e .given .0 in FieldLeafAt (c .before .before .before .before .before .before .args .s .now) (c .before .before .before .before .before .before .args .at) (g .0) (g .1 .0) (g .1 .1 .0) (g .1 .1 .1 .0)
+the-leaf t c =
+    let a = c .before .before .before .before .before .before .args in
+    leaf-told (a .s .now) (a .at) (sym (c .before .before .before .leaf-at .ensures) ∙ ap leafOption (c .before .e .given .1))
+
+skip-leaf-at-requires : (t : ℕ) → skip-lts.Need-leaf-at-requires (skip-calls t) (skip-at t) skip.Post
+skip-leaf-at-requires t c κs = search needs
+
+skip-enum-known-e : (t : ℕ) → skip-lts.Need-enum-known-e (skip-calls t) (skip-at t) skip.Post
+skip-enum-known-e t c = search needs
+
+skip-add-t11 : (t : ℕ) → skip-lts.Need-add-t11 (skip-calls t) (skip-at t) skip.Post
+skip-add-t11 t c = omega (arith, the-leaf t c .high)
+
+skip-returns-2 : (t : ℕ) → skip-lts.Need-returns-2 (skip-calls t) (skip-at t) skip.Post
+skip-returns-2 t c =
+    let a = c .before .before .before .before .before .before .args in
+    leaf-read (the-leaf t c) false refl (a .inside) (a .most) (omega arith) .1
+
+skip-enum-told : (t : ℕ) → skip-lts.Need-enum-told (skip-calls t) (skip-at t) skip.Post
+skip-enum-told t c = search needs
+
 skip-field-line-at-requires : (t : ℕ) → skip-lts.Need-field-line-at-requires (skip-calls t) (skip-at t) skip.Post
-skip-field-line-at-requires t c κs = c .before .before .pre .1
+skip-field-line-at-requires t c κs = c .before .before .before .before .before .pre .1
 
 skip-is-extension-requires : (t : ℕ) → skip-lts.Need-is-extension-requires (skip-calls t) (skip-at t) skip.Post
 skip-is-extension-requires t c κs = search needs
@@ -66,16 +95,16 @@ skip-line-cost-requires : (t : ℕ) → skip-lts.Need-line-cost-requires (skip-c
 skip-line-cost-requires t c κs = search needs
 
 skip-sub-skip-row : (t : ℕ) → skip-lts.Need-sub-skip-row (skip-calls t) (skip-at t) skip.Post
-skip-sub-skip-row t c = omega (arith, c .line-cost .ensures, cost-low (c .before .before .before .before .before .args .inside) (c .before .is-extension .result))
+skip-sub-skip-row t c = omega (arith, c .line-cost .ensures, cost-low (c .before .before .before .before .before .before .before .before .args .inside) (c .before .is-extension .result))
 
 skip-skip-row-requires : (t : ℕ) → skip-lts.Need-skip-row-requires (skip-calls t) (skip-at t) skip.Post
 skip-skip-row-requires t c κs =
-    let a = c .before .before .before .before .before .args in
-    (omega (arith, c .before .before .before .before .before .pre .0, c .line-cost .ensures, levels-fall (a .inside) (c .before .is-extension .result) (a .most) (omega arith)), line-row _ (c .before .before .field-line-at .ensures) (c .before .before .before .before .before .pre .1))
+    let a = c .before .before .before .before .before .before .before .before .args in
+    (omega (arith, c .before .before .before .before .before .before .before .before .pre .0, c .line-cost .ensures, levels-fall (a .inside) (c .before .is-extension .result) (a .most) (omega arith)), line-row _ (c .before .before .field-line-at .ensures) (c .before .before .before .before .before .before .before .before .pre .1))
 
-skip-returns-2 : (t : ℕ) → skip-lts.Need-returns-2 (skip-calls t) (skip-at t) skip.Post
-skip-returns-2 t c =
-    let a = c .before .before .before .before .before .before .args in
+skip-returns-3 : (t : ℕ) → skip-lts.Need-returns-3 (skip-calls t) (skip-at t) skip.Post
+skip-returns-3 t c =
+    let a = c .before .before .before .before .before .before .before .before .before .args in
     tree-skipped _ (c .before .before .before .field-line-at .ensures) (a .inside) (a .most) (omega arith) (c .before .before .is-extension .ensures) (c .before .line-cost .ensures) (c .skip-row .result) (c .skip-row .ensures)
 
 abbrev skip-row-Inv-loop : skip-row-lts.InvT-loop
@@ -126,12 +155,17 @@ pub +skip+skip-row-spec : {M : Type 1} → statement M
 +skip+skip-row-spec = close μ-skip μ-skip-row (λ t. skip-lts.spec (skip-calls t) (skip-at t)
     skip.Post
     (skip-returns t)
+    (skip-leaf-at-requires t)
+    (skip-enum-known-e t)
+    (skip-add-t11 t)
+    (skip-returns-2 t)
+    (skip-enum-told t)
     (skip-field-line-at-requires t)
     (skip-is-extension-requires t)
     (skip-line-cost-requires t)
     (skip-sub-skip-row t)
     (skip-skip-row-requires t)
-    (skip-returns-2 t))
+    (skip-returns-3 t))
     λ t. skip-row-lts.spec
     (skip-row-calls t) (skip-row-at t)
     skip-row.Post

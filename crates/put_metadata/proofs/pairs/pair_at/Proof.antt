@@ -2,19 +2,19 @@
 use Prim.Native.Nat.{_+_}
 use lib.ListN.{drop, length-drop}
 use native.Mathlib.Omega.{arith}
-use Rattle.put_metadata.proofs.PairsLaws.{sign-inside, pair-found, reach-within}
+use Rattle.put_metadata.proofs.PairsLaws.{sign-no-digit, comma-no-digit, sign-inside, pair-found, reach-within}
 use borrow.Author.Needs.{needs}
 use Rattle.put_metadata.proofs.pairs.pair_at.Statement.{statement}
 use Rattle.put_metadata.proofs.pairs.pair_at.Tie as tie
 
 place-of-requires : tie.Need-place-of-requires
-place-of-requires c κs = search needs
+place-of-requires c κs = (c .before .pre .0 .within, sign-no-digit)
 
 add-place-of : tie.Need-add-place-of
 add-place-of c = omega (arith, c .before .before .pre .0 .short, sign-inside (c .before .before .args .pairs .now) (c .before .before .args .at) (c .before .before .pre) (c .place-of .result) (c .place-of .ensures))
 
 place-of-requires-2 : tie.Need-place-of-requires-2
-place-of-requires-2 c κs = sign-inside (c .before .before .args .pairs .now) (c .before .before .args .at) (c .before .before .pre) (c .place-of .result) (c .place-of .ensures)
+place-of-requires-2 c κs = (sign-inside (c .before .before .args .pairs .now) (c .before .before .args .at) (c .before .before .pre) (c .place-of .result) (c .place-of .ensures), comma-no-digit)
 
 add-within : tie.Need-add-within
 add-within c =

@@ -1,57 +1,79 @@
--- `pairs::place_of` meets its contract: the first such byte is where the one from `i` on is. The measure is what is left of the length. Assumes nothing.
-use mathlib.Core.Path.{_≡_, refl}
-use Prim.Native.Nat.{_+_, _-_, _≤_}
-use lib.ListN.{length, drop}
+-- `pairs::place_of` meets its contract: the first bytes hold the byte or are passed, then digits are passed, then it is looked for. Assumes nothing.
+use Prim.Native.Nat.{_+_, _≤_}
+use lib.ListN.{length}
 use native.Mathlib.Omega.{arith}
-use Rattle.put_metadata.specs.Pairs.{reach}
-use Rattle.put_metadata.proofs.PairsLaws.{reach-stop, reach-more, reach-end}
+use Rattle.put_metadata.proofs.PairsLaws.{near-short, near-found, near-passed}
 use borrow.Author.Needs.{needs}
 use Rattle.put_metadata.proofs.pairs.place_of.Statement.{statement}
 use Rattle.put_metadata.proofs.pairs.place_of.Tie as tie
 
-abbrev Inv-loop : tie.InvT-loop
-Inv-loop s from b i₀ i = (i ≤ length s) × (from + reach b (drop from s) ≡ i + reach b (drop i s))
+sub-within : tie.Need-sub-within
+sub-within c = search needs
 
-abbrev μ-loop : tie.MeasureT-loop
-μ-loop s from b i₀ i = length s - i
+within-requires : tie.Need-within-requires
+within-requires c κs = search needs
 
-loop-holds : tie.Need-loop-holds Inv-loop μ-loop
-loop-holds c = (search needs, refl)
+add-near : tie.Need-add-near
+add-near c = search needs
 
-shared-slice-read-if1 : tie.Need-shared-slice-read-if1 Inv-loop μ-loop
-shared-slice-read-if1 c = search needs
+sub-scan : tie.Need-sub-scan
+sub-scan c = search needs
 
-returns : tie.Need-returns Inv-loop μ-loop
+part-scan-start : tie.Need-part-scan-start
+part-scan-start c = search needs
+
+part-scan-end : tie.Need-part-scan-end
+part-scan-end c = search needs
+
+scan-requires : tie.Need-scan-requires
+scan-requires c κs = search needs
+
+add-here : tie.Need-add-here
+add-here c =
+    let a = c .before .before .before .before .args in
+    let h = c .before .before .before .before .pre in
+    let w = c .before .before .within in
+    let n = a .from + w .result in
+    let l : n ≤ length (a .s .now) = omega (arith, w .ensures, h .0) in
+    omega (arith, c .scan .ensures, near-short (a .s .now) (a .from) n (omega arith) l (a .b), w .ensures, h .0)
+
+returns : tie.Need-returns
 returns c =
-    let l = c .before .before .before .loop in
-    omega (arith, l .inv .1, reach-stop (c .before .before .before .before .args .s .now) (c .before .before .before .before .args .b) (l .i) (c .before .before .loop-test .taken) (c .if1 .taken))
+    let a = c .before .before .before .before .before .args in
+    let h = c .before .before .before .before .before .pre in
+    let w = c .before .before .before .within in
+    let n = a .from + w .result in
+    let l : n ≤ length (a .s .now) = omega (arith, w .ensures, h .0) in
+    omega (arith, c .before .scan .ensures, near-found (a .s .now) (a .from) n (omega arith) l (a .b) (omega (arith, c .before .scan .ensures, c .if1 .taken)))
 
-add-i : tie.Need-add-i Inv-loop μ-loop
-add-i c = search needs
+pass-digits-requires : tie.Need-pass-digits-requires
+pass-digits-requires c κs = search needs
 
-loop-less : tie.Need-loop-less Inv-loop μ-loop
-loop-less c = search needs
+scan-requires-2 : tie.Need-scan-requires-2
+scan-requires-2 c κs = search needs
 
-loop-again : tie.Need-loop-again Inv-loop μ-loop
-loop-again c =
-    let l = c .before .before .before .loop in
-    (search needs, omega (arith, l .inv .1, reach-more (c .before .before .before .before .args .s .now) (c .before .before .before .before .args .b) (l .i) (c .before .before .loop-test .taken) (c .if1 .left)))
-
-returns-2 : tie.Need-returns-2 Inv-loop μ-loop
+returns-2 : tie.Need-returns-2
 returns-2 c =
-    let l = c .before .loop in
-    omega (arith, l .inv .1, reach-end (c .before .before .args .s .now) (c .before .before .args .b) (l .i) (c .loop-test .left))
+    let a = c .before .before .before .before .before .before .before .args in
+    let h = c .before .before .before .before .before .before .before .pre in
+    let w = c .before .before .before .before .before .within in
+    let n = a .from + w .result in
+    let l : n ≤ length (a .s .now) = omega (arith, w .ensures, h .0) in
+    omega (arith, c .scan2 .ensures, c .before .pass-digits .ensures .same (a .b) (h .1), near-passed (a .s .now) (a .from) n (omega arith) l (a .b) (omega (arith, c .before .before .before .scan .ensures, c .before .before .if1 .left)))
 
 pub place-of-spec : {M : Type 1} → statement M
 place-of-spec =
     tie.close
     (tie.spec
-    Inv-loop
-    μ-loop
-    loop-holds
-    shared-slice-read-if1
+    sub-within
+    within-requires
+    add-near
+    sub-scan
+    part-scan-start
+    part-scan-end
+    scan-requires
+    add-here
     returns
-    add-i
-    loop-less
-    loop-again
+    pass-digits-requires
+    scan-requires-2
     returns-2)

@@ -1,0 +1,3 @@
+pub mod KindLaws
+pub mod LeafLaws
+pub mod Examples

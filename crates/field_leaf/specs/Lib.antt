@@ -1,0 +1,2 @@
+pub mod LeafText
+pub mod FieldLeaves

@@ -1,0 +1,3 @@
+pub mod FormatLaws
+pub mod PutLaws
+pub mod Examples
