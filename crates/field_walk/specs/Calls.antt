@@ -11,7 +11,7 @@ use Rattle.sheets.specs.Walk.{Step}
 use Rattle.sheets.specs.ExportSteps.{Bearer, schemaStep}
 use Rattle.sheets.specs.PlainSteps.{plainStep}
 use Rattle.walks.specs.Places.{TypeBegins, LeafWrote, TypeWrote, RowWrote}
-use Rattle.walks.specs.Answers.{begunAnswer, leafOption, stepAnswer}
+use Rattle.walks.specs.Answers.{begunAnswer, putOption, stepAnswer}
 use Rattle.walks.specs.declared.LeafPut.{LeafPut}
 use Rattle.walks.specs.declared.LineBegun.{LineBegun}
 use Rattle.walks.specs.declared.Step.{Step as Stepped}
@@ -42,7 +42,7 @@ abbrev pub CallBegins : Call → Bytes → Subtree → Bytes → Bytes → LineB
 CallBegins c s t out out' r = TypeBegins (stepOf c) s (t .at) (t .levels) (t .inside) (stateOf c (t .inside)) out out' (begunAnswer (stateOf c) r)
 
 abbrev pub CallLeafWrote : Call → Bytes → Subtree → Bytes → Bytes → LeafPut → Type 0
-CallLeafWrote c s t out out' r = LeafWrote (stepOf c) s (t .at) (t .levels) (t .inside) (stateOf c (t .inside)) out out' (leafOption r)
+CallLeafWrote c s t out out' r = LeafWrote (stepOf c) s (t .at) (t .levels) (t .inside) (stateOf c (t .inside)) out out' (putOption r)
 
 abbrev pub CallWrote : Call → Bytes → Subtree → Bytes → Bytes → Stepped → Type 0
 CallWrote c s t out out' r = TypeWrote (stepOf c) s (t .at) (t .levels) (t .inside) (stateOf c (t .inside)) out out' (stepAnswer r)

@@ -30,8 +30,8 @@ fn put_leaf(call: Call, s: &[u8], tree: Subtree, out: &mut [u8]) -> LeafPut
     ensures { λ r. ⌜ CallLeafWrote call (now (s .entry)) tree (now (out .entry)) (now (out .exit)) r ⌝ }
 {
     match call {
-        Call::Export => LeafPut::Other,
-        Call::Plain => LeafPut::Other,
+        Call::Export => put_schema_leaf::put_schema_leaf(s, tree.at, out),
+        Call::Plain => put_schema_leaf::copy_leaf(s, tree.at, out),
     }
 }
 

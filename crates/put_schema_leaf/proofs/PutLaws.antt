@@ -9,7 +9,7 @@ use native.Mathlib.Nat.{zero-add, pow-suc, div-div-eq-div-mul}
 use native.Mathlib.Omega.{arith}
 use lib.Dec.{eqb}
 use lib.IntN.{pos}
-use lib.ListN.{length, set, length-append}
+use lib.ListN.{length, set, drop, length-append, length-take}
 use borrow.Author.Tests.{lt-ltb, lt-leb}
 use Rattle.sheets.specs.Refusal.{zeroByte}
 use Rattle.sheets.specs.Rule.{_and_, Meets}
@@ -176,6 +176,10 @@ made kind low high len b n f h = rw (f .is-row) (when-met zeroByte (lacks 0 b an
 
 -- ── the line
 
+tail-size : (n : ℕ) → length (schemaTail n) ≡ 9
+unfolding schemaTail
+tail-size n = refl
+
 module _ {s : Bytes} {at kind from e n low high len : ℕ} (k : FieldLeafAt s at kind from e n) (f : Format kind low high len) (out : Bytes) (fits : e - from ≤ length out) (room : len + 10 ≤ length out - (e - from)) where
   pub name-can : (l : Bytes) (to : ℕ) → PutAt 0 (digitsText low high len ++ (32 ∷ [])) to out l → CanCopy l to s from e
   name-can l to p =
@@ -211,8 +215,8 @@ module _ {s : Bytes} {at kind from e n low high len : ℕ} (k : FieldLeafAt s at
         node = leafNode (f .row .name) (k .bytes) n;
         made = made kind low high len (k .bytes) n f (k .nonzero);
         after = refl;
-        long = all .0 ∙ ap length text;
-        laid = all .1 ∙ ap (λ (b : Bytes). over b out) text;
+        put = (all .0 ∙ ap length text, all .1 ∙ ap (λ (b : Bytes). over b out) text);
+        short = omega (arith, p .0, q .0, t .0, length-append (digitsText low high len) (32 ∷ []), digits-size low high len, name-size k, tail-size n, format-size f .1);
       }
 
 -- ── nothing is written
@@ -250,4 +254,4 @@ module _ {s : Bytes} {at kind from e n : ℕ} (k : FieldLeafAt s at kind from e 
   leaf-copied r size p =
       let v : Written 0 (part s at (e + 7)) out size r = record { place = p .0; holds = p .1 } in
       let all = whole v in
-      record { kind = kind; from = from; e = e; nullable = n; leaf = k; after = refl; long = all .0 ∙ ap length (leaf-part k); laid = all .1 ∙ ap (λ (b : Bytes). over b out) (leaf-part k) }
+      record { kind = kind; from = from; e = e; nullable = n; leaf = k; after = refl; put = (all .0 ∙ ap length (leaf-part k), all .1 ∙ ap (λ (b : Bytes). over b out) (leaf-part k)); short = omega (arith, p .0, length-take (e + 7 - at) (drop at s)) }

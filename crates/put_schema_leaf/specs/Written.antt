@@ -3,7 +3,7 @@ use mathlib.Core.Path.{_≡_}
 use mathlib.Core.Bool.{Bool, false}
 use mathlib.Core.List.{[], _∷_, _++_}
 use mathlib.Core.Option.{Option, none, some}
-use Prim.Native.Nat.{ℕ, _+_, _*_, _-_}
+use Prim.Native.Nat.{ℕ, _+_, _*_, _-_, _≤_}
 use lib.Dec.{leb}
 use lib.ListN.{length}
 use Rattle.sheets.specs.Bytes.{Bytes}
@@ -13,11 +13,11 @@ use Rattle.sheets.specs.Schema.{Node, schema, end, absent, schemaLines}
 use Rattle.sheets.specs.Export.{schemaNew}
 use Rattle.sheets.specs.FieldSheet.{typeLines}
 use Rattle.sheets.specs.Plain.{plain}
-use Rattle.buffer.specs.Over.{over}
+use Rattle.buffer.specs.Over.{PutFirst}
 use Rattle.field_leaf.specs.FieldLeaves.{Told, fieldLeafIn, leafField, FieldLeafAt}
 use Rattle.put_schema_leaf.specs.Formats.{formatDigits}
-use Rattle.put_schema_leaf.specs.declared.LeafPut.{LeafPut}
-use Rattle.put_schema_leaf.specs.declared.LeafPut.the-variants.{Put, Other}
+use Rattle.walks.specs.Answers.{putOption}
+use Rattle.walks.specs.declared.LeafPut.{LeafPut}
 
 -- ── the schema line
 
@@ -39,8 +39,8 @@ pub record SchemaLeafWritten (s : Bytes) (at : ℕ) (out out' : Bytes) (next len
   pub node : Node
   pub made : schemaNew (leafField kind (leaf .bytes) nullable) ≡ given (schema node end absent)
   pub after : next ≡ e + 7
-  pub long : len ≡ length (ended (schemaLines (schema node end absent)))
-  pub laid : out' ≡ over (ended (schemaLines (schema node end absent))) out
+  pub put : PutFirst (ended (schemaLines (schema node end absent))) len out out'
+  pub short : len ≤ 24 + (e - from)
 
 -- there is room for the line, ten bytes longer than its format and its name
 abbrev pub formatFits : Bytes → ℕ → Option Bytes → Bool
@@ -51,11 +51,6 @@ formatFits out name (some format) = leb (length format + 10 + name) (length out)
 abbrev pub schemaFits : Bytes → Option Told → Bool
 schemaFits out none = false
 schemaFits out (some (kind, (from, (e, nullable)))) = formatFits out (e - from) (formatDigits kind)
-
--- where the reading goes on and how many bytes were written, if the line was written
-abbrev pub putOption : LeafPut → Option (ℕ × ℕ)
-putOption (Put next len) = some (next, len)
-putOption Other = none
 
 abbrev pub SchemaLeafTold : Bytes → ℕ → Bytes → Bytes → Option (ℕ × ℕ) → Type 0
 SchemaLeafTold s at out out' (some (next, len)) = SchemaLeafWritten s at out out' next len
@@ -79,8 +74,8 @@ pub record LeafCopied (s : Bytes) (at : ℕ) (out out' : Bytes) (next len : ℕ)
   pub nullable : ℕ
   pub leaf : FieldLeafAt s at kind from e nullable
   pub after : next ≡ e + 7
-  pub long : len ≡ length (plainText kind (leaf .bytes) nullable)
-  pub laid : out' ≡ over (plainText kind (leaf .bytes) nullable) out
+  pub put : PutFirst (plainText kind (leaf .bytes) nullable) len out out'
+  pub short : len ≤ e + 7 - at
 
 -- a line that is copied at once: short, and with room
 abbrev pub copyFits : Bytes → ℕ → Option Told → Bool

@@ -11,12 +11,7 @@ ghost use Rattle.put_schema_leaf.specs.Formats.{digitsText};
 ghost use Rattle.put_schema_leaf.specs.Written.{schemaTail, SchemaLeafPuts, LeafCopies};
 use crate::format::Digits;
 use field_leaf::FieldLeaf;
-
-// Where the reading goes on and how many bytes the line has; or nothing is written.
-pub enum LeafPut {
-    Put(usize, usize),
-    Other,
-}
+use walks::LeafPut;
 
 // Writes the len lowest bytes of w, two at once, from place at on; the place after them.
 fn put_low(out: &mut [u8], at: usize, w: u64, len: usize) -> usize

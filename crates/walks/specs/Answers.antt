@@ -31,6 +31,6 @@ begunAnswer state (B.Below w len p) =
 begunAnswer state (B.Refused r) = refused (refusalOf r)
 
 -- where the reading goes on and how many bytes were written, if the line was written at once
-abbrev pub leafOption : LeafPut → Option (ℕ × ℕ)
-leafOption (L.Put next len) = some (next, len)
-leafOption L.Other = none
+abbrev pub putOption : LeafPut → Option (ℕ × ℕ)
+putOption (L.Put next len) = some (next, len)
+putOption L.Other = none

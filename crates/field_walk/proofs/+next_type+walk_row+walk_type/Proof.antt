@@ -14,7 +14,7 @@ use Rattle.sheets.specs.Walk.{lineMeasure, rowMeasure, typeWalk}
 use Rattle.sheets.proofs.WalkLaws.{line-falls}
 use Rattle.buffer.proofs.OverLaws.{length-lent}
 use Rattle.walks.specs.Places.{TypeAt, RowAt, Begins}
-use Rattle.walks.specs.Answers.{pendingAnswer, begunAnswer, leafOption, stepAnswer}
+use Rattle.walks.specs.Answers.{pendingAnswer, begunAnswer, putOption, stepAnswer}
 use Rattle.walks.proofs.RowLaws.{Going, going-none, going-type, going-more, going-refused, going-all}
 use Rattle.walks.proofs.EndLaws.{row-there, row-refused, both-long, type-ended}
 use Rattle.field_walk.specs.Calls.{stepOf, stateOf, CallWrote}
@@ -93,7 +93,7 @@ next-type-same-length : (t : ℕ) → next-type-lts.Need-same-length (next-type-
 next-type-same-length t c = c .before .before .before .before .before .put-leaf .kept .1 .1 .1 .0
 
 next-type-returns : (t : ℕ) → next-type-lts.Need-returns (next-type-calls t) (next-type-at t) next-type.Post
-next-type-returns t c = let a = c .before .before .before .before .before .before .before .before .before .args in let r = c .before .before .before .before .before .put-leaf in leaf-put (stepOf (a .call)) _ _ _ _ _ _ _ (leafOption (r .result)) _ (ap leafOption (c .before .next .given .1)) (r .ensures)
+next-type-returns t c = let a = c .before .before .before .before .before .before .before .before .before .args in let r = c .before .before .before .before .before .put-leaf in leaf-put (stepOf (a .call)) _ _ _ _ _ _ _ (putOption (r .result)) _ (ap putOption (c .before .next .given .1)) (r .ensures)
 
 next-type-same-length-2 : (t : ℕ) → next-type-lts.Need-same-length-2 (next-type-calls t) (next-type-at t) next-type.Post
 next-type-same-length-2 t c = c .before .before .walk-type .kept .1 .1 .1 .0 ∙ c .before .before .before .before .before .before .before .before .put-leaf .kept .1 .1 .1 .0
@@ -103,7 +103,7 @@ next-type-returns-2 t c =
     let a = c .before .before .before .before .before .before .before .before .before .before .before .before .args in
     let r = c .before .before .before .before .before .before .before .before .put-leaf in
     let w = c .before .before .walk-type in
-    subst (λ (x : Bytes). CallWrote (a .call) (now (a .s)) (a .tree) x (w .last .1 .1 .1 .0) (w .result)) (leaf-other (stepOf (a .call)) _ _ _ _ _ _ _ (leafOption (r .result)) (ap leafOption (c .before .before .before .before .enum-told .given .1)) (r .ensures)) (w .ensures)
+    subst (λ (x : Bytes). CallWrote (a .call) (now (a .s)) (a .tree) x (w .last .1 .1 .1 .0) (w .result)) (leaf-other (stepOf (a .call)) _ _ _ _ _ _ _ (putOption (r .result)) (ap putOption (c .before .before .before .before .enum-told .given .1)) (r .ensures)) (w .ensures)
 
 abbrev walk-row-Inv-loop : walk-row-lts.InvT-loop
 walk-row-Inv-loop call s row out₀ here₀ sum₀ i₀ out here sum i =
