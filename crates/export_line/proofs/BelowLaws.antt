@@ -52,7 +52,7 @@ use Rattle.walks.specs.declared.Subtree.{Subtree}
 use Rattle.walks.specs.declared.Subtrees.{Subtrees}
 use Rattle.walks.proofs.BeginLaws.{row-inside, row-inside-smaller, some-level, begin-visit, begin-skip}
 use Rattle.export_line.specs.Begins.{InnerLine, isAlone, columnsFrom, numbersOf, rowFrom, EndsBelow, RowLeft, HasBelow, zeroPending, begunWith}
-use Rattle.export_line.proofs.ColumnLaws.{is-part, part-short, part-text, name-column, pairs-column, nullable-is, name-is, extensionName, extensionMore, extension-said, extension-rules, more-said, name-said, can-format, format-rule, line-format, line-said}
+use Rattle.export_line.proofs.ColumnLaws.{is-part, part-short, part-text, name-column, pairs-column, nullable-is, name-is, extensionName, extensionMore, extension-said, extension-rules, more-said, name-said, can-format, line-format, line-said}
 use Rattle.export_line.proofs.StepLaws.{isDictionary, dictionary-kind, index-small, extended, storage-plain, Leaves, visited, nothing, skipped, WrittenType, written, own-put}
 
 -- ── the types below are skipped
@@ -228,7 +228,7 @@ module _ {s : Bytes} (tree : Subtree) {i : Option Info} {t : ArrowDataType} {es 
   flags-are : numbers .flags ≡ flag (info .nullable) NULLABLE + shapeFlags (wrote .shape)
   flags-are =
       ap (λ (k : LineNumbers). k .flags) (wrote .is)
-      ∙ ap (λ (x : ℕ). flag (info .nullable) NULLABLE + x) (shape-flags (wrote .shape) (format-rule (wrote .shape) (wrote .plain) (wrote .rule) text-short (wrote .children) children-few))
+      ∙ ap (λ (x : ℕ). flag (info .nullable) NULLABLE + x) (shape-flags (wrote .shape) (wrote .rule))
 
   flags-low : numbers .flags < 2 ^ 64
   flags-low = omega (arith, ap (λ (k : LineNumbers). k .flags) (wrote .is), other-small (columns (wrote .shape) .kind) (columns (wrote .shape) .p) (columns (wrote .shape) .q), nullable-low (info .nullable))

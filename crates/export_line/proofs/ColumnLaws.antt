@@ -29,7 +29,6 @@ use Rattle.column_text.specs.ColumnText.{TextColumn}
 use Rattle.column_text.proofs.ColumnTextLaws.{column-says}
 use Rattle.put_metadata.specs.Pairs.{PairsColumn}
 use Rattle.put_format.specs.LineFormat.{shapeFormat, lineShape, lineFormat, CanFormat}
-use Rattle.put_format.specs.LineFormat.{shapeRule as formatRule}
 use Rattle.put_format.proofs.ArmLaws.{is-format}
 use Rattle.put_schema_line.specs.Lines.{nodeName, lineText, IsPart}
 use Rattle.put_schema_line.specs.declared.LineNumbers.{LineNumbers}
@@ -138,16 +137,6 @@ module _ (w : Shape) (plain : isExtension w ≡ false) (rule : Meets (shapeRule 
       let q = first-gave (shapeAt (columns w)) (λ t. when badLines (is (sameColumns (columns t) (columns w))) t) w (read-shape w rule) in
       q .1 ∙ ap given (met-when badLines (is (sameColumns (columns (q .0)) (columns w))) (q .0) w (q .2) .1)
 
-  same-rule : (s : Shape) → isExtension s ≡ false → Meets (shapeRule s) → Meets (formatRule s)
-  same-rule (ofScalar s) e h = h
-  same-rule (ofNesting g) e h = h
-  same-rule (ofGrouping g) e h = h
-  same-rule (ofDictionary ix ordered) e h = h
-  same-rule (ofExtension a m) e h = absurd (true≢false e)
-
-  pub format-rule : Meets (formatRule w)
-  format-rule = same-rule w plain rule
-
   pub can-format : CanFormat (columns w .kind) (columns w .p) (columns w .q) (columns w .text) children 0
   unfolding lineShape
   can-format =
@@ -155,7 +144,7 @@ module _ (w : Shape) (plain : isExtension w ≡ false) (rule : Meets (shapeRule 
         shape = w;
         read = ap (λ (m : Bytes). shapeAt (record { kind = columns w .kind; p = columns w .p; q = columns w .q; text = columns w .text; more = m })) (sym no-more) ∙ reads;
         is = refl;
-        rule = format-rule;
+        rule = rule;
         plain = λ e. true≢false (sym (ap (λ (k : ℕ). eqb k Kind.Extension) e) ∙ sym (below-kind w rule .0) ∙ plain);
         short = short;
         few = few;

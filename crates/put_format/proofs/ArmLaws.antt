@@ -15,16 +15,17 @@ use Rattle.sheets.specs.Bytes.{Bytes, ascii}
 use Rattle.sheets.specs.Answer.{Answer, refused, given, _>>=_}
 use Rattle.sheets.specs.Number.{decimal, readSigned}
 use Rattle.sheets.specs.Text.{readText}
-use Rattle.sheets.specs.Field.{TimeUnit, leaf, timestamp, map, union, isLeaf, leafRule, ArrowDataType, scalar, nested, grouped, dictionary, extension}
+use Rattle.sheets.specs.Field.{TimeUnit, leaf, timestamp, map, union, isLeaf, leafRule}
 use Rattle.sheets.specs.FieldSheet.{Shape, ofScalar, ofNesting, ofGrouping, ofDictionary, columns, shapeAt, unitAt, boolAt, readList}
-use Rattle.sheets.specs.Format.{orEmpty, scalarFormat, groupingFormat, unionName, toFormat}
+use Rattle.sheets.specs.FieldTrees.{shapeRule}
+use Rattle.sheets.specs.Format.{orEmpty, scalarFormat, groupingFormat, unionName}
 use Rattle.sheets.specs.Kind
 use Rattle.sheets.proofs.Tests.{same-given, not-given, every, at-each, meets}
 use Rattle.hex.specs.Hex.{givenOr}
 use Rattle.datatypes.proofs.AtLaws.{Rest}
 use Rattle.column_text.specs.ColumnText.{columnText}
 use Rattle.put_format.specs.Formats.{CanPutLeaf}
-use Rattle.put_format.specs.LineFormat.{shapeFormat, lineColumns, lineShape, lineFormat, shapeOf, fieldsOf, decimalText, timestampFormat, idsIn, unionFormat, shapeRule, CanPutZone, CanPutUnion, CanFormat}
+use Rattle.put_format.specs.LineFormat.{shapeFormat, lineColumns, lineShape, lineFormat, decimalText, timestampFormat, idsIn, unionFormat, CanPutZone, CanPutUnion, CanFormat}
 
 -- ── the shapes that are read in steps
 
@@ -220,15 +221,6 @@ decimal-none p q = append-nil (((ascii "d:" ++ decimal p) ++ ascii ",") ++ decim
 
 pub decimal-wide : (p q : ℕ) (w : Bytes) → decimalText p q (44 ∷ w) ≡ ascii "d:" ++ (decimal p ++ (44 ∷ (decimal q ++ (44 ∷ w))))
 decimal-wide p q w = simp append-assoc
-
--- ── for the caller: a type's own line
-
-pub to-format : (t : ArrowDataType) → ((n : Bytes) (m : Option Bytes) (i : ArrowDataType) → t ≡ extension n m i → ⊥) → toFormat t ≡ shapeFormat (shapeOf t) (fieldsOf t)
-to-format (scalar s) h = refl
-to-format (nested n i t) h = refl
-to-format (grouped g fs) h = refl
-to-format (dictionary ix ordered t) h = refl
-to-format (extension n m t) h = absurd (h n m t refl)
 
 -- ── units
 

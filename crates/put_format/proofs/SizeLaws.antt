@@ -17,11 +17,12 @@ use Rattle.sheets.specs.Number.{decimal, writeSigned}
 use Rattle.sheets.specs.Text.{writeText}
 use Rattle.sheets.specs.Field.{second, millisecond, microsecond, nanosecond, bits128, bits32, bits64, bits256, Scalar, leaf, timestamp, fixedSizeBinary, decimalType, list, largeList, fixedSizeList, map, struct, union, UnionMode, upFrom}
 use Rattle.sheets.specs.FieldSheet.{Shape, ofScalar, ofNesting, ofGrouping, ofDictionary, ofExtension, columns}
+use Rattle.sheets.specs.FieldTrees.{shapeRule}
 use Rattle.sheets.specs.Format.{FormatRow, rows, rowOf, scalarFormat, unionName, orEmpty}
 use Rattle.sheets.proofs.Tests.{same-given, not-given, meets}
 use Rattle.hex.proofs.PartLaws.{length-hex}
 use Rattle.decimal.proofs.WriteLaws.{decimal-short}
-use Rattle.put_format.specs.LineFormat.{shapeFormat, lineFormat, shapeRule, CanFormat}
+use Rattle.put_format.specs.LineFormat.{shapeFormat, lineFormat, CanFormat}
 
 -- ── names
 

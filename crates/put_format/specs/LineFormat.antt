@@ -1,19 +1,18 @@
 -- The format of a field line's type by the line's columns and its number of children: `toFormat` looks no further. Assumes nothing.
 use mathlib.Core.Path.{_≡_}
-use mathlib.Core.Bool.{true}
 use mathlib.Core.List.{List, _++_}
 use mathlib.Core.Option.{Option, none, some}
 use Prim.Native.Nat.{ℕ, _<_, _^_}
-use lib.Dec.{ltb}
 use lib.IntN.{ℤ}
 use lib.ListN.{length}
 use Rattle.sheets.specs.Refusal.{noFormat}
-use Rattle.sheets.specs.Rule.{Rule, is, Meets}
+use Rattle.sheets.specs.Rule.{Meets}
 use Rattle.sheets.specs.Bytes.{Bytes, ascii}
 use Rattle.sheets.specs.Answer.{Answer, refused, given, _>>=_}
 use Rattle.sheets.specs.Number.{decimal, writeSigned, readSigned}
-use Rattle.sheets.specs.Field.{timestamp, ArrowDataType, scalar, nested, grouped, dictionary, extension, countFields, upFrom, scalarRule, nestingRule, groupingRule}
+use Rattle.sheets.specs.Field.{timestamp, upFrom}
 use Rattle.sheets.specs.FieldSheet.{Columns, Shape, ofScalar, ofNesting, ofGrouping, ofDictionary, ofExtension, noText, columns, shapeAt, unitAt, writeList, readList}
+use Rattle.sheets.specs.FieldTrees.{shapeRule}
 use Rattle.sheets.specs.Format.{scalarFormat, nestingFormat, groupingFormat, indexFormat, writeIds}
 use Rattle.sheets.specs.Kind
 use Rattle.hex.specs.Hex.{givenOr}
@@ -40,24 +39,6 @@ lineShape kind p q text = shapeAt (lineColumns kind p q text)
 unfoldable pub lineFormat : ℕ → ℕ → ℕ → Bytes → ℕ → Answer Bytes
 unfolding lineShape
 lineFormat kind p q text fields = lineShape kind p q text >>= λ s. shapeFormat s fields
-
--- ── a type's line
-
--- what a type's line says of it
-abbrev pub shapeOf : ArrowDataType → Shape
-shapeOf (scalar s) = ofScalar s
-shapeOf (nested n i t) = ofNesting n
-shapeOf (grouped g fs) = ofGrouping g
-shapeOf (dictionary ix ordered t) = ofDictionary ix ordered
-shapeOf (extension n m t) = ofExtension n m
-
--- the fields of a struct or a union
-abbrev pub fieldsOf : ArrowDataType → ℕ
-fieldsOf (scalar s) = 0
-fieldsOf (nested n i t) = 1
-fieldsOf (grouped g fs) = countFields fs
-fieldsOf (dictionary ix ordered t) = 1
-fieldsOf (extension n m t) = 1
 
 -- ── the pieces
 
@@ -99,14 +80,6 @@ pub record CanPutUnion (text : Bytes) (fields at : ℕ) : Type 0 where
 pub record CanPutIds (name text : Bytes) (fields at : ℕ) : Type 0 where
   pub named : CanPutName name at
   pub union : CanPutUnion text fields at
-
--- the rules of document 01 for what a line says of its type
-abbrev pub shapeRule : Shape → Rule
-shapeRule (ofScalar s) = scalarRule s
-shapeRule (ofNesting n) = nestingRule n
-shapeRule (ofGrouping g) = groupingRule g
-shapeRule (ofDictionary ix ordered) = is (ltb ix 10)
-shapeRule (ofExtension n m) = is true
 
 -- the columns of a line that reads, but for an extension's
 pub record CanFormat (kind p q : ℕ) (text : Bytes) (fields at : ℕ) : Type 0 where

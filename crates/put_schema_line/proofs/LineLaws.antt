@@ -20,7 +20,8 @@ use Rattle.sheets.specs.Rule.{Meets}
 use Rattle.sheets.specs.Flags.{ORDERED}
 use Rattle.sheets.specs.Kind
 use Rattle.sheets.specs.Field.{Info, bits128, bits32, bits64, bits256, leaf, timestamp, fixedSizeBinary, decimalType, list, largeList, fixedSizeList, map, struct, union, isLeaf, textRule, infoRule}
-use Rattle.sheets.specs.FieldSheet.{Shape, ofScalar, ofNesting, ofGrouping, ofDictionary, ofExtension, columns, infoColumns, noText, pairText, writeList}
+use Rattle.sheets.specs.FieldSheet.{Shape, ofScalar, ofNesting, ofGrouping, ofDictionary, ofExtension, columns, noText, pairText, writeList}
+use Rattle.sheets.specs.FieldTrees.{shapeRule}
 use Rattle.sheets.specs.Metadata.{extensionOf, schemaMetadata}
 use Rattle.sheets.specs.Schema.{schemaLine, lineOf}
 use Rattle.sheets.specs.Export.{flag, sortedFlag, valuesInfo}
@@ -33,7 +34,7 @@ use Rattle.words.proofs.WordLaws.{low-is, length-low}
 use Rattle.decimal.proofs.WriteLaws.{decimal-start, first-digit, decimal-short}
 use Rattle.field_line.specs.Columns.{column, endPiece}
 use Rattle.field_line.proofs.LengthLaws.{number-short}
-use Rattle.column_text.specs.ColumnText.{columnText, hasZero, TextColumn}
+use Rattle.column_text.specs.ColumnText.{hasZero, TextColumn}
 use Rattle.column_text.proofs.ColumnTextLaws.{column-is, column-says}
 use Rattle.put_metadata.specs.Pairs.{firstPlace}
 use Rattle.put_metadata.specs.Block.{metadataColumn}
@@ -41,7 +42,7 @@ use Rattle.put_metadata.proofs.PairsLaws.{pairs-in}
 use Rattle.put_metadata.proofs.ColumnLaws.{no-metadata}
 use Rattle.put_metadata.proofs.SizeLaws.{metadata-size}
 use Rattle.put_format.specs.Formats.{exportedAnswer, Formats}
-use Rattle.put_format.specs.LineFormat.{lineFormat, shapeRule}
+use Rattle.put_format.specs.LineFormat.{lineFormat}
 use Rattle.put_format.specs.declared.Exported.{Exported}
 use Rattle.put_format.specs.declared.Exported.the-variants.{Written as Told}
 use Rattle.put_format.proofs.SizeLaws.{format-size}

@@ -6,9 +6,9 @@ ghost use Rattle.column_text.specs.ColumnText.{TextColumn};
 ghost use Rattle.put_metadata.specs.Pairs.{PairsColumn};
 ghost use Rattle.put_metadata.specs.Block.{metadataColumn};
 ghost use Rattle.put_schema_line.specs.Lines.{otherFlags, lineFlags, namePiece, tailPiece, restPiece, isPlain, columnAt, IsPart, LinePut, CanPutName, CanPutTail, CanPutPlain, CanPutRest, CanPutLine, CanPutColumns, PutsColumns};
+use columns::Part;
 use datatypes::kind;
 use put_format::Exported;
-use columns::Part;
 use schema_line::SchemaLine;
 
 // The numbers of a line: `kind`, `p`, `q` of the field line, and `flags`, `children`, `dictionary` of the schema line.
