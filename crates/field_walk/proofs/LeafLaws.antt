@@ -55,8 +55,7 @@ module _ (s : Bytes) (at levels : ℕ) (inside : Bool) (out out' : Bytes) where
   leaf-exported (some (next, len)) w =
       λ i t es h.
       let k = w .leaf in
-      let written = schemaLines (schema (w .node) end absent) in
-      (
+      let written = schemaLines (schema (w .node) end absent) in (
         written,
         ap₂ (λ (u : ArrowDataType) (j : Option Info). typeWalk schemaStep u j none) (is-type k i t es (h .stands)) (is-info k i t es (h .stands))
             ∙ type-exported (scalar (leaf (w .kind) 0)) (some (leafInfo (k .bytes) (w .nullable))) none
@@ -73,8 +72,7 @@ module _ (s : Bytes) (at levels : ℕ) (inside : Bool) (out out' : Bytes) where
   leaf-plain (some (next, len)) w =
       λ i t es h.
       let k = w .leaf in
-      let f = plain (leafField (w .kind) (k .bytes) (w .nullable)) in
-      (
+      let f = plain (leafField (w .kind) (k .bytes) (w .nullable)) in (
         typeLines (f .type) (some (f .info)),
         ap₂ (λ (u : ArrowDataType) (j : Option Info). typeWalk plainStep u j inside) (is-type k i t es (h .stands)) (is-info k i t es (h .stands)),
         w .put,

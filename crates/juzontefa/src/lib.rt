@@ -69,12 +69,33 @@ pub extern "C" fn juzontefa_round_trip(
     ensures { λ r. ⌜ hostTold (r .answer) (r .number) (four (now (exported .exit)) (now (imported .exit)) (now (plain .exit)) (now (again .exit))) ≡ hostTrip (roundTripOutcome (now (sheet .entry)) (four (now (exported .entry)) (now (imported .entry)) (now (plain .entry)) (now (again .entry)))) ⌝ }
 {
     match round_trips::round_trip(sheet, exported, imported, plain, again) {
-        RoundTrip::AllSame => Trip { answer: 0, number: 0 },
-        RoundTrip::ExportRefused(number) => Trip { answer: 1, number: number as u64 },
-        RoundTrip::ImportRefused(number) => Trip { answer: 2, number: number as u64 },
-        RoundTrip::PlainRefused(number) => Trip { answer: 3, number: number as u64 },
-        RoundTrip::AgainRefused(number) => Trip { answer: 4, number: number as u64 },
-        RoundTrip::ImportDiffers => Trip { answer: 5, number: 0 },
-        RoundTrip::AgainDiffers => Trip { answer: 6, number: 0 },
+        RoundTrip::AllSame => Trip {
+            answer: 0,
+            number: 0,
+        },
+        RoundTrip::ExportRefused(number) => Trip {
+            answer: 1,
+            number: number as u64,
+        },
+        RoundTrip::ImportRefused(number) => Trip {
+            answer: 2,
+            number: number as u64,
+        },
+        RoundTrip::PlainRefused(number) => Trip {
+            answer: 3,
+            number: number as u64,
+        },
+        RoundTrip::AgainRefused(number) => Trip {
+            answer: 4,
+            number: number as u64,
+        },
+        RoundTrip::ImportDiffers => Trip {
+            answer: 5,
+            number: 0,
+        },
+        RoundTrip::AgainDiffers => Trip {
+            answer: 6,
+            number: 0,
+        },
     }
 }

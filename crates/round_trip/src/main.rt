@@ -21,8 +21,14 @@ fn print_trip(trip: RoundTrip) {
         RoundTrip::ImportRefused(number) => print_refused(b"import", number),
         RoundTrip::PlainRefused(number) => print_refused(b"plain form", number),
         RoundTrip::AgainRefused(number) => print_refused(b"second export", number),
-        RoundTrip::ImportDiffers => io::write_all(STDOUT_FILENO, b"import differs from the plain form\n"),
-        RoundTrip::AgainDiffers => io::write_all(STDOUT_FILENO, b"second export differs from the export\n"),
+        RoundTrip::ImportDiffers => io::write_all(
+            STDOUT_FILENO,
+            b"import differs from the plain form\n",
+        ),
+        RoundTrip::AgainDiffers => io::write_all(
+            STDOUT_FILENO,
+            b"second export differs from the export\n",
+        ),
     }
 }
 

@@ -58,9 +58,11 @@ module _ {S : Type 0} {step : S → Head → Answer (Step S)} {s : Bytes} {at le
             let (ls, is, put, there, long, within) = row-done in (
               x ++ ls,
               chain (given x) c,
-              (omega (arith, owns .0, put .0, ap length (ended-append x ls), length-append (ended x) (ended ls)),
-              over-lent (ended x) (ended ls) out mid part (b .len) w (owns .1) (owns .0) e₁ (put .1 ∙ ap (over (ended ls)) e₂)
-                  ∙ ap (λ (y : Bytes). over y out) (sym (ended-append x ls))),
+              (
+                omega (arith, owns .0, put .0, ap length (ended-append x ls), length-append (ended x) (ended ls)),
+                over-lent (ended x) (ended ls) out mid part (b .len) w (owns .1) (owns .0) e₁ (put .1 ∙ ap (over (ended ls)) e₂)
+                    ∙ ap (λ (y : Bytes). over y out) (sym (ended-append x ls)),
+              ),
               there,
               omega (arith, g .long, long),
               within,
