@@ -1,5 +1,6 @@
 //! Times the Rust from sheet to sheet: reading the sheet into its structs or values, its own call, and writing the sheet
-//! of the answer. Where our library is linked, it is timed beside it, batch by batch, and the ratio is printed.
+//! of the answer. Where our library is linked, it is timed beside it, batch by batch, and the ratio is printed. Plain form
+//! is not in the Rust: ours is timed beside our own export of the same sheet.
 
 use std::hint::black_box;
 use std::io::Write;
@@ -7,16 +8,21 @@ use std::path::Path;
 use std::time::Duration;
 
 use crate::answer::Answer;
-use crate::call::{Call, Request};
+use crate::call::{Call, Input, Request};
+use crate::compare;
 use crate::failure::Failure;
 use crate::generator::{block, hex, hex_text, join_lines, Kind, Line};
 use crate::library;
+use crate::model::Model;
 use crate::oracle::Rust;
 
 /// A batch takes so much processor time. Batches are short, so that some of them find a quiet machine.
 const BATCH: Duration = Duration::from_millis(4);
 
-/// A workload: a schema sheet of a size.
+/// The calls that are timed.
+pub const CALLS: [Call; 3] = [Call::Import, Call::Export, Call::Plain];
+
+/// A workload: a schema sheet of a size, or the field sheet that it is imported to.
 struct Workload {
     name: &'static str,
     size: usize,
@@ -87,10 +93,10 @@ fn text(number: usize, len: usize) -> Vec<u8> {
     text
 }
 
-/// Nanoseconds a call, the shortest yet, of the Rust and, where it is linked, of our library.
+/// Nanoseconds a call, the shortest yet, of the Rust or what stands for it and, where it is linked, of our library.
 #[derive(Clone, Copy)]
 struct Timed {
-    rust: f64,
+    beside: f64,
     ours: Option<f64>,
 }
 
@@ -100,6 +106,8 @@ struct Trial {
     sheet: Vec<u8>,
     /// The length of the answer.
     answer: usize,
+    /// The length of what stands beside it: the same, but for plain form the export's.
+    beside: usize,
     timed: Timed,
 }
 
@@ -110,12 +118,18 @@ struct Row {
     quarter: Option<Trial>,
 }
 
-/// Prints a table of all workloads for import and export. Each is measured in so many rounds; a round goes through all of
-/// them, so that a busy time of the machine falls on all alike.
-pub fn bench(rust: &Rust, rounds: u64, out: &mut dyn Write) -> Result<(), Failure> {
+/// Prints a table of all workloads for a call, or for all that can be timed. Each is measured in so many rounds; a round
+/// goes through all of them, so that a busy time of the machine falls on all alike.
+pub fn bench(rust: &Rust, rounds: u64, only: Option<Call>, out: &mut dyn Write) -> Result<(), Failure> {
+    let has_plain = library::has(Call::Plain) && library::has(Call::Export);
+    if only == Some(Call::Plain) && !has_plain {
+        return Err(Failure::Wrong("no library with plain form and export is linked".to_string()));
+    }
+    let calls =
+        CALLS.into_iter().filter(|call| only.is_none_or(|only| only == *call) && (*call != Call::Plain || has_plain));
     let mut rows = Vec::new();
-    for workload in &WORKLOADS {
-        for call in [Call::Import, Call::Export] {
+    for call in calls {
+        for workload in &WORKLOADS {
             let whole = trial(rust, workload, workload.size, call)?;
             let quarter = workload.grows.then(|| trial(rust, workload, workload.size / 4, call)).transpose()?;
             rows.push(Row { name: workload.name, whole, quarter });
@@ -131,53 +145,75 @@ pub fn bench(rust: &Rust, rounds: u64, out: &mut dyn Write) -> Result<(), Failur
         writeln!(out, "{:<26} {}", row.name, columns(&row.whole, row.quarter.as_ref()))?;
     }
     writeln!(out, "growth: how many times longer than a quarter of the size takes; MB/s: of the sheet handed in")?;
+    if rows.iter().any(|row| row.whole.call == Call::Plain) {
+        writeln!(out, "plain: not in the Rust; ns/call, MB/s and growth are of our own export of the sheet")?;
+    }
     Ok(())
 }
 
-/// Writes the schema sheet of each workload into the folder, as a file with the workload's place, from 0, and its name.
-pub fn workloads(folder: &str) -> Result<(), Failure> {
+/// Writes the sheet of each workload that the call reads into the folder, as a file with the workload's place, from 0, and
+/// its name.
+pub fn workloads(rust: &Rust, folder: &str, call: Call) -> Result<(), Failure> {
     for (place, workload) in WORKLOADS.iter().enumerate() {
         let path = Path::new(folder).join(format!("{place} {}", workload.name));
-        let sheet = join_lines(Kind::Schema, &(workload.lines)(workload.size));
+        let sheet = sheet(rust, workload, workload.size, call)?;
         std::fs::write(&path, sheet).map_err(|error| Failure::Wrong(format!("{}: {error}", path.display())))?;
     }
     Ok(())
 }
 
-/// The sheet that the call reads, from the Rust's own answers.
-fn trial(rust: &Rust, workload: &Workload, size: usize, call: Call) -> Result<Trial, Failure> {
-    let ask = |call, sheet: &[u8]| match rust.answer(Request::new(call, 0), sheet) {
-        Ok(Answer::Sheet(answer)) => Ok(answer),
-        other => Err(Failure::Found(format!("{}: {other:?}", workload.name))),
-    };
+/// The sheet of a workload that the call reads: a field sheet is what the Rust imports.
+fn sheet(rust: &Rust, workload: &Workload, size: usize, call: Call) -> Result<Vec<u8>, Failure> {
     let schema = join_lines(Kind::Schema, &(workload.lines)(size));
-    let field = ask(Call::Import, &schema)?;
-    let sheet = if call == Call::Import { schema } else { field };
-    let answer = ask(call, &sheet)?.len();
-    Ok(Trial { call, sheet, answer, timed: Timed { rust: f64::INFINITY, ours: None } })
+    match call.input() {
+        Input::SchemaSheet => Ok(schema),
+        _ => answered(rust, workload, Call::Import, &schema),
+    }
 }
 
-/// A batch of the Rust and, where it is linked, one of ours.
+fn answered(rust: &Rust, workload: &Workload, call: Call, sheet: &[u8]) -> Result<Vec<u8>, Failure> {
+    match compare::answer(rust, &Model::new(), Request::new(call, 0), sheet) {
+        Ok(Answer::Sheet(answer)) => Ok(answer),
+        other => Err(Failure::Found(format!("{}: {other:?}", workload.name))),
+    }
+}
+
+fn trial(rust: &Rust, workload: &Workload, size: usize, call: Call) -> Result<Trial, Failure> {
+    let sheet = sheet(rust, workload, size, call)?;
+    let answer = answered(rust, workload, call, &sheet)?.len();
+    let beside = if call == Call::Plain { answered(rust, workload, Call::Export, &sheet)?.len() } else { answer };
+    Ok(Trial { call, sheet, answer, beside, timed: Timed { beside: f64::INFINITY, ours: None } })
+}
+
+/// A batch of the Rust, or of our export beside plain form, and, where it is linked, one of ours.
 fn measure(rust: &Rust, trial: &mut Trial) {
     let (call, sheet) = (trial.call, &trial.sheet[..]);
     let mut out = Vec::with_capacity(trial.answer);
-    let of_rust = nanoseconds(|| {
-        out.clear();
-        let done = match call {
-            Call::Import => rust.import(black_box(sheet), &mut out),
-            _ => rust.export(black_box(sheet), &mut out),
-        };
-        black_box(&out);
-        black_box(done.is_ok());
-    });
-    trial.timed.rust = trial.timed.rust.min(of_rust);
+    let beside = match call {
+        Call::Plain => of_ours(Call::Export, sheet, trial.beside),
+        _ => nanoseconds(|| {
+            out.clear();
+            let done = match call {
+                Call::Import => rust.import(black_box(sheet), &mut out),
+                _ => rust.export(black_box(sheet), &mut out),
+            };
+            black_box(&out);
+            black_box(done.is_ok());
+        }),
+    };
+    trial.timed.beside = trial.timed.beside.min(beside);
     if library::has(call) {
-        let mut buffer = vec![0; trial.answer];
-        let of_ours = nanoseconds(|| {
-            black_box(library::ask(Request::new(call, 0), black_box(sheet), &mut buffer));
-        });
+        let of_ours = of_ours(call, sheet, trial.answer);
         trial.timed.ours = Some(trial.timed.ours.map_or(of_ours, |least| least.min(of_ours)));
     }
+}
+
+/// A batch of our library, into a buffer of so many bytes.
+fn of_ours(call: Call, sheet: &[u8], room: usize) -> f64 {
+    let mut buffer = vec![0; room];
+    nanoseconds(|| {
+        black_box(library::ask(Request::new(call, 0), black_box(sheet), &mut buffer));
+    })
 }
 
 /// Nanoseconds a call over a batch.
@@ -219,16 +255,17 @@ fn columns(whole: &Trial, quarter: Option<&Trial>) -> String {
         Some(quarter) => format!("{:.2}", time / quarter),
         None => "-".to_string(),
     };
-    let Timed { rust, ours } = whole.timed;
-    let grows = growth(rust, quarter.map(|quarter| quarter.timed.rust));
+    let Timed { beside, ours } = whole.timed;
+    let grows = growth(beside, quarter.map(|quarter| quarter.timed.beside));
+    let what = if whole.call == Call::Plain { "our export" } else { "the Rust" };
     let ours = match ours {
         None => "-".to_string(),
         Some(ours) => {
             let grows = growth(ours, quarter.and_then(|quarter| quarter.timed.ours));
-            format!("{ours:.0} ns, growth {grows}, {:.2} of the Rust", ours / rust)
+            format!("{ours:.0} ns, growth {grows}, {:.2} of {what}", ours / beside)
         }
     };
     let (call, input, output) = (whole.call.name(), whole.sheet.len(), whole.answer);
-    let speed = input as f64 * 1_000.0 / rust;
-    format!("{call:<6} {input:>6} {output:>6} {rust:>10.0} {speed:>8.1} {grows:>8}  {ours}")
+    let speed = input as f64 * 1_000.0 / beside;
+    format!("{call:<6} {input:>6} {output:>6} {beside:>10.0} {speed:>8.1} {grows:>8}  {ours}")
 }

@@ -1,5 +1,6 @@
 //! The Rust held against the plain reading, and against our library where one is linked, over generated sheets.
 
+use std::collections::BTreeMap;
 use std::fmt;
 use std::io::Write;
 
@@ -10,6 +11,7 @@ use crate::generator::{Generator, Kind, Random, Sheet};
 use crate::library;
 use crate::model::Model;
 use crate::oracle::Rust;
+use crate::trip;
 
 /// What a call is asked: the request, its sheet, and the bytes of the buffer that is lent.
 pub struct Case<'a> {
@@ -19,10 +21,14 @@ pub struct Case<'a> {
 }
 
 impl Case<'_> {
-    /// The buffer before the call: no byte is 0, so that zeros and bytes that are kept can be told.
     pub fn lent(&self) -> Vec<u8> {
-        (0..self.room).map(|at| 1 + (at % 255) as u8).collect()
+        lent(self.room)
     }
+}
+
+/// A buffer before a call: no byte is 0, so that zeros and bytes that are kept can be told.
+pub fn lent(room: usize) -> Vec<u8> {
+    (0..room).map(|at| 1 + (at % 255) as u8).collect()
 }
 
 /// The requests that a sheet of this kind can be put to.
@@ -58,10 +64,11 @@ pub fn room(random: &mut Random, answered: &Answered) -> usize {
     }
 }
 
-/// How often each call gave each number.
+/// How often each call gave each number, and a round trip each answer with its number.
 #[derive(Default)]
 pub struct Counts {
     numbers: [[u64; 17]; CALLS.len()],
+    trips: BTreeMap<(u64, u64), u64>,
 }
 
 impl Counts {
@@ -70,7 +77,7 @@ impl Counts {
     }
 
     fn total(&self) -> u64 {
-        self.numbers.iter().flatten().sum()
+        self.numbers.iter().flatten().chain(self.trips.values()).sum()
     }
 }
 
@@ -83,26 +90,46 @@ impl fmt::Display for Counts {
                 writeln!(f, "  {name:<24} {}", numbers.join(", "))?;
             }
         }
+        let trips = self.trips.iter().map(|((answer, number), count)| match number {
+            0 => format!("{answer}: {count}"),
+            _ => format!("{answer} by {number}: {count}"),
+        });
+        if !self.trips.is_empty() {
+            writeln!(f, "  {:<24} {}", "round_trip", trips.collect::<Vec<_>>().join(", "))?;
+        }
         Ok(())
     }
+}
+
+/// What is compared.
+#[derive(Clone, Copy, PartialEq)]
+pub enum Scope {
+    All,
+    Only(Call),
+    /// Of our library, against its four steps.
+    RoundTrips,
 }
 
 /// What is held against what, and over which calls.
 struct Comparison<'a> {
     rust: &'a Rust,
     model: Model,
-    /// One call alone, or all.
-    only: Option<Call>,
+    scope: Scope,
     counts: Counts,
 }
 
 /// Compares `sheets` sheets; the first difference ends it, told with its smallest input.
-pub fn compare(rust: &Rust, sheets: u64, seed: u64, only: Option<Call>, out: &mut dyn Write) -> Result<(), Failure> {
-    let mut comparison = Comparison { rust, model: Model::new(), only, counts: Counts::default() };
+pub fn compare(rust: &Rust, sheets: u64, seed: u64, scope: Scope, out: &mut dyn Write) -> Result<(), Failure> {
+    let mut comparison = Comparison { rust, model: Model::new(), scope, counts: Counts::default() };
     compare_utf8(&comparison.model).map_err(Failure::Found)?;
     let mut generator = Generator::new(seed);
     for done in 0..sheets {
-        let sheet = match only.map(Call::input) {
+        let input = match scope {
+            Scope::All => None,
+            Scope::Only(call) => Some(call.input()),
+            Scope::RoundTrips => Some(Input::FieldSheet),
+        };
+        let sheet = match input {
             Some(Input::SchemaSheet) => generator.sheet_of(Kind::Schema),
             Some(Input::FieldSheet) => generator.sheet_of(Kind::Field),
             _ => generator.sheet(),
@@ -120,7 +147,11 @@ pub fn compare(rust: &Rust, sheets: u64, seed: u64, only: Option<Call>, out: &mu
 impl Comparison<'_> {
     /// Plain form is not in the Rust, so only our library can be held against the plain reading there.
     fn wants(&self, call: Call) -> bool {
-        (call.is_in_rust() || library::has(call)) && self.only.is_none_or(|only| only == call)
+        (call.is_in_rust() || library::has(call)) && (self.scope == Scope::All || self.scope == Scope::Only(call))
+    }
+
+    fn wants_round_trips(&self) -> bool {
+        library::has_round_trip() && matches!(self.scope, Scope::All | Scope::RoundTrips)
     }
 
     fn compare_sheet(&mut self, random: &mut Random, sheet: &Sheet) -> Result<(), String> {
@@ -136,6 +167,23 @@ impl Comparison<'_> {
                 self.compare_sheet(random, &Sheet { kind: Kind::Field, bytes: field })?;
             }
         }
+        if sheet.kind == Kind::Field && self.wants_round_trips() {
+            self.compare_round_trip(random, &sheet.bytes)?;
+        }
+        Ok(())
+    }
+
+    /// Half of them have room in all four buffers.
+    fn compare_round_trip(&mut self, random: &mut Random, sheet: &[u8]) -> Result<(), String> {
+        let steps = trip::steps(self.rust, &self.model, sheet);
+        let any = random.below(8);
+        let rooms = [0, 1, 2, 3].map(|step| match steps.get(step) {
+            Some(Ok(Answer::Sheet(sheet))) if step != any => sheet.len() + random.below(50),
+            Some(answered) => room(random, answered),
+            None => random.below(50),
+        });
+        let trip = trip::compared(self.rust, &self.model, sheet, &rooms.map(lent))?;
+        *self.counts.trips.entry((trip.answer, trip.number)).or_default() += 1;
         Ok(())
     }
 

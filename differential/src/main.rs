@@ -15,18 +15,20 @@ mod mutants;
 mod oracle;
 mod records;
 mod refusal;
+mod trip;
 
 use std::io::{Read, Write};
 use std::process::ExitCode;
 
 use answer::{Answer, Answered};
 use call::{Call, Input, Request};
+use compare::Scope;
 use failure::Failure;
 use model::Model;
 use oracle::Rust;
 
 const USAGE: &str = "usage: juzontefa-differential answer CALL [INDEX] | model CALL [INDEX] | compare N [SEED [CALL]] | \
-    demand3 N [SEED] | mutants [N [SEED]] | record SEED | check FILE | bench [ROUNDS] | workloads FOLDER";
+    demand3 N [SEED] | mutants [N [SEED]] | record SEED | check FILE | bench [ROUNDS [CALL]] | workloads FOLDER CALL";
 
 /// Deep sheets are read by recursion in the plain reading, and dropped by recursion in the Rust.
 const STACK: usize = 256 << 20;
@@ -62,15 +64,12 @@ fn run(arguments: &[String]) -> Result<(), Failure> {
         }),
         ["model", ref rest @ ..] => answer_call(rest, out, |request, sheet| Ok(Model::new().answer(request, sheet))),
         ["compare", sheets, seed, call] => {
-            let only = call_of(call)?;
-            if !only.is_in_rust() && !library::has(only) {
-                return Err(Failure::Wrong(format!("{call} is not in the Rust, and no library with it is linked")));
-            }
-            compare::compare(&Rust::new(), number("N", sheets)?, number("SEED", seed)?, Some(only), out)
+            let scope = scope_of(call)?;
+            compare::compare(&Rust::new(), number("N", sheets)?, number("SEED", seed)?, scope, out)
         }
         ["compare", ref rest @ ..] => {
             let (sheets, seed) = number_and_seed(rest, None)?;
-            compare::compare(&Rust::new(), sheets, seed, None, out)
+            compare::compare(&Rust::new(), sheets, seed, Scope::All, out)
         }
         ["demand3", ref rest @ ..] => {
             let (fields, seed) = number_and_seed(rest, None)?;
@@ -85,9 +84,13 @@ fn run(arguments: &[String]) -> Result<(), Failure> {
             let list = std::fs::read(file).map_err(|error| Failure::Wrong(format!("{file}: {error}")))?;
             records::check(&Rust::new(), &list, out)
         }
-        ["bench"] => bench::bench(&Rust::new(), 100, out),
-        ["bench", rounds] => bench::bench(&Rust::new(), number("ROUNDS", rounds)?.max(1), out),
-        ["workloads", folder] => bench::workloads(folder),
+        ["bench"] => bench::bench(&Rust::new(), 100, None, out),
+        ["bench", rounds] => bench::bench(&Rust::new(), number("ROUNDS", rounds)?.max(1), None, out),
+        ["bench", rounds, call] => {
+            let call = timed_call(call)?;
+            bench::bench(&Rust::new(), number("ROUNDS", rounds)?.max(1), Some(call), out)
+        }
+        ["workloads", folder, call] => bench::workloads(&Rust::new(), folder, timed_call(call)?),
         _ => Err(Failure::Wrong(USAGE.to_string())),
     }
 }
@@ -131,6 +134,30 @@ fn request_of(words: &[&str]) -> Result<Request, Failure> {
 
 fn call_of(name: &str) -> Result<Call, Failure> {
     Call::named(name).ok_or_else(|| Failure::Wrong(format!("no call {name}")))
+}
+
+/// What `compare` is asked to compare, by its last word.
+fn scope_of(name: &str) -> Result<Scope, Failure> {
+    let (scope, can_be) = match name {
+        "round_trip" => (Scope::RoundTrips, library::has_round_trip()),
+        _ => {
+            let call = call_of(name)?;
+            (Scope::Only(call), call.is_in_rust() || library::has(call))
+        }
+    };
+    match can_be {
+        true => Ok(scope),
+        false => Err(Failure::Wrong(format!("{name} is not in the Rust, and no library with it is linked"))),
+    }
+}
+
+/// A call that the bench has workloads for.
+fn timed_call(name: &str) -> Result<Call, Failure> {
+    let call = call_of(name)?;
+    match bench::CALLS.contains(&call) {
+        true => Ok(call),
+        false => Err(Failure::Wrong(format!("no workloads for {name}"))),
+    }
 }
 
 fn number(what: &str, word: &str) -> Result<u64, Failure> {

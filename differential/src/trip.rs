@@ -1,0 +1,101 @@
+//! A round trip, demand 3 as one call: the export of a field sheet, the import of that, the plain form of the sheet, the
+//! export of that; then what was imported is held against the plain form, and the second export against the first.
+
+use std::fmt;
+
+use crate::answer::{Answer, Answered};
+use crate::call::{Call, Request};
+use crate::compare::{answer, smallest};
+use crate::library;
+use crate::model::Model;
+use crate::oracle::Rust;
+use crate::refusal::{Number, BUFFER_SHORT};
+
+pub const ALL_SAME: u64 = 0;
+const IMPORT_DIFFERS: u64 = 5;
+const AGAIN_DIFFERS: u64 = 6;
+
+/// The answer, as `include/juzontefa.h` numbers it: 1 to 4 for the step that was refused; the refusal's number, else 0; and
+/// every byte of the four lent buffers.
+#[derive(Debug, Clone, PartialEq, Eq)]
+pub struct Trip {
+    pub answer: u64,
+    pub number: u64,
+    pub buffers: [Vec<u8>; 4],
+}
+
+/// What the steps answer where there is room, up to the first refusal, by the Rust and, for plain form, the plain reading.
+pub fn steps(rust: &Rust, model: &Model, sheet: &[u8]) -> Vec<Answered> {
+    let mut steps: Vec<Answered> = Vec::new();
+    for (call, reads) in [(Call::Export, None), (Call::Import, Some(0)), (Call::Plain, None), (Call::Export, Some(2))] {
+        let handed = match reads.map(|step: usize| &steps[step]) {
+            Some(Ok(Answer::Sheet(earlier))) => earlier,
+            _ => sheet,
+        };
+        let answered = answer(rust, model, Request::new(call, 0), handed);
+        let refused = answered.is_err();
+        steps.push(answered);
+        if refused {
+            break;
+        }
+    }
+    steps
+}
+
+impl Trip {
+    /// The round trip whose steps answer so, with these buffers.
+    pub fn of(steps: &[Answered], lent: &[Vec<u8>; 4]) -> Trip {
+        let mut buffers = lent.clone();
+        let mut sheets: Vec<&[u8]> = Vec::new();
+        for (step, answered) in steps.iter().enumerate() {
+            match answered {
+                Ok(Answer::Sheet(sheet)) if sheet.len() <= lent[step].len() => sheets.push(sheet),
+                Err(number) => return Trip::refused(step, *number, lent),
+                _ => return Trip::refused(step, BUFFER_SHORT, lent),
+            }
+        }
+        for (buffer, sheet) in buffers.iter_mut().zip(&sheets) {
+            buffer[..sheet.len()].copy_from_slice(sheet);
+        }
+        let answer = match sheets[..] {
+            [_, imported, plain, _] if imported != plain => IMPORT_DIFFERS,
+            [exported, _, _, again] if exported != again => AGAIN_DIFFERS,
+            _ => ALL_SAME,
+        };
+        Trip { answer, number: 0, buffers }
+    }
+
+    /// Zeros in all four buffers, also in those of steps before it.
+    fn refused(step: usize, number: Number, lent: &[Vec<u8>; 4]) -> Trip {
+        Trip { answer: step as u64 + 1, number: number as u64, buffers: lent.each_ref().map(|lent| vec![0; lent.len()]) }
+    }
+}
+
+/// The round trip, if our library's is the same; else both on the smallest sheet that is found to differ.
+pub fn compared(rust: &Rust, model: &Model, sheet: &[u8], lent: &[Vec<u8>; 4]) -> Result<Trip, String> {
+    let both = |sheet: &[u8]| (Trip::of(&steps(rust, model, sheet), lent), library::round_trip(sheet, lent));
+    let (trip, ours) = both(sheet);
+    if ours.is_none_or(|ours| ours == trip) {
+        return Ok(trip);
+    }
+    let sheet = smallest(sheet.to_vec(), |sheet| {
+        let (trip, ours) = both(sheet);
+        ours != Some(trip)
+    });
+    let (trip, ours) = both(&sheet);
+    let ours = ours.map_or(String::new(), |ours| ours.to_string());
+    Err(format!("round_trip on \"{}\": {trip}, but the library {ours}", sheet.escape_ascii()))
+}
+
+impl fmt::Display for Trip {
+    fn fmt(&self, f: &mut fmt::Formatter<'_>) -> fmt::Result {
+        write!(f, "answer {}, number {}, buffers", self.answer, self.number)?;
+        for buffer in &self.buffers {
+            match buffer.iter().all(|byte| *byte == 0) {
+                true => write!(f, " {} zeros", buffer.len())?,
+                false => write!(f, " \"{}\"", buffer.escape_ascii())?,
+            }
+        }
+        Ok(())
+    }
+}
