@@ -7,7 +7,7 @@ use std::io::Write;
 use crate::answer::{Answer, Answered, Outcome};
 use crate::call::{Call, Input, Request, CALLS};
 use crate::failure::Failure;
-use crate::generator::{Generator, Kind, Random, Sheet};
+use crate::generator::{limits, Generator, Kind, Random, Sheet};
 use crate::library;
 use crate::model::Model;
 use crate::oracle::Rust;
@@ -137,6 +137,7 @@ pub fn compare(rust: &Rust, sheets: u64, seed: u64, scope: Scope, out: &mut dyn 
         let compared = comparison.compare_sheet(&mut generator.random, &sheet);
         compared.map_err(|difference| Failure::Found(format!("sheet {done}: {difference}")))?;
     }
+    comparison.compare_long_answers(&mut generator.random).map_err(Failure::Found)?;
     comparison.compare_conversions().map_err(Failure::Found)?;
     let counts = comparison.counts;
     writeln!(out, "{sheets} sheets from seed {seed}, {} answers, no difference; numbers by call:", counts.total())?;
@@ -184,6 +185,16 @@ impl Comparison<'_> {
         });
         let trip = trip::compared(self.rust, &self.model, sheet, &rooms.map(lent))?;
         *self.counts.trips.entry((trip.answer, trip.number)).or_default() += 1;
+        Ok(())
+    }
+
+    /// Answers far longer than generated sheets have, each with some buffers.
+    fn compare_long_answers(&mut self, random: &mut Random) -> Result<(), String> {
+        for sheet in limits::long_answers() {
+            for _ in 0..4 {
+                self.compare_sheet(random, &sheet)?;
+            }
+        }
         Ok(())
     }
 

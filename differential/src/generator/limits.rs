@@ -3,7 +3,7 @@
 use std::collections::BTreeSet;
 
 use super::random::Random;
-use super::{block, decimal_text, hex, join_lines, Bytes, Kind, Line};
+use super::{block, decimal_text, hex, join_lines, Bytes, Kind, Line, Sheet};
 
 fn schema_line(format: &str, name: &[u8], flags: &str, children: u64, dictionary: u8) -> Line {
     let name = if name.is_empty() { b"-".to_vec() } else { hex(name) };
@@ -138,4 +138,27 @@ pub fn huge_counts(random: &mut Random, kind: Kind) -> Vec<Line> {
         Kind::Schema => (0..lines).map(|_| schema_line("+s", b"", "0", most, random.below(2) as u8)).collect(),
         Kind::Field => (0..lines).map(|_| field_line("30 0 0 ~ ~", "- 0 ~", most)).collect(),
     }
+}
+
+/// Three sheets of 65,535 bytes with the longest answers that were found, of import, export and plain form; and a field whose
+/// export can be handed in, but its plain form cannot.
+pub fn long_answers() -> Vec<Sheet> {
+    let leaf = |name: &[u8]| schema_line("g", name, "0", 0, 0);
+    let mut import = vec![schema_line("+s", b"i", "0", 5_036, 0), leaf(b"i")];
+    import.resize(5_037, leaf(b""));
+
+    let extension =
+        |pairs: &str| [field_line("37 0 0 - -", &format!("- 0 {pairs}"), 1), field_line("6 0 0 ~ ~", "~ ~ ~", 0)];
+    let mut export = vec![field_line("41 0 0 ~ ~", "- 0 ~", 1_769)];
+    export.extend(extension("=,00=,01=,02="));
+    export.extend((1..1_769).flat_map(|_| extension("=")));
+
+    let mut plain = vec![field_line("41 0 0 ~ ~", &format!("{} 0 ~", "75".repeat(9)), 3_636)];
+    plain.resize(3_637, field_line("0 0 0 ~ ~", "- 0 ~", 0));
+
+    let mut again = vec![field_line("41 0 0 ~ ~", "- 0 ~", 1_000)];
+    again.resize(1_001, field_line("14 0 0 ~ ~", &format!("{} 0 ~", "61".repeat(22)), 0));
+
+    let sheets = [(Kind::Schema, import), (Kind::Field, export), (Kind::Field, plain), (Kind::Field, again)];
+    sheets.into_iter().map(|(kind, lines)| Sheet { kind, bytes: join_lines(kind, &lines) }).collect()
 }
