@@ -1,6 +1,6 @@
 """The recorded list (differential/ANSWERS.md), read whole. For the commands that need its records outside the driver.
 
-    python3 differential/recorded.py LIST FOLDER    writes the sheets of its import records, one file each, into FOLDER
+    python3 differential/recorded.py LIST FOLDER schema|field    writes the sheets of that kind in its records, one file each, into FOLDER
 """
 
 import collections
@@ -8,7 +8,8 @@ import pathlib
 import sys
 
 Record = collections.namedtuple("Record", "call argument room number first second input output")
-IMPORT = 0
+# The codes of the calls that read a sheet of that kind.
+READERS = {"schema": range(0, 1), "field": range(1, 11)}
 
 
 class Malformed(Exception):
@@ -44,14 +45,14 @@ def part(data, at, size):
     return bytes(meant), at + 1
 
 
-def main(path, folder):
-    sheets = {record.input for record in read(path) if record.call == IMPORT}
+def main(path, folder, kind):
+    sheets = {record.input for record in read(path) if record.call in READERS[kind]}
     for number, sheet in enumerate(sorted(sheets)):
-        pathlib.Path(folder, f"recorded{number}").write_bytes(sheet)
+        pathlib.Path(folder, f"{kind}{number}").write_bytes(sheet)
 
 
 if __name__ == "__main__":
     try:
         main(*sys.argv[1:])
-    except (OSError, ValueError, IndexError, TypeError, Malformed) as error:
+    except (OSError, ValueError, LookupError, TypeError, Malformed) as error:
         sys.exit(f"differential/recorded.py: {error}")

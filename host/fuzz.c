@@ -1,7 +1,7 @@
-/* A fuzzer's entry: any bytes are put to `juzontefa_import`. The sheet ends and the buffer ends where a page that cannot be touched begins, so
- * that a read or a write past either ends the run; the promises of the header are tested. `host/fuzz` links it with libFuzzer's main and the
- * library's code with coverage counters. */
-#define _DEFAULT_SOURCE
+/* A fuzzer's entry: any bytes are put to `juzontefa_import` or, compiled with READS_field, to the calls that read a field sheet. The sheet ends and
+ * each buffer ends where a page that cannot be touched begins, so that a read or a write past either ends the run; the promises of the header are
+ * tested. `host/fuzz` links it with libFuzzer's main and the library's code with coverage counters. */
+#define _GNU_SOURCE
 #include <stdint.h>
 #include <stdlib.h>
 #include <string.h>
@@ -10,50 +10,142 @@
 #include "../include/juzontefa.h"
 
 #define SHEET (1u << 17)
-#define ROOM (1u << 17)
+#define ROOM (1u << 20)
 #define PAGE 4096u
+#define UNTOUCHED 0xa5
 
-/* `size` bytes with a page behind them that cannot be touched. */
+typedef struct juzontefa_answer call(const uint8_t *sheet, size_t sheet_len, uint8_t *out, size_t out_len);
+
+/* Where the bytes end that a sheet and five buffers can have. */
+static uint8_t *sheet_end, *end[5];
+
+/* The end of `size` bytes with a page behind them that cannot be touched. */
 static uint8_t *fenced(size_t size) {
     uint8_t *area = mmap(NULL, size + PAGE, PROT_READ | PROT_WRITE, MAP_PRIVATE | MAP_ANONYMOUS, -1, 0);
     if (area == MAP_FAILED || mprotect(area + size, PAGE, PROT_NONE) != 0) abort();
-    return area;
+    return area + size;
 }
 
 static void require(int holds) {
     if (!holds) abort();
 }
 
-/* One call with a buffer of `room` bytes: the answer, held against the header. */
-static struct juzontefa_answer call(const uint8_t *sheet, size_t size, uint8_t *end, size_t room) {
-    uint8_t *out = end - room;
-    memset(out, 0xa5, room);
-    struct juzontefa_answer answer = juzontefa_import(sheet, size, out, room);
-    require(answer.number <= 16 && (answer.number < 12 || answer.number == 16));
-    if (answer.number != 0) require(answer.length == 0);
-    else require(answer.length <= room);
-    uint8_t rest = answer.number != 0 ? 0 : 0xa5;
-    for (size_t i = answer.length; i < room; i++) require(out[i] == rest);
+static void all(const uint8_t *from, const uint8_t *to, uint8_t byte) {
+    for (; from < to; from++) require(*from == byte);
+}
+
+/* One call with a buffer of `room` bytes: the answer, one of the call's numbers (a bit for each), held against the header. */
+static struct juzontefa_answer ask(call *call, uint32_t numbers, const uint8_t *sheet, size_t size, size_t room) {
+    uint8_t *out = end[4] - room;
+    memset(out, UNTOUCHED, room);
+    struct juzontefa_answer answer = call(sheet, size, out, room);
+    require(answer.number <= 16 && (numbers >> answer.number & 1));
+    require(answer.number != 0 ? answer.length == 0 : answer.length <= room);
+    all(out + answer.length, end[4], answer.number != 0 ? 0 : UNTOUCHED);
     return answer;
 }
 
+/* A call with a buffer that holds any answer, with the exact one, with one that is a byte short, and with none. */
+static struct juzontefa_answer ask_all(call *call, uint32_t numbers, const uint8_t *sheet, size_t size, size_t room) {
+    struct juzontefa_answer answer = ask(call, numbers, sheet, size, room < ROOM ? room : ROOM);
+    require(answer.number != 16);
+    if (answer.number == 0) {
+        require(ask(call, numbers, sheet, size, answer.length).length == answer.length);
+        require(ask(call, numbers, sheet, size, answer.length - 1).number == 16);
+    }
+    require(ask(call, numbers, sheet, size, 0).number == (answer.number == 0 ? 16 : answer.number));
+    return answer;
+}
+
+#ifndef READS_field
+
+static void calls(const uint8_t *sheet, size_t size) {
+    /* An answer is never twice as long as its sheet. */
+    ask_all(juzontefa_import, 0x10fff, sheet, size, 2 * size + 256);
+}
+
+#else
+
+#define EXPORTS 0x1700f
+#define PLAINS 0x1000f
+
+/* A round trip with these rooms; on refusal all four buffers are zeros. */
+static struct juzontefa_trip travel(const uint8_t *sheet, size_t size, const size_t room[4]) {
+    uint8_t *out[4];
+    for (int i = 0; i < 4; i++) out[i] = memset(end[i] - room[i], UNTOUCHED, room[i]);
+    struct juzontefa_trip trip = juzontefa_round_trip(sheet, size, out[0], room[0], out[1], room[1], out[2], room[2], out[3], room[3]);
+    require(trip.answer <= JUZONTEFA_AGAIN_DIFFERS);
+    int refused = trip.answer >= JUZONTEFA_EXPORT_REFUSED && trip.answer <= JUZONTEFA_AGAIN_REFUSED;
+    require(refused ? trip.number >= 1 && trip.number <= 16 : trip.number == 0);
+    for (int i = 0; refused && i < 4; i++) all(out[i], end[i], 0);
+    return trip;
+}
+
+/* The buffer of a step holds what the call answers by itself, and is untouched past it; the length. */
+static size_t holds(int step, size_t room, call *call, uint32_t numbers, const uint8_t *sheet, size_t size) {
+    uint8_t *out = end[step] - room;
+    struct juzontefa_answer answer = ask(call, numbers, sheet, size, room);
+    require(answer.number == 0 && memcmp(out, end[4] - room, answer.length) == 0);
+    all(out + answer.length, end[step], UNTOUCHED);
+    return answer.length;
+}
+
+/* Whether a reserved key or a dictionary's index of 128 bits may be in the sheet. */
+static int is_apart(const uint8_t *sheet, size_t size) {
+    static const char *const marks[] = { "4152524f573a657874656e73696f6e3a", "\n32 4 ", "\n32 9 " };
+    for (int i = 0; i < 3; i++)
+        if (memmem(sheet, size, marks[i], strlen(marks[i]))) return 1;
+    return 0;
+}
+
+static void trips(const uint8_t *sheet, size_t size, struct juzontefa_answer exported, struct juzontefa_answer plain) {
+    size_t x = exported.length, p = plain.length;
+    size_t room[4] = { x + 16, 2 * size + 256, p + 16, x + 16 };
+    struct juzontefa_trip trip = travel(sheet, size, room);
+    if (exported.number != 0) {
+        require(trip.answer == JUZONTEFA_EXPORT_REFUSED && trip.number == exported.number);
+        return;
+    }
+    require(trip.answer != JUZONTEFA_EXPORT_REFUSED && trip.answer != JUZONTEFA_PLAIN_REFUSED);
+    if (trip.answer == JUZONTEFA_IMPORT_REFUSED || trip.answer == JUZONTEFA_AGAIN_REFUSED) return;
+    require(holds(0, room[0], juzontefa_export, EXPORTS, sheet, size) == x);
+    size_t imported = holds(1, room[1], juzontefa_import, 1, end[0] - room[0], x);
+    require(holds(2, room[2], juzontefa_plain_form, PLAINS, sheet, size) == p);
+    size_t again = holds(3, room[3], juzontefa_export, EXPORTS, end[2] - room[2], p);
+    int same = imported == p && memcmp(end[1] - room[1], end[2] - room[2], p) == 0;
+    int same_again = again == x && memcmp(end[3] - room[3], end[0] - room[0], x) == 0;
+    require(trip.answer == (!same ? JUZONTEFA_IMPORT_DIFFERS : !same_again ? JUZONTEFA_AGAIN_DIFFERS : JUZONTEFA_ALL_SAME));
+    require(trip.answer == JUZONTEFA_ALL_SAME || is_apart(sheet, size));
+
+    /* the exact buffers, then one of them a byte short */
+    size_t exact[4] = { x, imported, p, again };
+    require(travel(sheet, size, exact).answer == trip.answer);
+    size_t step = size % 4;
+    exact[step]--;
+    trip = travel(sheet, size, exact);
+    require(trip.answer == JUZONTEFA_EXPORT_REFUSED + step && trip.number == 16);
+}
+
+static void calls(const uint8_t *sheet, size_t size) {
+    /* An export is never eight times as long as its sheet, a plain form never twice. */
+    struct juzontefa_answer exported = ask_all(juzontefa_export, EXPORTS, sheet, size, 8 * size + 256);
+    struct juzontefa_answer plain = ask_all(juzontefa_plain_form, PLAINS, sheet, size, 2 * size + 256);
+    if (exported.number <= 3) require(exported.number == plain.number);
+    else require(plain.number == 0);
+    trips(sheet, size, exported, plain);
+}
+
+#endif
+
 int LLVMFuzzerTestOneInput(const uint8_t *data, size_t size) {
-    static uint8_t *sheets, *rooms;
-    if (sheets == NULL) {
-        sheets = fenced(SHEET);
-        rooms = fenced(ROOM);
+    if (sheet_end == NULL) {
+        sheet_end = fenced(SHEET);
+        for (int i = 0; i < 5; i++) end[i] = fenced(ROOM);
     }
     if (size > SHEET) return 0;
-    uint8_t *sheet = sheets + SHEET - size;
+    uint8_t *sheet = sheet_end - size;
     memcpy(sheet, data, size);
-    /* An answer is never twice as long as its sheet. */
-    struct juzontefa_answer all = call(sheet, size, rooms + ROOM, 2 * size + 256 < ROOM ? 2 * size + 256 : ROOM);
-    require(all.number != 16);
-    if (all.number == 0) {
-        require(call(sheet, size, rooms + ROOM, all.length).length == all.length);
-        require(call(sheet, size, rooms + ROOM, all.length - 1).number == 16);
-    }
-    require(call(sheet, size, rooms + ROOM, 0).number == (all.number == 0 ? 16 : all.number));
+    calls(sheet, size);
     require(memcmp(sheet, data, size) == 0);
     return 0;
 }

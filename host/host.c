@@ -1,5 +1,6 @@
-/* A C host: walks ArrowSchema structs into schema sheets, imports them, and tries broken, empty and oversized input.
- * Prints the field sheets and a count; the status is 0 only if every answer was the expected one. */
+/* A C host: walks ArrowSchema structs into schema sheets, imports them and exports what comes; makes field sheets plain, takes them out and back;
+ * and tries broken, empty and oversized input on every call. Prints the field sheets and a count; the status is 0 only if every answer was the
+ * expected one. */
 #include <stdio.h>
 #include <stdlib.h>
 #include <string.h>
@@ -7,41 +8,66 @@
 #include "../include/juzontefa.h"
 #include "walk.h"
 
-static uint8_t sheet[70000];
-static uint8_t out[98304];
+#define SCHEMA "format name flags metadata children dictionary\n"
+#define FIELD "kind p q text more name nullable pairs children\n"
+#define LONGEST 65535
+#define ROOM (1u << 19)
+
+typedef struct juzontefa_answer call(const uint8_t *sheet, size_t sheet_len, uint8_t *out, size_t out_len);
+
+static uint8_t sheet[70000], before[70000];
+static char expected[ROOM];
+static uint8_t out[ROOM];
 static int tried, wrong;
 
-/* Number and length as expected; zeros on refusal; what stands past the length as it was; the input as it was. */
-static void expect(const char *what, const uint8_t *in, size_t in_len, size_t room, uint64_t number, const char *answer)
+static void count(int ok, const char *what, uint64_t first, uint64_t second)
 {
-    static uint8_t before[70000];
-    memcpy(before, in ? in : sheet, in_len);
-    memset(out, 7, sizeof out);
-    struct juzontefa_answer a = juzontefa_import(in, in_len, room ? out : NULL, room);
-    size_t length = answer ? strlen(answer) : 0;
-    int ok = a.number == number && a.length == length;
-    ok = ok && (number != 0 || length == 0 || memcmp(out, answer, length) == 0);
-    for (size_t i = (number == 0 ? length : 0); ok && i < room; i++)
-        ok = out[i] == (number == 0 ? 7 : 0);
-    for (size_t i = room; ok && i < sizeof out; i++)
-        ok = out[i] == 7;
-    ok = ok && (in_len == 0 || memcmp(before, in, in_len) == 0);
     tried++;
     if (!ok) {
         wrong++;
-        printf("wrong: %s: number %llu, length %llu\n", what, (unsigned long long)a.number, (unsigned long long)a.length);
+        printf("wrong: %s: %llu, %llu\n", what, (unsigned long long)first, (unsigned long long)second);
     }
 }
 
-#define FIELD_HEADING "kind p q text more name nullable pairs children\n"
+/* `room` bytes of a buffer of ROOM sevens after a call: the answer and sevens, or zeros where there is none; and sevens past the room. */
+static int holds(const uint8_t *buffer, size_t room, const char *answer)
+{
+    size_t length = answer ? strlen(answer) : 0;
+    int ok = length <= room && memcmp(buffer, answer ? answer : "", length) == 0;
+    for (size_t i = length; ok && i < ROOM; i++)
+        ok = buffer[i] == (answer || i >= room ? 7 : 0);
+    return ok;
+}
+
+/* Number and length as expected; zeros on refusal; what stands past the length as it was; the input as it was. */
+static void expect(call *call, const char *what, const uint8_t *in, size_t in_len, size_t room, uint64_t number, const char *answer)
+{
+    memcpy(before, in ? in : sheet, in_len);
+    memset(out, 7, sizeof out);
+    struct juzontefa_answer a = call(in, in_len, room ? out : NULL, room);
+    int ok = a.number == number && a.length == (answer ? strlen(answer) : 0) && holds(out, room, answer);
+    count(ok && (in_len == 0 || memcmp(before, in, in_len) == 0), what, a.number, a.length);
+}
+
+static void text(call *call, const char *what, const char *in, uint64_t number)
+{
+    expect(call, what, (const uint8_t *)in, strlen(in), ROOM, number, NULL);
+}
+
+/* A sheet that is answered, with all kinds of buffers. */
+static void answered(call *call, const char *what, const uint8_t *in, size_t in_len, const char *answer)
+{
+    expect(call, what, in, in_len, ROOM, 0, answer);
+    expect(call, "the exact buffer", in, in_len, strlen(answer), 0, answer);
+    expect(call, "one byte short", in, in_len, strlen(answer) - 1, 16, NULL);
+    expect(call, "no buffer", in, in_len, 0, 16, NULL);
+}
+
+/* ── import, over real structs */
 
 static void import_struct(const char *what, const struct ArrowSchema *schema, const char *answer)
 {
-    size_t length = schema_sheet(schema, sheet, sizeof sheet);
-    expect(what, sheet, length, sizeof out, 0, answer);
-    expect("the exact buffer", sheet, length, strlen(answer), 0, answer);
-    expect("one byte short", sheet, length, strlen(answer) - 1, 16, NULL);
-    expect("no buffer", sheet, length, 0, 16, NULL);
+    answered(juzontefa_import, what, sheet, schema_sheet(schema, sheet, sizeof sheet), answer);
     printf("%s\n%s", what, answer);
 }
 
@@ -50,73 +76,235 @@ static void structs(void)
     struct ArrowSchema item = { .format = "g", .name = "item" };
     struct ArrowSchema *items[] = { &item };
     struct ArrowSchema peak = { .format = "+l", .name = "peak", .flags = ARROW_FLAG_NULLABLE, .n_children = 1, .children = items };
-    import_struct("a list of peaks", &peak, FIELD_HEADING "27 0 0 ~ ~ 7065616b 1 ~ 1\n14 0 0 ~ ~ 6974656d 0 ~ 0\n");
+    const char *peaks = FIELD "27 0 0 ~ ~ 7065616b 1 ~ 1\n14 0 0 ~ ~ 6974656d 0 ~ 0\n";
+    import_struct("a list of peaks", &peak, peaks);
+    sheet[schema_sheet(&peak, sheet, sizeof sheet)] = 0;
+    answered(juzontefa_export, "export of the list", (const uint8_t *)peaks, strlen(peaks), strcpy(expected, (const char *)sheet));
 
     /* two pairs of one key: the last wins */
     static const char pairs[] = "\2\0\0\0" "\1\0\0\0" "m" "\1\0\0\0" "1" "\1\0\0\0" "m" "\1\0\0\0" "2";
     struct ArrowSchema values = { .format = "u", .name = "", .flags = ARROW_FLAG_NULLABLE };
     struct ArrowSchema trace = { .format = "i", .name = "trace", .metadata = pairs, .flags = ARROW_FLAG_DICTIONARY_ORDERED, .dictionary = &values };
-    import_struct("a dictionary", &trace, FIELD_HEADING "32 2 1 ~ ~ 7472616365 0 6d=32 1\n25 0 0 ~ ~ ~ ~ ~ 0\n");
+    import_struct("a dictionary", &trace, FIELD "32 2 1 ~ ~ 7472616365 0 6d=32 1\n25 0 0 ~ ~ ~ ~ ~ 0\n");
 
     struct ArrowSchema *both[] = { &peak, &trace };
     struct ArrowSchema sweep = { .format = "+s", .name = NULL, .n_children = 2, .children = both };
-    import_struct("a struct without a name", &sweep, FIELD_HEADING "30 0 0 ~ ~ - 0 ~ 2\n27 0 0 ~ ~ 7065616b 1 ~ 1\n14 0 0 ~ ~ 6974656d 0 ~ 0\n32 2 1 ~ ~ 7472616365 0 6d=32 1\n25 0 0 ~ ~ ~ ~ ~ 0\n");
+    import_struct("a struct without a name", &sweep,
+                  FIELD "30 0 0 ~ ~ - 0 ~ 2\n27 0 0 ~ ~ 7065616b 1 ~ 1\n14 0 0 ~ ~ 6974656d 0 ~ 0\n32 2 1 ~ ~ 7472616365 0 6d=32 1\n25 0 0 ~ ~ ~ ~ ~ 0\n");
 
     struct ArrowSchema nothing = { .format = NULL, .name = "x" };
-    expect("a null format", sheet, schema_sheet(&nothing, sheet, sizeof sheet), sizeof out, 4, NULL);
+    expect(juzontefa_import, "a null format", sheet, schema_sheet(&nothing, sheet, sizeof sheet), ROOM, 4, NULL);
 }
 
-#define HEADING "format name flags metadata children dictionary\n"
-
-static void text(const char *what, const char *in, uint64_t number)
+static void broken_schemas(void)
 {
-    expect(what, (const uint8_t *)in, strlen(in), sizeof out, number, NULL);
+    text(juzontefa_import, "not UTF-8", SCHEMA "ff - 0 ~ 0 0\n", 5);
+    text(juzontefa_import, "unsupported", SCHEMA "78 - 0 ~ 0 0\n", 6);
+    text(juzontefa_import, "a bad size", SCHEMA "773a7a - 0 ~ 0 0\n", 7);
+    text(juzontefa_import, "a bad decimal", SCHEMA "643a35 - 0 ~ 0 0\n", 8);
+    text(juzontefa_import, "a bad index", SCHEMA "67 - 0 ~ 0 1\n67 - 0 ~ 0 0\n", 9);
+    text(juzontefa_import, "no child", SCHEMA "2b6c - 0 ~ 0 0\n", 10);
+    text(juzontefa_import, "metadata cut short", SCHEMA "67 - 0 0100 0 0\n", 11);
 }
 
-static void broken(void)
+/* ── what every call refuses */
+
+/* `heading` ends in byte 10; `line` has one child. */
+static void broken_sheets(call *call, const char *heading, const char *line, const char *leaf)
 {
-    expect("null and empty", NULL, 0, sizeof out, 1, NULL);
-    text("no byte 10", "format name flags metadata children dictionary", 1);
-    text("another heading", "format name flags metadata children dictionarY\n67 - 0 ~ 0 0\n", 1);
-    text("no line", HEADING, 2);
-    text("a broken line", HEADING "67 - 0 ~ 0\n", 2);
-    text("not UTF-8", HEADING "ff - 0 ~ 0 0\n", 5);
-    text("unsupported", HEADING "78 - 0 ~ 0 0\n", 6);
-    text("a bad size", HEADING "773a7a - 0 ~ 0 0\n", 7);
-    text("a bad decimal", HEADING "643a35 - 0 ~ 0 0\n", 8);
-    text("a bad index", HEADING "67 - 0 ~ 0 1\n67 - 0 ~ 0 0\n", 9);
-    text("no child", HEADING "2b6c - 0 ~ 0 0\n", 10);
-    text("metadata cut short", HEADING "67 - 0 0100 0 0\n", 11);
+    size_t length = strlen(heading);
+    expect(call, "null and empty", NULL, 0, ROOM, 1, NULL);
+    expect(call, "null, empty and no buffer", NULL, 0, 0, 1, NULL);
+    expect(call, "no byte 10", (const uint8_t *)heading, length - 1, ROOM, 1, NULL);
+    text(call, "another heading", "kind p q\n", 1);
+    text(call, "the other heading", strcmp(heading, FIELD) == 0 ? SCHEMA : FIELD, 1);
+    text(call, "no line", heading, 2);
+    snprintf((char *)sheet, sizeof sheet, "%s%s", heading, line);
+    text(call, "a missing line", (char *)sheet, 2);
+    expect(call, "a line cut short", sheet, strlen((char *)sheet) - 1, ROOM, 2, NULL);
+    snprintf((char *)sheet, sizeof sheet, "%s%s%s", heading, leaf, leaf);
+    text(call, "a line left over", (char *)sheet, 2);
 
     memset(sheet, 'x', sizeof sheet);
-    expect("oversized", sheet, 65536, sizeof out, 1, NULL);
-    expect("oversized, with no buffer", sheet, sizeof sheet, 0, 1, NULL);
+    expect(call, "oversized", sheet, LONGEST + 1, ROOM, 1, NULL);
+    expect(call, "oversized, with no buffer", sheet, sizeof sheet, 0, 1, NULL);
 
-    size_t at = (size_t)snprintf((char *)sheet, sizeof sheet, HEADING);
-    for (int level = 0; level < 32; level++)
-        at += (size_t)snprintf((char *)sheet + at, sizeof sheet - at, "2b6c 70 2 ~ 1 0\n");
-    at += (size_t)snprintf((char *)sheet + at, sizeof sheet - at, "67 69 0 ~ 0 0\n");
-    expect("33 levels", sheet, at, sizeof out, 3, NULL);
+    memcpy(sheet, heading, length);
+    for (int level = 0; level < 32; level++, length += strlen(line))
+        memcpy(sheet + length, line, strlen(line));
+    memcpy(sheet + length, leaf, strlen(leaf));
+    expect(call, "33 levels", sheet, length + strlen(leaf), ROOM, 3, NULL);
 }
 
-/* The longest answer that was found for 65,535 bytes. */
-static void longest(void)
+/* ── export, plain form and round trips of field sheets */
+
+#define NAMED "01000000140000004152524f573a657874656e73696f6e3a6e616d650100000078" /* ARROW:extension:name = x */
+
+static const struct {
+    const char *what, *field, *exported, *plain;
+} fields[] = {
+    { "one leaf", FIELD "14 0 0 ~ ~ 7065616b 1 ~ 0\n", SCHEMA "67 7065616b 2 ~ 0 0\n", FIELD "14 0 0 ~ ~ 7065616b 1 ~ 0\n" },
+    { "a struct of two equal lists of peaks",
+      FIELD "30 0 0 ~ ~ 73 0 ~ 2\n27 0 0 ~ ~ 7065616b 1 ~ 1\n14 0 0 ~ ~ 6974656d 0 ~ 0\n27 0 0 ~ ~ 7065616b 1 ~ 1\n14 0 0 ~ ~ 6974656d 0 ~ 0\n",
+      SCHEMA "2b73 73 0 ~ 2 0\n2b6c 7065616b 2 ~ 1 0\n67 6974656d 0 ~ 0 0\n2b6c 7065616b 2 ~ 1 0\n67 6974656d 0 ~ 0 0\n",
+      FIELD "30 0 0 ~ ~ 73 0 ~ 2\n27 0 0 ~ ~ 7065616b 1 ~ 1\n14 0 0 ~ ~ 6974656d 0 ~ 0\n27 0 0 ~ ~ 7065616b 1 ~ 1\n14 0 0 ~ ~ 6974656d 0 ~ 0\n" },
+    { "a dictionary", FIELD "32 2 1 ~ ~ 7472616365 0 6d=32 1\n25 0 0 ~ ~ ~ ~ ~ 0\n",
+      SCHEMA "69 7472616365 1 01000000010000006d0100000032 0 1\n75 - 2 ~ 0 0\n", FIELD "32 2 1 ~ ~ 7472616365 0 6d=32 1\n25 0 0 ~ ~ ~ ~ ~ 0\n" },
+    { "a dictionary under an extension", FIELD "37 0 0 78 ~ 70 1 ~ 1\n32 2 1 ~ ~ ~ ~ ~ 1\n25 0 0 ~ ~ ~ ~ ~ 0\n", SCHEMA "69 70 2 " NAMED " 0 0\n",
+      FIELD "37 0 0 78 ~ 70 1 ~ 1\n4 0 0 ~ ~ ~ ~ ~ 0\n" },
+    { "nested extensions", FIELD "37 0 0 78 ~ 70 1 - 1\n37 0 0 79 7a ~ ~ ~ 1\n25 0 0 ~ ~ ~ ~ ~ 0\n", SCHEMA "75 70 2 " NAMED " 0 0\n",
+      FIELD "37 0 0 78 ~ 70 1 ~ 1\n25 0 0 ~ ~ ~ ~ ~ 0\n" },
+    { "a union without ids", FIELD "41 0 0 ~ ~ 75 0 ~ 2\n14 0 0 ~ ~ 61 1 - 0\n15 0 0 - ~ 62 0 ~ 0\n",
+      SCHEMA "2b75643a302c31 75 0 ~ 2 0\n67 61 2 ~ 0 0\n7473733a 62 0 ~ 0 0\n",
+      FIELD "41 0 0 0,1 ~ 75 0 ~ 2\n14 0 0 ~ ~ 61 1 ~ 0\n15 0 0 ~ ~ 62 0 ~ 0\n" },
+    { "a map with sorted keys", FIELD "31 1 0 ~ ~ 70 1 6d=31,6e= 1\n30 0 0 ~ ~ 65 0 ~ 2\n25 0 0 ~ ~ 6b 0 ~ 0\n4 0 0 ~ ~ 76 1 ~ 0\n",
+      SCHEMA "2b6d 70 6 02000000010000006d0100000031010000006e00000000 1 0\n2b73 65 0 ~ 2 0\n75 6b 0 ~ 0 0\n69 76 2 ~ 0 0\n",
+      FIELD "31 1 0 ~ ~ 70 1 6d=31,6e= 1\n30 0 0 ~ ~ 65 0 ~ 2\n25 0 0 ~ ~ 6b 0 ~ 0\n4 0 0 ~ ~ 76 1 ~ 0\n" },
+};
+
+/* What only export refuses; its plain form is the field itself. */
+static const struct {
+    const char *what, *field;
+    uint64_t number;
+} owners[] = {
+    { "no format", FIELD "18 2 0 ~ ~ 70 1 ~ 0\n", 12 },
+    { "a union with no ids listed", FIELD "41 0 0 - ~ 70 1 ~ 0\n", 13 },
+    { "byte 00 in a name", FIELD "4 0 0 ~ ~ 00 1 ~ 0\n", 14 },
+};
+
+/* A round trip of a sheet into buffers of these rooms: the answer, the number, and the four sheets, or zeros where there are none. */
+static void expect_trip(const char *what, const char *in, const size_t room[4], uint64_t answer, uint64_t number, const char *const sheets[4])
 {
-    static char answer[98304];
-    size_t in = (size_t)sprintf((char *)sheet, HEADING "2b73 - 0 ~ 5036 0\n");
-    size_t to = (size_t)sprintf(answer, FIELD_HEADING "30 0 0 ~ ~ - 0 ~ 5036\n");
-    for (int leaf = 0; leaf < 5036; leaf++) {
-        in += (size_t)sprintf((char *)sheet + in, "67 - 0 ~ 0 0\n");
-        to += (size_t)sprintf(answer + to, "14 0 0 ~ ~ - 0 ~ 0\n");
+    static uint8_t buffer[4][ROOM];
+    size_t length = in ? strlen(in) : 0;
+    uint8_t *lent[4];
+    for (int i = 0; i < 4; i++)
+        lent[i] = room[i] ? memset(buffer[i], 7, ROOM) : NULL;
+    memcpy(before, in ? in : "", length);
+    const uint8_t *from = (const uint8_t *)in;
+    struct juzontefa_trip t = juzontefa_round_trip(from, length, lent[0], room[0], lent[1], room[1], lent[2], room[2], lent[3], room[3]);
+    int ok = t.answer == answer && t.number == number && (length == 0 || memcmp(before, in, length) == 0);
+    for (int i = 0; ok && i < 4; i++)
+        ok = !lent[i] || holds(buffer[i], room[i], sheets ? sheets[i] : NULL);
+    count(ok, what, t.answer, t.number);
+}
+
+static const size_t wide[4] = { ROOM, ROOM, ROOM, ROOM }, none[4] = { 0, 0, 0, 0 };
+
+static void field_sheets(void)
+{
+    for (size_t i = 0; i < sizeof fields / sizeof *fields; i++) {
+        const char *field = fields[i].field, *x = fields[i].exported, *p = fields[i].plain;
+        answered(juzontefa_export, fields[i].what, (const uint8_t *)field, strlen(field), x);
+        answered(juzontefa_plain_form, fields[i].what, (const uint8_t *)field, strlen(field), p);
+
+        const char *const sheets[4] = { x, p, p, x };
+        const size_t exact[4] = { strlen(x), strlen(p), strlen(p), strlen(x) };
+        expect_trip(fields[i].what, field, wide, JUZONTEFA_ALL_SAME, 0, sheets);
+        expect_trip("the exact buffers", field, exact, JUZONTEFA_ALL_SAME, 0, sheets);
+        expect_trip("no buffers", field, none, JUZONTEFA_EXPORT_REFUSED, 16, NULL);
+        for (int step = 0; step < 4; step++) {
+            size_t room[4];
+            memcpy(room, exact, sizeof room);
+            room[step]--;
+            expect_trip("one buffer a byte short", field, room, JUZONTEFA_EXPORT_REFUSED + step, 16, NULL);
+            room[step] = 0;
+            expect_trip("one buffer missing", field, room, JUZONTEFA_EXPORT_REFUSED + step, 16, NULL);
+        }
     }
-    expect("the longest answer", sheet, in, 95754, 0, answer);
+    for (size_t i = 0; i < sizeof owners / sizeof *owners; i++) {
+        const char *field = owners[i].field;
+        text(juzontefa_export, owners[i].what, field, owners[i].number);
+        expect(juzontefa_export, owners[i].what, (const uint8_t *)field, strlen(field), 0, owners[i].number, NULL);
+        answered(juzontefa_plain_form, owners[i].what, (const uint8_t *)field, strlen(field), field);
+        expect_trip(owners[i].what, field, wide, JUZONTEFA_EXPORT_REFUSED, owners[i].number, NULL);
+    }
+}
+
+/* The sheet of `line`, and `leaf` so many times. */
+static size_t many(char *to, const char *line, int times, const char *leaf)
+{
+    size_t length = (size_t)sprintf(to, "%s", line);
+    for (; times > 0; times--)
+        length += (size_t)sprintf(to + length, "%s", leaf);
+    return length;
+}
+
+/* The other answers of a round trip. That the second export differs is not to be had: a plain form is exported as its field is. */
+static void other_trips(void)
+{
+    expect_trip("null and empty", NULL, wide, JUZONTEFA_EXPORT_REFUSED, 1, NULL);
+    expect_trip("null, empty and no buffers", NULL, none, JUZONTEFA_EXPORT_REFUSED, 1, NULL);
+    expect_trip("no line", FIELD, wide, JUZONTEFA_EXPORT_REFUSED, 2, NULL);
+    many((char *)sheet, FIELD, 32, "27 0 0 ~ ~ 70 1 ~ 1\n");
+    strcat((char *)sheet, "14 0 0 ~ ~ 69 0 ~ 0\n");
+    expect_trip("33 levels", (char *)sheet, wide, JUZONTEFA_EXPORT_REFUSED, 3, NULL);
+    expect_trip("an index of 128 bits", FIELD "32 4 0 ~ ~ 70 1 ~ 1\n25 0 0 ~ ~ ~ ~ ~ 0\n", wide, JUZONTEFA_IMPORT_REFUSED, 9, NULL);
+    many((char *)sheet, FIELD "30 0 0 ~ ~ - 0 ~ 700\n", 700, "37 0 0 - - - 0 ~ 1\n6 0 0 ~ ~ ~ ~ ~ 0\n");
+    expect_trip("an export too long to hand in", (char *)sheet, wide, JUZONTEFA_IMPORT_REFUSED, 1, NULL);
+    many((char *)sheet, FIELD "41 0 0 ~ ~ - 0 ~ 1000\n", 1000, "14 0 0 ~ ~ 61616161616161616161616161616161616161616161 0 ~ 0\n");
+    expect_trip("a plain form too long to hand in", (char *)sheet, wide, JUZONTEFA_AGAIN_REFUSED, 1, NULL);
+
+#define KEY "4152524f573a657874656e73696f6e3a6e616d65=78" /* ARROW:extension:name=x as a pair of the field's own */
+    static const char *const kept[4] = { SCHEMA "69 70 2 " NAMED " 0 0\n", FIELD "37 0 0 78 ~ 70 1 ~ 1\n4 0 0 ~ ~ ~ ~ ~ 0\n",
+                                         FIELD "4 0 0 ~ ~ 70 1 " KEY " 0\n", SCHEMA "69 70 2 " NAMED " 0 0\n" };
+    expect_trip("a reserved key", FIELD "4 0 0 ~ ~ 70 1 " KEY " 0\n", wide, JUZONTEFA_IMPORT_DIFFERS, 0, kept);
+}
+
+/* ── the longest answers that were found, for 65,535 bytes each */
+
+static void longest(call *call, const char *what, size_t in, size_t to, size_t found)
+{
+    count(in == LONGEST && to == found, what, in, to);
+    expect(call, what, sheet, in, found, 0, expected);
+}
+
+static size_t ids(char *to, int count, const char *each)
+{
+    size_t length = 0;
+    for (int id = 0; id < count; id++) {
+        char text[16];
+        snprintf(text, sizeof text, id ? ",%d" : "%d", id);
+        for (const char *c = text; *c; c++)
+            length += (size_t)sprintf(to + length, each, *c);
+    }
+    return length;
+}
+
+static void longest_answers(void)
+{
+    char *s = (char *)sheet;
+    size_t in = many(s, SCHEMA "2b73 69 0 ~ 5036 0\n67 69 0 ~ 0 0\n", 5035, "67 - 0 ~ 0 0\n");
+    size_t to = many(expected, FIELD "30 0 0 ~ ~ 69 0 ~ 5036\n14 0 0 ~ ~ 69 0 ~ 0\n", 5035, "14 0 0 ~ ~ - 0 ~ 0\n");
+    longest(juzontefa_import, "the longest answer of import", in, to, 95756);
+
+    in = many(s, FIELD "41 0 0 ~ ~ - 0 ~ 1769\n37 0 0 - - - 0 =,00=,01=,02= 1\n6 0 0 ~ ~ ~ ~ ~ 0\n", 1768, "37 0 0 - - - 0 = 1\n6 0 0 ~ ~ ~ ~ ~ 0\n");
+    to = (size_t)sprintf(expected, SCHEMA "2b75643a");
+    to += ids(expected + to, 1769, "%02x");
+    /* a block of metadata: a count, the field's own pairs, then the extension's metadata and name */
+#define EXTENSION "180000004152524f573a657874656e73696f6e3a6d6574616461746100000000140000004152524f573a657874656e73696f6e3a6e616d6500000000"
+#define KEYS "010000000000000000" "010000000100000000" "010000000200000000"
+    to += many(expected + to, " - 0 ~ 1769 0\n5f706c69313238 - 0 060000000000000000000000" KEYS EXTENSION " 0 0\n", 1768,
+               "5f706c69313238 - 0 030000000000000000000000" EXTENSION " 0 0\n");
+    longest(juzontefa_export, "the longest answer of export", in, to, 312783);
+
+    in = many(s, FIELD "41 0 0 ~ ~ 6c6f6e67207965732e 0 ~ 3636\n", 3636, "0 0 0 ~ ~ - 0 ~ 0\n");
+    to = (size_t)sprintf(expected, FIELD "41 0 0 ");
+    to += ids(expected + to, 3636, "%c");
+    to += many(expected + to, " ~ 6c6f6e67207965732e 0 ~ 3636\n", 3636, "0 0 0 ~ ~ - 0 ~ 0\n");
+    longest(juzontefa_plain_form, "the longest answer of plain form", in, to, 82603);
 }
 
 int main(void)
 {
     structs();
-    broken();
-    longest();
+    broken_schemas();
+    broken_sheets(juzontefa_import, SCHEMA, "2b6c 70 2 ~ 1 0\n", "67 69 0 ~ 0 0\n");
+    broken_sheets(juzontefa_export, FIELD, "27 0 0 ~ ~ 70 1 ~ 1\n", "14 0 0 ~ ~ 69 0 ~ 0\n");
+    broken_sheets(juzontefa_plain_form, FIELD, "27 0 0 ~ ~ 70 1 ~ 1\n", "14 0 0 ~ ~ 69 0 ~ 0\n");
+    field_sheets();
+    other_trips();
+    longest_answers();
     printf("C host: %d tried, %d wrong\n", tried, wrong);
     return wrong == 0 ? EXIT_SUCCESS : EXIT_FAILURE;
 }

@@ -1,5 +1,5 @@
-//! A Rust host: links the static library and calls it on valid, broken, empty and oversized sheets. The status is 0 only if every answer was
-//! the expected one.
+//! A Rust host: links the static library and calls it on valid, broken, empty and oversized sheets, and takes fields out and back. The status is 0
+//! only if every answer was the expected one.
 
 use std::process::ExitCode;
 
@@ -9,57 +9,216 @@ struct Answer {
     length: u64,
 }
 
-extern "C" {
-    fn juzontefa_import(sheet: *const u8, sheet_len: usize, out: *mut u8, out_len: usize) -> Answer;
+#[repr(C)]
+#[derive(PartialEq)]
+struct Trip {
+    answer: u64,
+    number: u64,
 }
 
-/// The length of the field sheet of a schema sheet, or the refusal's number. An answer can be longer than its sheet.
-fn import(sheet: &[u8], out: &mut [u8]) -> Result<usize, u64> {
+extern "C" {
+    fn juzontefa_import(sheet: *const u8, sheet_len: usize, out: *mut u8, out_len: usize) -> Answer;
+    fn juzontefa_export(sheet: *const u8, sheet_len: usize, out: *mut u8, out_len: usize) -> Answer;
+    fn juzontefa_plain_form(sheet: *const u8, sheet_len: usize, out: *mut u8, out_len: usize) -> Answer;
+    fn juzontefa_round_trip(
+        sheet: *const u8,
+        sheet_len: usize,
+        exported: *mut u8,
+        exported_len: usize,
+        imported: *mut u8,
+        imported_len: usize,
+        plain: *mut u8,
+        plain_len: usize,
+        again: *mut u8,
+        again_len: usize,
+    ) -> Trip;
+}
+
+/// What a round trip answers, as far as it is tried here; include/juzontefa.h has all seven.
+const ALL_SAME: u64 = 0;
+const EXPORT_REFUSED: u64 = 1;
+const IMPORT_REFUSED: u64 = 2;
+const IMPORT_DIFFERS: u64 = 5;
+
+type Call = unsafe extern "C" fn(*const u8, usize, *mut u8, usize) -> Answer;
+
+/// The length of the answer to a sheet, or the refusal's number. An answer can be longer than its sheet.
+fn ask(call: Call, sheet: &[u8], out: &mut [u8]) -> Result<usize, u64> {
     // SAFETY: both slices are live and do not overlap; the library keeps to their lengths and changes only `out`.
-    let answer = unsafe { juzontefa_import(sheet.as_ptr(), sheet.len(), out.as_mut_ptr(), out.len()) };
+    let answer = unsafe { call(sheet.as_ptr(), sheet.len(), out.as_mut_ptr(), out.len()) };
     match answer.number {
         0 => Ok(answer.length as usize),
         number => Err(number),
     }
 }
 
-const SCHEMA: &str = "format name flags metadata children dictionary\n";
-const FIELD: &str = "kind p q text more name nullable pairs children\n";
-
-/// Whether the answer, every byte of the buffer and the input are as expected.
-fn right(sheet: &[u8], room: usize, expected: Result<&[u8], u64>) -> bool {
-    let before = sheet.to_vec();
-    let mut out = vec![7u8; room];
-    let answer = import(sheet, &mut out);
-    let kept = sheet == before;
-    match (answer, expected) {
-        (Ok(length), Ok(bytes)) => kept && out[..length] == *bytes && out[length..].iter().all(|&b| b == 7),
-        (Err(number), Err(wanted)) => kept && number == wanted && out.iter().all(|&b| b == 0),
-        _ => false,
+/// The round trip of a field sheet; the buffers get its export, the import of that, its plain form, and the export of that.
+fn round_trip(sheet: &[u8], buffers: &mut [Vec<u8>; 4]) -> Trip {
+    let [a, b, c, d] = buffers;
+    let (at, len) = (sheet.as_ptr(), sheet.len());
+    // SAFETY: as above; the four buffers are different vectors.
+    unsafe {
+        let (first, second) = ((a.as_mut_ptr(), a.len()), (b.as_mut_ptr(), b.len()));
+        let (third, fourth) = ((c.as_mut_ptr(), c.len()), (d.as_mut_ptr(), d.len()));
+        juzontefa_round_trip(at, len, first.0, first.1, second.0, second.1, third.0, third.1, fourth.0, fourth.1)
     }
 }
 
-fn main() -> ExitCode {
+const SCHEMA: &str = "format name flags metadata children dictionary\n";
+const FIELD: &str = "kind p q text more name nullable pairs children\n";
+const ROOM: usize = 98_304;
+
+/// What was tried, and what of it was wrong.
+#[derive(Default)]
+struct Tries {
+    tried: usize,
+    wrong: Vec<String>,
+}
+
+impl Tries {
+    fn count(&mut self, right: bool, what: &str) {
+        self.tried += 1;
+        if !right {
+            self.wrong.push(what.to_string());
+        }
+    }
+
+    /// The answer, every byte of the buffer and the input are as expected.
+    fn expect(&mut self, call: Call, what: &str, sheet: &[u8], room: usize, expected: Result<&str, u64>) {
+        let before = sheet.to_vec();
+        let mut out = vec![7u8; room];
+        let right = match (ask(call, sheet, &mut out), expected) {
+            (Ok(length), Ok(answer)) => length == answer.len() && holds(&out, Some(answer)),
+            (Err(number), Err(wanted)) => number == wanted && holds(&out, None),
+            _ => false,
+        };
+        self.count(right && sheet == before, what);
+    }
+
+    fn answered(&mut self, call: Call, what: &str, sheet: &str, answer: &str) {
+        for (room, expected) in [(ROOM, Ok(answer)), (answer.len(), Ok(answer)), (answer.len() - 1, Err(16)), (0, Err(16))] {
+            self.expect(call, &format!("{what}, {room} bytes"), sheet.as_bytes(), room, expected);
+        }
+    }
+
+    /// What every call refuses: `line` has one child, `leaf` none.
+    fn broken(&mut self, call: Call, heading: &str, line: &str, leaf: &str) {
+        let one = format!("{heading}{leaf}");
+        let tries: [(&str, Vec<u8>, u64); 6] = [
+            ("empty", Vec::new(), 1),
+            ("oversized", vec![b'x'; 65_536], 1),
+            ("cut short", one[..one.len() - 1].into(), 2),
+            ("left over", format!("{one}{leaf}").into(), 2),
+            ("missing", format!("{heading}{line}").into(), 2),
+            ("33 levels", format!("{heading}{}{leaf}", line.repeat(32)).into(), 3),
+        ];
+        for (what, sheet, number) in &tries {
+            self.expect(call, what, sheet, ROOM, Err(*number));
+            self.expect(call, what, sheet, 0, Err(*number));
+        }
+    }
+
+    /// The answer, and every byte of the four buffers: the sheets, or zeros in all four.
+    fn trip(&mut self, what: &str, sheet: &str, rooms: [usize; 4], expected: Trip, sheets: Option<[&str; 4]>) {
+        let before = sheet.to_string();
+        let mut buffers = rooms.map(|room| vec![7u8; room]);
+        let told = round_trip(sheet.as_bytes(), &mut buffers);
+        let held = (0..4).all(|step| holds(&buffers[step], sheets.map(|sheets| sheets[step])));
+        self.count(told == expected && held && sheet == before, what);
+    }
+
+    /// A field with its export and its plain form.
+    fn field(&mut self, what: &str, field: &str, exported: &str, plain: &str) {
+        self.answered(juzontefa_export, what, field, exported);
+        self.answered(juzontefa_plain_form, what, field, plain);
+        let sheets = [exported, plain, plain, exported];
+        let exact = sheets.map(str::len);
+        self.trip(what, field, [ROOM; 4], Trip { answer: ALL_SAME, number: 0 }, Some(sheets));
+        self.trip(what, field, exact, Trip { answer: ALL_SAME, number: 0 }, Some(sheets));
+        for step in 0..4 {
+            let mut rooms = exact;
+            rooms[step] -= 1;
+            self.trip(what, field, rooms, Trip { answer: EXPORT_REFUSED + step as u64, number: 16 }, None);
+        }
+    }
+}
+
+/// The answer and sevens, or zeros where there is none.
+fn holds(buffer: &[u8], answer: Option<&str>) -> bool {
+    match answer {
+        Some(answer) => buffer.starts_with(answer.as_bytes()) && buffer[answer.len()..].iter().all(|&byte| byte == 7),
+        None => buffer.iter().all(|&byte| byte == 0),
+    }
+}
+
+fn imports(tries: &mut Tries) {
     let valid = format!("{SCHEMA}2b6c 7065616b 2 ~ 1 0\n67 6974656d 0 ~ 0 0\n");
     let answer = format!("{FIELD}27 0 0 ~ ~ 7065616b 1 ~ 1\n14 0 0 ~ ~ 6974656d 0 ~ 0\n");
     let many = format!("{SCHEMA}2b73 - 0 ~ 3446 0\n{}", "67 - 0 ~ 0 0\n".repeat(3446));
-    let length = answer.len();
-    let tries: [(&str, Vec<u8>, usize, Result<&[u8], u64>); 10] = [
-        ("valid", valid.clone().into(), 98_304, Ok(answer.as_bytes())),
-        ("the exact buffer", valid.clone().into(), length, Ok(answer.as_bytes())),
-        ("one byte short", valid.clone().into(), length - 1, Err(16)),
-        ("no buffer", valid.clone().into(), 0, Err(16)),
-        ("empty", Vec::new(), 98_304, Err(1)),
-        ("oversized", vec![b'x'; 65_536], 98_304, Err(1)),
-        ("cut short", valid[..valid.len() - 1].into(), 98_304, Err(2)),
-        ("left over", format!("{valid}67 - 0 ~ 0 0\n").into(), 98_304, Err(2)),
-        ("null format", format!("{SCHEMA}~ - 0 ~ 0 0\n").into(), 98_304, Err(4)),
-        ("longer than 65,536 bytes", many.into(), 65_536, Err(16)),
+    tries.answered(juzontefa_import, "a list of peaks", &valid, &answer);
+    tries.broken(juzontefa_import, SCHEMA, "2b6c 70 2 ~ 1 0\n", "67 69 0 ~ 0 0\n");
+    tries.expect(juzontefa_import, "null format", format!("{SCHEMA}~ - 0 ~ 0 0\n").as_bytes(), ROOM, Err(4));
+    tries.expect(juzontefa_import, "longer than 65,536 bytes", many.as_bytes(), 65_536, Err(16));
+}
+
+fn fields(tries: &mut Tries) {
+    for call in [juzontefa_export as Call, juzontefa_plain_form as Call] {
+        tries.broken(call, FIELD, "27 0 0 ~ ~ 70 1 ~ 1\n", "14 0 0 ~ ~ 69 0 ~ 0\n");
+    }
+    let named = "01000000140000004152524f573a657874656e73696f6e3a6e616d650100000078"; // ARROW:extension:name = x
+    let lines = [
+        (
+            "a list of peaks",
+            "27 0 0 ~ ~ 70 1 ~ 1\n14 0 0 ~ ~ 69 0 ~ 0\n",
+            "2b6c 70 2 ~ 1 0\n67 69 0 ~ 0 0\n",
+            "27 0 0 ~ ~ 70 1 ~ 1\n14 0 0 ~ ~ 69 0 ~ 0\n",
+        ),
+        (
+            "a dictionary under an extension",
+            "37 0 0 78 ~ 70 1 ~ 1\n32 2 1 ~ ~ ~ ~ ~ 1\n25 0 0 ~ ~ ~ ~ ~ 0\n",
+            "69 70 2 NAMED 0 0\n",
+            "37 0 0 78 ~ 70 1 ~ 1\n4 0 0 ~ ~ ~ ~ ~ 0\n",
+        ),
+        (
+            "nested extensions",
+            "37 0 0 78 ~ 70 1 - 1\n37 0 0 79 7a ~ ~ ~ 1\n25 0 0 ~ ~ ~ ~ ~ 0\n",
+            "75 70 2 NAMED 0 0\n",
+            "37 0 0 78 ~ 70 1 ~ 1\n25 0 0 ~ ~ ~ ~ ~ 0\n",
+        ),
+        (
+            "a union without ids",
+            "41 0 0 ~ ~ 75 0 ~ 1\n15 0 0 - ~ 62 0 ~ 0\n",
+            "2b75643a30 75 0 ~ 1 0\n7473733a 62 0 ~ 0 0\n",
+            "41 0 0 0 ~ 75 0 ~ 1\n15 0 0 ~ ~ 62 0 ~ 0\n",
+        ),
     ];
-    let wrong: Vec<&str> = tries.iter().filter(|(_, sheet, room, expected)| !right(sheet, *room, *expected)).map(|try_| try_.0).collect();
-    for what in &wrong {
+    for (what, field, exported, plain) in lines {
+        let exported = exported.replace("NAMED", named);
+        tries.field(what, &format!("{FIELD}{field}"), &format!("{SCHEMA}{exported}"), &format!("{FIELD}{plain}"));
+    }
+    let refused = [
+        ("no format", "40 0 0 ~ ~ 70 1 ~ 0\n", EXPORT_REFUSED, 12),
+        ("no ids", "41 0 0 - ~ 70 1 ~ 0\n", EXPORT_REFUSED, 13),
+        ("byte 00", "4 0 0 ~ ~ 00 1 ~ 0\n", EXPORT_REFUSED, 14),
+        ("an index of 128 bits", "32 9 0 ~ ~ 70 1 ~ 1\n25 0 0 ~ ~ ~ ~ ~ 0\n", IMPORT_REFUSED, 9),
+    ];
+    for (what, field, answer, number) in refused {
+        tries.trip(what, &format!("{FIELD}{field}"), [ROOM; 4], Trip { answer, number }, None);
+    }
+    tries.trip("empty", "", [ROOM; 4], Trip { answer: EXPORT_REFUSED, number: 1 }, None);
+    let own = format!("{FIELD}4 0 0 ~ ~ 70 1 4152524f573a657874656e73696f6e3a6e616d65=78 0\n");
+    let exported = format!("{SCHEMA}69 70 2 {named} 0 0\n");
+    let imported = format!("{FIELD}37 0 0 78 ~ 70 1 ~ 1\n4 0 0 ~ ~ ~ ~ ~ 0\n");
+    tries.trip("a reserved key", &own, [ROOM; 4], Trip { answer: IMPORT_DIFFERS, number: 0 }, Some([&exported, &imported, &own, &exported]));
+}
+
+fn main() -> ExitCode {
+    let mut tries = Tries::default();
+    imports(&mut tries);
+    fields(&mut tries);
+    for what in &tries.wrong {
         println!("wrong: {what}");
     }
-    println!("Rust host: {} tried, {} wrong", tries.len(), wrong.len());
-    if wrong.is_empty() { ExitCode::SUCCESS } else { ExitCode::FAILURE }
+    println!("Rust host: {} tried, {} wrong", tries.tried, tries.wrong.len());
+    if tries.wrong.is_empty() { ExitCode::SUCCESS } else { ExitCode::FAILURE }
 }

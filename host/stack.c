@@ -1,4 +1,4 @@
-/* The stack of a call: each sheet is imported on a stack of its own, painted before the call; what is no longer paint was used. Two paints,
+/* The stack of each call: a sheet is put to it on a stack of its own, painted before the call; what is no longer paint was used. Two paints,
  * so that a byte that happens to equal the one differs from the other. Counted from the caller's frame to the deepest byte written.
  *
  *   stack [FILE..]    the sheets below, then the sheets in the files, of which the greatest is told
@@ -15,18 +15,28 @@
 #define STACK (1u << 20)
 #define LONGEST 65535
 
+enum call { IMPORT, EXPORT, PLAIN_FORM, ROUND_TRIP, CALLS };
+static const char *const names[CALLS] = { "import", "export", "plain form", "round trip" };
+
 static uint8_t stack[STACK] __attribute__((aligned(4096)));
 static uint8_t sheet[LONGEST + 2];
-static uint8_t out[1u << 17];
+static uint8_t out[4][1u << 19];
 static size_t size, room;
+static enum call called;
 static uint8_t *frame;
-static struct juzontefa_answer answer;
+static uint64_t number;
+static size_t greatest[CALLS];
 static ucontext_t here, there;
 
 static void call(void)
 {
     frame = __builtin_frame_address(0);
-    answer = juzontefa_import(sheet, size, out, room);
+    switch (called) {
+    case IMPORT: number = juzontefa_import(sheet, size, out[0], room).number; break;
+    case EXPORT: number = juzontefa_export(sheet, size, out[0], room).number; break;
+    case PLAIN_FORM: number = juzontefa_plain_form(sheet, size, out[0], room).number; break;
+    default: number = juzontefa_round_trip(sheet, size, out[0], room, out[1], room, out[2], room, out[3], room).number;
+    }
 }
 
 static size_t used_with(uint8_t paint)
@@ -43,11 +53,12 @@ static size_t used_with(uint8_t paint)
     return (size_t)(frame - deepest);
 }
 
-/* The stack for the sheet at hand, with room for the answer and without. */
-static size_t used(void)
+/* The stack of a call for the sheet at hand, without room for the answer and with room; the number is that with room. */
+static size_t used(enum call which)
 {
     size_t most = 0;
-    const size_t rooms[] = { 0, sizeof out };
+    const size_t rooms[] = { 0, sizeof *out };
+    called = which;
     for (int i = 0; i < 2; i++) {
         room = rooms[i];
         const uint8_t paints[] = { 0x5a, 0xa5 };
@@ -56,6 +67,7 @@ static size_t used(void)
             if (bytes > most) most = bytes;
         }
     }
+    if (most > greatest[which]) greatest[which] = most;
     return most;
 }
 
@@ -73,6 +85,8 @@ static void fill(const char *line, size_t rest)
 {
     put((LONGEST - rest - size) / strlen(line), line);
 }
+
+/* ── schema sheets */
 
 #define LEAF "67 69 0 ~ 0 0\n"
 #define LIST "2b6c 70 2 ~ 1 0\n"
@@ -128,11 +142,83 @@ static void too_deep(void)
 }
 static void too_deep_and_broken(void) { fill(LIST, 0); }
 
-static const struct {
+/* ── field sheets */
+
+#define FIELD_LEAF "14 0 0 ~ ~ 69 0 ~ 0\n"
+#define FIELD_LIST "27 0 0 ~ ~ 70 1 ~ 1\n"
+#define BARE_LEAF "14 0 0 ~ ~ ~ ~ ~ 0\n"
+#define BARE_LIST "27 0 0 ~ ~ ~ ~ ~ 1\n"
+
+static void field_leaf(void) { put(1, "14 0 0 ~ ~ 7065616b 1 ~ 0\n"); }
+static void field_list(void) { put(1, FIELD_LIST FIELD_LEAF); }
+static void field_extension(void) { put(1, "37 0 0 78 ~ 7472616365 1 6d=31 1\n32 2 1 ~ ~ ~ ~ ~ 1\n25 0 0 ~ ~ ~ ~ ~ 0\n"); }
+static void field_struct(void)
+{
+    put(1, "30 0 0 ~ ~ - 0 ~ 3200\n");
+    put(3200, FIELD_LEAF);
+}
+static void field_levels(void)
+{
+    put(31, FIELD_LIST);
+    put(1, FIELD_LEAF);
+}
+static void field_unions(void)
+{
+    put(31, "41 0 0 ~ ~ 70 1 ~ 1\n");
+    put(1, FIELD_LEAF);
+}
+static void field_dictionaries(void)
+{
+    put(1, "32 2 0 ~ ~ 70 1 ~ 1\n");
+    put(30, "32 2 0 ~ ~ ~ ~ ~ 1\n");
+    put(1, BARE_LEAF);
+}
+/* a chain of so many takes as many levels */
+static void field_extensions(void)
+{
+    put(1, "37 0 0 78 ~ 70 1 ~ 1\n");
+    put(31, "37 0 0 78 79 ~ ~ ~ 1\n");
+    put(1, BARE_LEAF);
+}
+/* an extension over each list */
+static void field_both(void)
+{
+    put(31, "37 0 0 78 79 70 1 ~ 1\n" BARE_LIST);
+    put(1, "37 0 0 78 79 70 1 ~ 1\n" BARE_LEAF);
+}
+/* the values of a dictionary under an extension */
+static void field_skipped(void)
+{
+    put(16, FIELD_LIST);
+    put(1, "37 0 0 78 ~ 70 1 ~ 1\n32 2 0 ~ ~ ~ ~ ~ 1\n" BARE_LIST);
+    put(13, FIELD_LIST);
+    put(1, FIELD_LEAF);
+}
+static void field_pairs(void)
+{
+    char text[32];
+    put(31, FIELD_LIST);
+    put(1, "37 0 0 78 79 69 0 "); /* 3,000 pairs: keys of two bytes, no values */
+    for (int i = 0; i < 3000; i++) {
+        snprintf(text, sizeof text, "%s%02x%02x=", i ? "," : "", 48 + i / 64, 48 + i % 64);
+        put(1, text);
+    }
+    put(1, " 1\n" BARE_LEAF);
+}
+static void field_too_deep(void)
+{
+    fill(FIELD_LIST, sizeof FIELD_LEAF - 1);
+    put(1, FIELD_LEAF);
+}
+static void field_too_deep_and_broken(void) { fill(FIELD_LIST, 0); }
+
+struct shape {
     const char *what;
     void (*build)(void);
     uint64_t number;
-} sheets[] = {
+};
+
+static const struct shape schemas[] = {
     { "one leaf", one_leaf, 0 },
     { "a list", a_list, 0 },
     { "dictionary with extension", extension, 0 },
@@ -142,26 +228,51 @@ static const struct {
     { "32 levels by dictionaries", dictionaries, 0 },
     { "32 levels, 15 of them never visited", skipped, 0 },
     { "32 levels, 3,100 metadata pairs at the deepest", pairs, 0 },
-    { "4,094 levels, refused with 3", too_deep, 3 },
+    { "4,093 levels, refused with 3", too_deep, 3 },
     { "4,093 levels and no leaf, refused with 2", too_deep_and_broken, 2 },
 };
 
-int main(int count, char **files)
+static const struct shape fields[] = {
+    { "one leaf", field_leaf, 0 },
+    { "a list", field_list, 0 },
+    { "dictionary under an extension", field_extension, 0 },
+    { "struct of 3,200", field_struct, 0 },
+    { "32 levels by lists", field_levels, 0 },
+    { "32 levels by unions without ids", field_unions, 0 },
+    { "32 levels by dictionaries", field_dictionaries, 0 },
+    { "32 levels by extensions", field_extensions, 0 },
+    { "32 levels by lists, each under an extension", field_both, 0 },
+    { "32 levels, 15 of them never visited", field_skipped, 0 },
+    { "32 levels, 3,000 pairs and an extension at the deepest", field_pairs, 0 },
+    { "3,274 levels, refused with 3", field_too_deep, 3 },
+    { "3,274 levels and no leaf, refused with 2", field_too_deep_and_broken, 2 },
+};
+
+/* The shapes put to the calls from `first` to `last`; how many got another number than they are to get. */
+static int measure(const char *heading, const struct shape *shapes, size_t count, enum call first, enum call last)
 {
-    size_t greatest = 0, recorded = 0;
     int wrong = 0;
-    for (size_t i = 0; i < sizeof sheets / sizeof *sheets; i++) {
+    for (size_t i = 0; i < count; i++) {
         size = 0;
-        put(1, "format name flags metadata children dictionary\n");
-        sheets[i].build();
-        size_t bytes = used();
-        if (bytes > greatest) greatest = bytes;
-        printf("%7zu  %s\n", bytes, sheets[i].what);
-        if (answer.number != sheets[i].number) {
-            printf("wrong: %s: number %llu\n", sheets[i].what, (unsigned long long)answer.number);
-            wrong++;
+        put(1, heading);
+        shapes[i].build();
+        for (enum call which = first; which <= last; which++) {
+            printf("%7zu  %-10s  %s\n", used(which), names[which], shapes[i].what);
+            if (number != shapes[i].number) {
+                printf("wrong: %s of %s: number %llu\n", names[which], shapes[i].what, (unsigned long long)number);
+                wrong++;
+            }
         }
     }
+    return wrong;
+}
+
+int main(int count, char **files)
+{
+    int wrong = measure("format name flags metadata children dictionary\n", schemas, sizeof schemas / sizeof *schemas, IMPORT, IMPORT);
+    wrong += measure("kind p q text more name nullable pairs children\n", fields, sizeof fields / sizeof *fields, EXPORT, ROUND_TRIP);
+    size_t recorded[CALLS] = { 0 };
+    int sheets[CALLS] = { 0 };
     for (int i = 1; i < count; i++) {
         FILE *file = fopen(files[i], "rb");
         if (!file) {
@@ -170,11 +281,20 @@ int main(int count, char **files)
         }
         size = fread(sheet, 1, sizeof sheet, file);
         fclose(file);
-        size_t bytes = used();
-        if (bytes > recorded) recorded = bytes;
+        int is_field = size > 0 && sheet[0] == 'k';
+        for (enum call which = is_field ? EXPORT : IMPORT; which <= (is_field ? ROUND_TRIP : IMPORT); which++) {
+            size_t bytes = used(which);
+            if (bytes > recorded[which]) recorded[which] = bytes;
+            sheets[which]++;
+        }
     }
-    if (count > 1) printf("%7zu  the greatest of %d sheets in files\n", recorded, count - 1);
-    if (recorded > greatest) greatest = recorded;
-    printf("stack: greatest %zu bytes of the %d to reserve, %d wrong\n", greatest, JUZONTEFA_STACK, wrong);
-    return wrong == 0 && greatest <= JUZONTEFA_STACK ? EXIT_SUCCESS : EXIT_FAILURE;
+    size_t most = 0;
+    for (enum call which = IMPORT; which < CALLS; which++) {
+        if (count > 1) printf("%7zu  %-10s  the greatest of %d sheets in files\n", recorded[which], names[which], sheets[which]);
+        if (greatest[which] > most) most = greatest[which];
+    }
+    for (enum call which = IMPORT; which < CALLS; which++)
+        printf("stack: %s, greatest %zu bytes\n", names[which], greatest[which]);
+    printf("stack: greatest %zu bytes of the %d to reserve, %d wrong\n", most, JUZONTEFA_STACK, wrong);
+    return wrong == 0 && most <= JUZONTEFA_STACK ? EXIT_SUCCESS : EXIT_FAILURE;
 }
