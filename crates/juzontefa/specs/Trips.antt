@@ -1,5 +1,8 @@
 -- What a host gets of a round trip: the answer by its place, the number of the refusal, and the four buffers. Assumes nothing.
 use Prim.Native.Nat.{ℕ}
+use Rattle.round_trips.specs.declared.RoundTrip.{RoundTrip as Told}
+use Rattle.round_trips.specs.Trips.{tripTold}
+use Rattle.juzontefa.specs.declared.Trip.{Trip}
 use Rattle.sheets.specs.RoundTrip.{Buffers, RoundTrip, allSame, exportRefused, importRefused, plainRefused, againRefused, importDiffers, againDiffers, roundTripNumber, RoundTripOutcome}
 
 -- the places of the answers, as `include/juzontefa.h` names them
@@ -11,6 +14,10 @@ tripPlace (plainRefused n) = 3
 tripPlace (againRefused n) = 4
 tripPlace importDiffers = 5
 tripPlace againDiffers = 6
+
+-- the same of the code's enumeration
+abbrev pub tripFor : Told → Trip
+tripFor t = record { answer = tripPlace (tripTold t); number = roundTripNumber (tripTold t) }
 
 pub record HostTrip : Type 0 where
   pub answer : ℕ

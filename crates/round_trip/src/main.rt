@@ -1,6 +1,5 @@
 // Reads a field sheet on standard input, exports it, imports that, makes its plain form and exports that, and prints `the same` if all came back as
 // demand 3 says; or which step refused, with its number, or which step differs.
-ghost use mathlib.Core.Path.{_≡_};
 use libc::STDIN_FILENO;
 use libc::STDOUT_FILENO;
 use round_trips::RoundTrip;
@@ -8,27 +7,25 @@ use round_trips::RoundTrip;
 // More than the longest answer of a step that was found, 312,783 bytes.
 const ROOM: usize = 524288;
 
+fn put(text: &[u8]) {
+    io::write_all(STDOUT_FILENO, text);
+}
+
 fn print_refused(step: &[u8], number: u8) {
-    io::write_all(STDOUT_FILENO, step);
-    io::write_all(STDOUT_FILENO, b" ");
+    put(step);
+    put(b" ");
     print_answer::print_refused(number);
 }
 
 fn print_trip(trip: RoundTrip) {
     match trip {
-        RoundTrip::AllSame => io::write_all(STDOUT_FILENO, b"the same\n"),
+        RoundTrip::AllSame => put(b"the same\n"),
         RoundTrip::ExportRefused(number) => print_refused(b"export", number),
         RoundTrip::ImportRefused(number) => print_refused(b"import", number),
         RoundTrip::PlainRefused(number) => print_refused(b"plain form", number),
         RoundTrip::AgainRefused(number) => print_refused(b"second export", number),
-        RoundTrip::ImportDiffers => io::write_all(
-            STDOUT_FILENO,
-            b"import differs from the plain form\n",
-        ),
-        RoundTrip::AgainDiffers => io::write_all(
-            STDOUT_FILENO,
-            b"second export differs from the export\n",
-        ),
+        RoundTrip::ImportDiffers => put(b"import differs from the plain form\n"),
+        RoundTrip::AgainDiffers => put(b"second export differs from the export\n"),
     }
 }
 
