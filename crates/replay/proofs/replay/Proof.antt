@@ -1,51 +1,57 @@
+-- `replay::replay` meets its contract: by the call's code. Assumes nothing.
+use mathlib.Core.Path.{_≡_, sym, ap, _∙_}
+use Prim.Native.Nat.{ℕ}
+use lib.ListN.{length}
+use borrow.Author.Tests.{ne-eqb}
+use denote.Ref.{now}
+use Rattle.sheets.specs.Bytes.{Bytes}
+use Rattle.recorded_list.specs.Codes.{importCall, exportCall, plainCall}
+use Rattle.recorded_list.specs.declared.records.Header.{Header}
+use Rattle.judge.specs.Judging.{filled, recorded, outcomeFor, toldOf}
 use borrow.Author.Needs.{needs}
 use Rattle.replay.proofs.replay.Statement.{statement}
 use Rattle.replay.proofs.replay.Tie as tie
-use Rattle.replay.proofs.replay.Reads as reads
-use Rattle.replay.proofs.replay.Lts as lts
-use Rattle.replay.proofs.replay_export.Reads as replay-export-reads
-use Rattle.replay.proofs.replay_import.Reads as replay-import-reads
-use Rattle.replay.proofs.replay_plain.Reads as replay-plain-reads
 
--- src/main.rt:76:25
+-- what is told of a record goes by its call alone
+called : (h : Header) (input output : Bytes) (room : ℕ) {k : ℕ} → k ≡ h .call
+    → toldOf (outcomeFor k input (filled room)) (recorded h output room) ≡ toldOf (outcomeFor (h .call) input (filled room)) (recorded h output room)
+called h input output room e = ap (λ (k : ℕ). toldOf (outcomeFor k input (filled room)) (recorded h output room)) e
+
 replay-import-requires : tie.Need-replay-import-requires
 replay-import-requires c κs = search needs
 
--- src/main.rt:77:25
 replay-export-requires : tie.Need-replay-export-requires
 replay-export-requires c κs = search needs
 
--- src/main.rt:78:24
 replay-plain-requires : tie.Need-replay-plain-requires
 replay-plain-requires c κs = search needs
 
--- src/main.rt:71:1
 same-length : tie.Need-same-length
 same-length c = search needs
 
--- src/main.rt:71:1
 returns : tie.Need-returns
-returns c = ?
+returns c =
+    let a = c .before .before .before .before .before .before .before .before .args in
+    c .before .before .replay-import .ensures ∙ called (a .h) (now (a .input)) (now (a .output)) (length (now (a .lent))) (sym (c .before .before .before .before .match .keys1))
 
--- src/main.rt:71:1
 same-length-2 : tie.Need-same-length-2
 same-length-2 c = search needs
 
--- src/main.rt:71:1
 returns-2 : tie.Need-returns-2
-returns-2 c = ?
+returns-2 c =
+    let a = c .before .before .before .before .before .before .before .before .args in
+    c .before .before .replay-export .ensures ∙ called (a .h) (now (a .input)) (now (a .output)) (length (now (a .lent))) (sym (c .before .before .before .before .match .keys2))
 
--- src/main.rt:71:1
 same-length-3 : tie.Need-same-length-3
 same-length-3 c = search needs
 
--- src/main.rt:71:1
 returns-3 : tie.Need-returns-3
-returns-3 c = ?
+returns-3 c =
+    let a = c .before .before .before .before .before .before .before .before .args in
+    c .before .before .replay-plain .ensures ∙ called (a .h) (now (a .input)) (now (a .output)) (length (now (a .lent))) (sym (c .before .before .before .before .match .keys3))
 
--- src/main.rt:71:1
 returns-4 : tie.Need-returns-4
-returns-4 c = ?
+returns-4 c = let a = c .before .before .before .before .args in rw (ne-eqb (a .h .call) importCall (c .match .rest .0 .0 .1), ne-eqb (a .h .call) exportCall (c .match .rest .0 .1), ne-eqb (a .h .call) plainCall (c .match .rest .1))
 
 pub replay-spec : {M : Type 1} → statement M
 replay-spec =
