@@ -33,7 +33,7 @@ fn put_sheet(call: Call, s: &[u8], at: usize, out: &mut [u8]) -> Step
         levels: field_sheet::LEVELS,
         inside: false,
     };
-    match field_walk::walk_type(call, s, tree, &mut out[w..]) {
+    match field_walk::walk_first(call, s, tree, &mut out[w..]) {
         Step::Refused(r) => Step::Refused(r),
         Step::Done { next, len } => Step::Done {
             next,

@@ -47,7 +47,7 @@ fn next_type(call: Call, s: &[u8], tree: Subtree, out: &mut [u8]) -> Step
 }
 
 // Writes the lines for the type that stands at `at`, as far as they fit.
-pub fn walk_type(call: Call, s: &[u8], tree: Subtree, out: &mut [u8]) -> Step
+fn walk_type(call: Call, s: &[u8], tree: Subtree, out: &mut [u8]) -> Step
     requires { ⌜ HasType (now s) (tree .at) (tree .levels) (tree .inside) ⌝ }
     ensures { λ r. ⌜ CallWrote call (now (s .entry)) tree (now (out .entry)) (now (out .exit)) r ⌝ }
 {
@@ -93,4 +93,18 @@ fn walk_row(call: Call, s: &[u8], row: Subtrees, out: &mut [u8]) -> Step
         next: here,
         len: sum,
     }
+}
+
+// The same as `walk_type`, by a row of one type: so a sheet that is one leaf is written at once too, and `next_type` has one caller.
+pub fn walk_first(call: Call, s: &[u8], tree: Subtree, out: &mut [u8]) -> Step
+    requires { ⌜ HasType (now s) (tree .at) (tree .levels) (tree .inside) ⌝ }
+    ensures { λ r. ⌜ CallWrote call (now (s .entry)) tree (now (out .entry)) (now (out .exit)) r ⌝ }
+{
+    let row = Subtrees {
+        at: tree.at,
+        count: 1,
+        levels: tree.levels,
+        inside: tree.inside,
+    };
+    walk_row(call, s, row, out)
 }

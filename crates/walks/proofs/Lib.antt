@@ -2,3 +2,4 @@ pub mod BeginLaws
 pub mod RowLaws
 pub mod EndLaws
 pub mod HeadedLaws
+pub mod FirstLaws

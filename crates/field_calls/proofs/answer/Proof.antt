@@ -4,12 +4,6 @@ use Rattle.field_calls.proofs.AnswerLaws.{answer-unread, field-there, a
 use borrow.Author.Needs.{needs}
 use Rattle.field_calls.proofs.answer.Statement.{statement}
 use Rattle.field_calls.proofs.answer.Tie as tie
-use Rattle.field_calls.proofs.answer.Reads as reads
-use Rattle.field_calls.proofs.answer.Lts as lts
-use Rattle.field_calls.proofs.put_sheet.Reads as put-sheet-reads
-use Rattle.field_sheet.proofs.read_sheet.Reads as read-sheet-reads
-use Rattle.outcome.proofs.refuse.Reads as refuse-reads
-use Rattle.outcome.proofs.written.Reads as written-reads
 
 read-sheet-requires : tie.Need-read-sheet-requires
 read-sheet-requires c κs = search needs

@@ -8,9 +8,6 @@ use Rattle.field_calls.specs.Answers.{headingOf}
 use borrow.Author.Needs.{needs}
 use Rattle.field_calls.proofs.put_heading.Statement.{statement}
 use Rattle.field_calls.proofs.put_heading.Tie as tie
-use Rattle.field_calls.proofs.put_heading.Reads as reads
-use Rattle.field_calls.proofs.put_heading.Lts as lts
-use Rattle.buffer.proofs.put_at.Reads as put-at-reads
 
 enum-told : tie.Need-enum-told
 enum-told c = search needs

@@ -6,11 +6,6 @@ use Rattle.field_calls.proofs.AnswerLaws.{heading-short, lines-refused,
 use borrow.Author.Needs.{needs}
 use Rattle.field_calls.proofs.put_sheet.Statement.{statement}
 use Rattle.field_calls.proofs.put_sheet.Tie as tie
-use Rattle.field_calls.proofs.put_sheet.Reads as reads
-use Rattle.field_calls.proofs.put_sheet.Lts as lts
-use Rattle.buffer.proofs.within.Reads as within-reads
-use Rattle.field_calls.proofs.put_heading.Reads as put-heading-reads
-use Rattle.field_walk.proofs.walk_type.Reads as walk-type-reads
 
 put-heading-requires : tie.Need-put-heading-requires
 put-heading-requires c κs = search needs
@@ -18,17 +13,17 @@ put-heading-requires c κs = search needs
 within-requires : tie.Need-within-requires
 within-requires c κs = search needs
 
-sub-walk-type : tie.Need-sub-walk-type
-sub-walk-type c = search needs
+sub-walk-first : tie.Need-sub-walk-first
+sub-walk-first c = search needs
 
-part-walk-type-start : tie.Need-part-walk-type-start
-part-walk-type-start c = search needs
+part-walk-first-start : tie.Need-part-walk-first-start
+part-walk-first-start c = search needs
 
-part-walk-type-end : tie.Need-part-walk-type-end
-part-walk-type-end c = search needs
+part-walk-first-end : tie.Need-part-walk-first-end
+part-walk-first-end c = search needs
 
-walk-type-requires : tie.Need-walk-type-requires
-walk-type-requires c κs = search needs
+walk-first-requires : tie.Need-walk-first-requires
+walk-first-requires c κs = search needs
 
 enum-known-r : tie.Need-enum-known-r
 enum-known-r c = search needs
@@ -39,7 +34,7 @@ enum-known-next c = search needs
 add-t19 : tie.Need-add-t19
 add-t19 c =
     let start = c .before .before .before .before .before .before .before .before .before .before .before .before .before .before in
-    let r = c .before .before .before .before .before .walk-type in
+    let r = c .before .before .before .before .before .walk-first in
     omega (arith, lines-long (start .args .call) (now (start .args .s)) (start .args .at) _ (r .last .1 .1 .1 .0) (r .result) (r .ensures) _ _ (c .before .next .given .1) (start .pre), c .before .before .before .before .before .before .before .before .before .before .put-heading .ensures .0, heading-short (start .args .call))
 
 same-length : tie.Need-same-length
@@ -48,7 +43,7 @@ same-length c = search needs
 returns : tie.Need-returns
 returns c =
     let a = c .before .before .before .before .before .before .before .before .before .before .before .before .before .before .args in
-    let r = c .before .before .before .before .before .walk-type in
+    let r = c .before .before .before .before .before .walk-first in
     lines-refused (a .call) (now (a .s)) (a .at) _ (r .last .1 .1 .1 .0) (r .result) (r .ensures) _ (c .before .r .given .1)
 
 same-length-2 : tie.Need-same-length-2
@@ -57,7 +52,7 @@ same-length-2 c = search needs
 returns-2 : tie.Need-returns-2
 returns-2 c =
     let a = c .before .before .before .before .before .before .before .before .before .before .before .before .before .before .args in
-    let r = c .before .before .before .before .before .walk-type in
+    let r = c .before .before .before .before .before .walk-first in
     let w = c .before .before .before .before .before .before .before .within in
     let h = c .before .before .before .before .before .before .before .before .before .before .put-heading in
     lines-done (a .call) (now (a .s)) (a .at) _ (r .last .1 .1 .1 .0) (r .result) (r .ensures) _ _ (c .before .next .given .1) (now (a .out)) (h .last .1 .0) (h .result) (w .result) (h .ensures) (w .ensures) refl
@@ -68,10 +63,10 @@ put-sheet-spec =
     (tie.spec
     put-heading-requires
     within-requires
-    sub-walk-type
-    part-walk-type-start
-    part-walk-type-end
-    walk-type-requires
+    sub-walk-first
+    part-walk-first-start
+    part-walk-first-end
+    walk-first-requires
     enum-known-r
     enum-known-next
     add-t19
