@@ -1,23 +1,20 @@
 -- A column at a place of a sheet: where it ends, found by looking at one byte after the other, and that there is one such place only. By the bytes
 -- from the place on as a list, cut at the first byte that ends a column. Assumes nothing.
 use mathlib.Core.Path.{_≡_, refl, sym, ap, ap₂, subst, _∙_}
-use mathlib.Core.Bool.{Bool, true, false, _&&_, _||_, not, cond}
+use mathlib.Core.Bool.{Bool, true, false, _&&_, _||_, not, cond, and-true, and-assoc}
 use mathlib.Core.List.{[], _∷_, _++_}
 use mathlib.Core.Option.{none, some}
-use Prim.Native.Nat.{ℕ, zero, suc, _+_, _-_, _%_, _≤_, _<_}
+use Prim.Native.Nat.{ℕ, zero, suc, _+_, _-_, _≤_, _<_}
 use native.Mathlib.Numerals.{add-one}
 use native.Mathlib.Omega.{arith}
 use lib.Dec.{eqb, ltb}
 use lib.ListN.{length, getD, take, drop, length-append, length-take, length-drop, take-append-drop, drop-of-length-le}
 use lib.Seq.{drop-cons, drop-drop, drop-at, length-take-le, take-append-seam, drop-append-add}
 use borrow.Author.Tests.{eq-eqb, ne-eqb, eqb-true, not-true, lt-ltb, le-ltb, ltb-true}
-use Rattle.sheets.specs.Rule.{Meets}
-use Rattle.sheets.specs.Bytes.{Bytes, lacks}
-use Rattle.sheets.proofs.Tests.{not-some, and-left, and-right}
-use Rattle.hex.specs.Hex.{isDigit, isHex}
-use Rattle.hex.proofs.DigitLaws.{low}
-use Rattle.hex.proofs.HexLaws.{allDigits, even-digits}
-use Rattle.columns.specs.Columns.{part, isStop, columnLength, stopFrom, columnEnd, ColumnAt}
+use Rattle.sheets.specs.Rule.{passes, Meets}
+use Rattle.sheets.specs.Bytes.{Bytes, all, lacks}
+use Rattle.sheets.proofs.Tests.{not-some, and-left, and-right, meets}
+use Rattle.columns.specs.Columns.{part, isStop, pastSpace, columnLength, stopFrom, columnEnd, ColumnAt}
 
 -- ── one byte
 
@@ -73,14 +70,14 @@ unfolding columnLength
 cut-at [] r stop e h k = rw e
 cut-at (x ∷ c) r stop e h k = rw (not-true (eqb x 32) (h .0), not-true (eqb x 10) (k .0), cut-at c r stop e (h .1) (k .1))
 
--- in digits no column ends
-pub digits-pass : (c : Bytes) → allDigits c ≡ true → columnLength c ≡ length c
+-- in bytes past the space no column ends
+past-pass : (c : Bytes) → Meets (all pastSpace c) → columnLength c ≡ length c
 unfolding columnLength
-digits-pass [] h = refl
-digits-pass (x ∷ c) h =
-    let d = low x (and-left (isDigit x) (allDigits c) h) in
+past-pass [] h = refl
+past-pass (x ∷ c) h =
+    let d : 32 < x = ltb-true 32 x (h .0) in
     let on : isStop x ≡ false = other-goes-on x (λ e. omega arith) (λ e. omega arith) in
-    rw (on, digits-pass c (and-right (isDigit x) (allDigits c) h))
+    rw (on, past-pass c (h .1))
 
 -- a look at the first n bytes finds the end, or passes them
 cut-near : (n : ℕ) (b : Bytes) → columnLength (take n b) < n → n ≤ length b → columnLength b ≡ columnLength (take n b)
@@ -120,9 +117,19 @@ module _ (s : Bytes) (a e : ℕ) (below : a ≤ e) (high : e ≤ length s) where
       let n : a + (e - a) ≡ e = omega arith in
       omega (arith, cut-past (e - a) (drop a s) h (omega (arith, length-drop a s)), ap columnLength (drop-drop (e - a) a s ∙ ap (λ (m : ℕ). drop m s) n))
 
-  pub digits-passed : isHex (part s a e) ≡ true → stopFrom s a ≡ stopFrom s e
-  digits-passed h =
-      near-passed (omega (arith, digits-pass (part s a e) (and-right (eqb (length (part s a e) % 2) 0) (allDigits (part s a e)) (sym (even-digits (part s a e)) ∙ h)), near-size))
+  pub past-passed : passes (all pastSpace (part s a e)) ≡ true → stopFrom s a ≡ stopFrom s e
+  past-passed h = near-passed (omega (arith, past-pass (part s a e) (meets (all pastSpace (part s a e)) h), near-size))
+
+-- bytes past the space, one more of them
+module _ (ok : Bool) (s : Bytes) (i : ℕ) where
+  pub past-next : i < length s → (ok && passes (all pastSpace (drop i s))) ≡ ((ok && pastSpace (getD s i 0)) && passes (all pastSpace (drop (i + 1) s)))
+  past-next h =
+      ap (λ (c : Bytes). ok && passes (all pastSpace c)) (drop-cons s i 0 h)
+      ∙ sym (and-assoc ok (pastSpace (getD s i 0)) (passes (all pastSpace (drop (suc i) s))))
+      ∙ ap (λ (j : ℕ). (ok && pastSpace (getD s i 0)) && passes (all pastSpace (drop j s))) (sym (add-one i))
+
+  pub past-end : length s ≤ i → (ok && passes (all pastSpace (drop i s))) ≡ ok
+  past-end h = ap (λ (c : Bytes). ok && passes (all pastSpace c)) (drop-of-length-le s {i = i} h) ∙ and-true ok
 
 -- ── columns
 

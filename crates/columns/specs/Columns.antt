@@ -7,9 +7,8 @@ use mathlib.Core.Option.{Option, none, some}
 use Prim.Native.Nat.{ℕ, suc, _+_, _-_, _≤_, _<_}
 use lib.Dec.{eqb, ltb}
 use lib.ListN.{length, getD, take, drop}
-use Rattle.sheets.specs.Rule.{Meets}
-use Rattle.sheets.specs.Bytes.{Bytes, lineEnd, space, lacks}
-use Rattle.hex.specs.Hex.{isHex}
+use Rattle.sheets.specs.Rule.{passes, Meets}
+use Rattle.sheets.specs.Bytes.{Bytes, lineEnd, space, all, lacks}
 use Rattle.columns.specs.declared.Part.{Part}
 use Rattle.columns.specs.declared.Place.{Place}
 use Rattle.columns.specs.declared.Place.the-variants.{At, Nowhere}
@@ -75,8 +74,8 @@ placeOption Nowhere = none
 abbrev pub blockSize : ℕ
 blockSize = 32
 
--- no column ends from a on before e, and no block of digits stands from e on
+-- no column ends from a on before e, and no block past the space stands from e on
 pub record Passes (s : Bytes) (a e : ℕ) : Type 0 where
   pub within : e ≤ length s
   pub same : stopFrom s a ≡ stopFrom s e
-  pub last : e + blockSize ≤ length s → isHex (part s e (e + blockSize)) ≡ false
+  pub last : e + blockSize ≤ length s → passes (all pastSpace (part s e (e + blockSize))) ≡ false

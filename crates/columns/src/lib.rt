@@ -6,6 +6,8 @@ pub mod text;
 ghost use mathlib.Core.Path.{_≡_};
 ghost use Prim.Native.Nat.{_≤_};
 ghost use lib.ListN.{length, drop};
+ghost use Rattle.sheets.specs.Rule.{passes};
+ghost use Rattle.sheets.specs.Bytes.{all};
 ghost use Rattle.columns.specs.Columns.{isStop, stopFrom, columnEnd, oneOf, pastSpace, partOf, placeOption, Passes};
 
 // How many bytes the vector instructions test at once.
@@ -74,15 +76,28 @@ pub fn one_byte(s: &[u8], at: usize, stop: u8) -> bool
     b' ' < s[at]
 }
 
-// A place after blocks of digits, in which no column ends: a block is tested by vector instructions.
-fn pass_digits(s: &[u8], at: usize) -> usize
+// Whether all bytes are past the space: then no column ends in them. Nothing leaves the loop early, so that it compiles to vector instructions.
+fn are_past_space(b: &[u8]) -> bool
+    ensures { λ r. ⌜ r ≡ passes (all pastSpace (now (b .entry))) ⌝ }
+{
+    let mut ok = true;
+    let mut i = 0;
+    while i < b.len() {
+        ok = ok & (b' ' < b[i]);
+        i += 1;
+    }
+    ok
+}
+
+// A place after blocks in which no column ends.
+fn pass_blocks(s: &[u8], at: usize) -> usize
     requires { ⌜ at ≤ length (now s) ⌝ }
     ensures { λ r. ⌜ Passes (now (s .entry)) at r ⌝ }
 {
     let mut i = at;
     while BLOCK <= s.len() - i {
         let next = i + BLOCK;
-        if !hex::is_hex(&s[i..next]) {
+        if !are_past_space(&s[i..next]) {
             return i;
         }
         i = next;
@@ -90,8 +105,8 @@ fn pass_digits(s: &[u8], at: usize) -> usize
     i
 }
 
-// The same for texts: by single bytes at first, since most are short, then by blocks.
-pub fn text_end(s: &[u8], at: usize) -> usize
+// The same as `text_end`, for a text of any length: by single bytes at first, since most are short, then by blocks.
+fn any_end(s: &[u8], at: usize) -> usize
     ensures { λ r. ⌜ r ≡ stopFrom (now (s .entry)) at ⌝ }
 {
     if s.len() <= at {
@@ -102,7 +117,17 @@ pub fn text_end(s: &[u8], at: usize) -> usize
     if here < near {
         return here;
     }
-    number_end(s, pass_digits(s, near))
+    number_end(s, pass_blocks(s, near))
+}
+
+// The same as `number_end`, for texts and lists: most are one byte or long.
+pub fn text_end(s: &[u8], at: usize) -> usize
+    ensures { λ r. ⌜ r ≡ stopFrom (now (s .entry)) at ⌝ }
+{
+    if one_byte(s, at, b' ') {
+        return at + 1;
+    }
+    any_end(s, at)
 }
 
 // The end e of the column from place at on, if it is the byte stop.

@@ -1,65 +1,32 @@
--- `columns::text_end` meets its contract: the first bytes hold the end or are passed, then digits are passed, then the end is looked for.
--- Assumes nothing.
+-- `columns::text_end` meets its contract: a column of one byte ends after it, and the end of any other is looked for. Assumes nothing.
+use mathlib.Core.Path.{refl, sym, _∙_}
 use native.Mathlib.Omega.{arith}
-use Prim.Native.Nat.{_+_}
-use Rattle.columns.proofs.ColumnLaws.{length-none, near-short, near-end, near-passed}
+use Rattle.columns.specs.Columns.{pastSpace}
+use Rattle.columns.proofs.ColumnLaws.{column-end}
+use Rattle.columns.proofs.OneByteLaws.{one-told, one-column}
 use borrow.Author.Needs.{needs}
 use Rattle.columns.proofs.text_end.Statement.{statement}
 use Rattle.columns.proofs.text_end.Tie as tie
 
+one-byte-requires : tie.Need-one-byte-requires
+one-byte-requires c κs = search needs
+
+add-result : tie.Need-add-result
+add-result c =
+    let a = c .before .before .before .args in
+    let o = one-told pastSpace 32 (a .s .now) (a .at) (sym (c .before .one-byte .ensures) ∙ c .if1 .taken) in
+    omega (arith, o .room, c .before .before .before .fits)
+
 returns : tie.Need-returns
-returns c = omega (arith, length-none (c .before .before .args .s .now) (c .before .before .args .at) (c .if1 .taken))
+returns c =
+    let a = c .before .before .before .args in
+    column-end (one-column (one-told pastSpace 32 (a .s .now) (a .at) (sym (c .before .one-byte .ensures) ∙ c .if1 .taken))) refl
 
-sub-within : tie.Need-sub-within
-sub-within c = search needs
-
-within-requires : tie.Need-within-requires
-within-requires c κs = search needs
-
-add-near : tie.Need-add-near
-add-near c = search needs
-
-sub-number-end : tie.Need-sub-number-end
-sub-number-end c = search needs
-
-part-number-end-start : tie.Need-part-number-end-start
-part-number-end-start c = search needs
-
-part-number-end-end : tie.Need-part-number-end-end
-part-number-end-end c = search needs
-
-number-end-requires : tie.Need-number-end-requires
-number-end-requires c κs = search needs
-
-add-here : tie.Need-add-here
-add-here c = omega (arith, c .number-end .ensures, near-short (c .before .before .before .before .before .args .s .now) (c .before .before .before .before .before .args .at) (c .before .before .before .before .before .args .at + c .before .before .within .result) (omega arith) (omega (arith, c .before .before .within .ensures)), c .before .before .within .ensures)
+any-end-requires : tie.Need-any-end-requires
+any-end-requires c κs = search needs
 
 returns-2 : tie.Need-returns-2
-returns-2 c = omega (arith, c .before .number-end .ensures, near-end (c .before .before .before .before .before .before .args .s .now) (c .before .before .before .before .before .before .args .at) (c .before .before .before .before .before .before .args .at + c .before .before .before .within .result) (omega arith) (omega (arith, c .before .before .before .within .ensures)) (omega (arith, c .before .number-end .ensures)))
-
-pass-digits-requires : tie.Need-pass-digits-requires
-pass-digits-requires c κs = search needs
-
-number-end-requires-2 : tie.Need-number-end-requires-2
-number-end-requires-2 c κs = search needs
-
-returns-3 : tie.Need-returns-3
-returns-3 c = omega (arith, c .number-end2 .ensures, c .before .pass-digits .ensures .same, near-passed (c .before .before .before .before .before .before .before .before .args .s .now) (c .before .before .before .before .before .before .before .before .args .at) (c .before .before .before .before .before .before .before .before .args .at + c .before .before .before .before .before .within .result) (omega arith) (omega (arith, c .before .before .before .before .before .within .ensures)) (omega (arith, c .before .before .before .number-end .ensures)))
+returns-2 c = search needs
 
 pub text-end-spec : {M : Type 1} → statement M
-text-end-spec =
-    tie.close
-    (tie.spec
-    returns
-    sub-within
-    within-requires
-    add-near
-    sub-number-end
-    part-number-end-start
-    part-number-end-end
-    number-end-requires
-    add-here
-    returns-2
-    pass-digits-requires
-    number-end-requires-2
-    returns-3)
+text-end-spec = tie.close (tie.spec one-byte-requires add-result returns any-end-requires returns-2)
