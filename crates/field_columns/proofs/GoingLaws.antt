@@ -3,7 +3,7 @@ use mathlib.Core.Path.{_≡_, sym, _∙_, ap, ap₂, subst}
 use mathlib.Core.Bool.{Bool, true, false, _&&_}
 use mathlib.Core.List.{_∷_}
 use mathlib.Core.Option.{none, some}
-use Prim.Native.Nat.{ℕ, _+_, _-_, _≤_}
+use Prim.Native.Nat.{ℕ, _+_, _-_, _≤_, _<_}
 use native.Mathlib.Omega.{arith}
 use lib.ListN.{length, take, drop, length-take, length-drop}
 use lib.Seq.{take-take}
@@ -16,8 +16,9 @@ use Rattle.sheets.proofs.PartLaws.{PartEnds, parts-here, parts-past}
 use Rattle.sheets.proofs.Utf8Laws.{utf8-bytes}
 use Rattle.byte_order.proofs.HexOrderLaws.{before-hex}
 use Rattle.columns.specs.Columns.{part}
-use Rattle.field_columns.specs.Lists.{keyEnd, arePairs, followPairs}
+use Rattle.field_columns.specs.Lists.{keyEnd, pairAt, arePairs, followPairs}
 use Rattle.field_columns.proofs.PairLaws.{KeyTo, key-told, key-none, first-not, first-there, next-not, next-there, follow-none}
+use Rattle.field_columns.proofs.PairAtLaws.{Told, pair-told, pair-bad, ends-there}
 
 -- the part of a part
 inner : (c : Bytes) (from to k : ℕ) → k ≤ to - from → take k (part c from to) ≡ part c from (from + k)
@@ -95,3 +96,42 @@ module _ {c : Bytes} {start stop end : ℕ} (g : Going c start stop end) where
 
         pub going-more : b ≡ true → Going c (end + 1) (end + 1 + k) to
         going-more f = begun c (end + 1) to w k there (by-order ∙ ap (λ (t : Bool). t && followPairs (there .pair .0) (partsFrom c (to + 1))) f)
+
+-- ── by the places that `pairAt` gives
+
+module _ (c : Bytes) where
+  pub first-bad : pairAt c 0 ≡ none → arePairs (split 44 c) ≡ false
+  first-bad h = going-none c _ (ends-there c 0 (omega arith)) (pair-bad c 0 h)
+
+  pub first-at : (k e : ℕ) → pairAt c 0 ≡ some (k, e) → Going c 0 k e
+  first-at k e h =
+      let t = pair-told c 0 (omega arith) k e h in
+      let n : t .key ≡ k = omega (arith, t .at) in
+      subst (λ (i : ℕ). Going c 0 i e) n (going-first c e (t .ends) (t .key) (t .is))
+
+module _ {c : Bytes} {start stop end : ℕ} (g : Going c start stop end) (below : end < length c) where
+  pub next-bad : pairAt c (end + 1) ≡ none → arePairs (split 44 c) ≡ false
+  next-bad h = going-bad g _ (ends-there c (end + 1) (omega arith)) (pair-bad c (end + 1) h)
+
+  module _ (k e : ℕ) (h : pairAt c (end + 1) ≡ some (k, e)) where
+    told : Told c (end + 1) k e
+    told = pair-told c (end + 1) (omega arith) k e h
+
+    pub next-low : end + 1 ≤ k
+    next-low = omega (arith, told .at)
+
+    pub next-mid : k ≤ e
+    next-mid = omega (arith, told .at, next-within g e (told .ends) (told .key) (told .is))
+
+    pub next-high : e ≤ length c
+    next-high = told .ends .high
+
+    module _ (b : Bool) (is : b ≡ before (part c start stop) (part c (end + 1) k)) where
+      here : b ≡ before (part c start stop) (part c (end + 1) (end + 1 + told .key))
+      here = is ∙ ap (λ (i : ℕ). before (part c start stop) (part c (end + 1) i)) (sym (told .at))
+
+      pub next-disorder : b ≡ false → arePairs (split 44 c) ≡ false
+      next-disorder f = going-disorder g e (told .ends) (told .key) (told .is) b here f
+
+      pub next-more : b ≡ true → Going c (end + 1) k e
+      next-more f = subst (λ (i : ℕ). Going c (end + 1) i e) (told .at) (going-more g e (told .ends) (told .key) (told .is) b here f)

@@ -1,5 +1,6 @@
 pub mod ListLaws
 pub mod IdLaws
 pub mod PairLaws
+pub mod PairAtLaws
 pub mod GoingLaws
 pub mod ContentLaws

@@ -70,7 +70,7 @@ both (refused r) n = refl
 both (given a) (refused r) = sym (and-false (isUtf8 a))
 both (given a) (given b) = refl
 
-pair-text : (k v : Bytes) → Meets (lacks 61 k) → isPair (k ++ (61 ∷ v)) ≡ (isDigits k && isDigits v)
+pub pair-text : (k v : Bytes) → Meets (lacks 61 k) → isPair (k ++ (61 ∷ v)) ≡ (isDigits k && isDigits v)
 unfolding isPair isDigits
 pair-text k v h = go (first-of 61 v)
   where
