@@ -33,7 +33,7 @@ extern "C" {
 #endif
 
 /* Bytes of stack to reserve for a call: what the greatest call used, a round trip's 60,136 bytes (measured by host/stack, x86-64; not proved), with
- * a margin of a third. Import's greatest was 59,992, plain form's 46,490, export's 24,416. */
+ * a margin of a third. Import's greatest was 59,992, plain form's 58,336, export's 30,048. */
 #define JUZONTEFA_STACK 81920
 
 /* By value, in two registers. */
