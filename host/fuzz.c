@@ -34,6 +34,9 @@ static void all(const uint8_t *from, const uint8_t *to, uint8_t byte) {
     for (; from < to; from++) require(*from == byte);
 }
 
+/* The index or place that a call with one is asked for. */
+static uint64_t place;
+
 /* One call with a buffer of `room` bytes: the answer, one of the call's numbers (a bit for each), held against the header. */
 static struct juzontefa_answer ask(call *call, uint32_t numbers, const uint8_t *sheet, size_t size, size_t room) {
     uint8_t *out = end[4] - room;
@@ -126,6 +129,69 @@ static void trips(const uint8_t *sheet, size_t size, struct juzontefa_answer exp
     require(trip.answer == JUZONTEFA_EXPORT_REFUSED + step && trip.number == 16);
 }
 
+/* ── mappings */
+
+#define MAPPINGS 0x1800f
+#define CONVERSIONS 0x18001
+
+static struct juzontefa_answer child(const uint8_t *sheet, size_t size, uint8_t *out, size_t room) {
+    return juzontefa_get_child(sheet, size, place, out, room);
+}
+
+static struct juzontefa_answer integer(const uint8_t *sheet, size_t size, uint8_t *out, size_t room) {
+    (void)sheet, (void)size;
+    return juzontefa_from_integer_type(place, out, room);
+}
+
+static struct juzontefa_answer primitive(const uint8_t *sheet, size_t size, uint8_t *out, size_t room) {
+    (void)sheet, (void)size;
+    return juzontefa_from_primitive_type(place, out, room);
+}
+
+/* A mapping from sheet to sheet, never longer than the sheet: refused with `form`, 1, 2 or 3, exactly where plain form is; the answer, which then ends
+ * at end[0]. */
+static struct juzontefa_answer map(call *call, const uint8_t *sheet, size_t size, uint64_t form) {
+    struct juzontefa_answer answer = ask_all(call, call == juzontefa_to_storage ? PLAINS : MAPPINGS, sheet, size, size);
+    require(form != 0 ? answer.number == form : answer.number == 0 || answer.number == 15);
+    ask(call, MAPPINGS, sheet, size, answer.length);
+    memcpy(end[0] - answer.length, end[4] - answer.length, answer.length);
+    return answer;
+}
+
+/* The type that a mapping changed is not changed a second time. */
+static void changes(call *call, const uint8_t *sheet, size_t size, uint64_t form) {
+    struct juzontefa_answer answer = map(call, sheet, size, form);
+    if (answer.number != 0) return;
+    const uint8_t *changed = end[0] - answer.length;
+    struct juzontefa_answer again = ask(call, 1, changed, answer.length, answer.length);
+    require(again.length == answer.length && memcmp(end[4] - again.length, changed, again.length) == 0);
+}
+
+/* The first line of a type that is picked is bare, so that no call reads it. */
+static void picks(call *call, const uint8_t *sheet, size_t size, uint64_t form) {
+    struct juzontefa_answer answer = map(call, sheet, size, form);
+    if (answer.number == 0) require(ask(juzontefa_to_storage, MAPPINGS, end[0] - answer.length, answer.length, size).number == 2);
+}
+
+static void mappings(const uint8_t *sheet, size_t size, uint64_t form) {
+    changes(juzontefa_underlying_physical_type, sheet, size, form);
+    changes(juzontefa_to_storage, sheet, size, form);
+    changes(juzontefa_to_storage_recursive, sheet, size, form);
+    picks(juzontefa_inner_dtype, sheet, size, form);
+    for (place = 0; place < 3; place++) picks(child, sheet, size, form);
+    place = UINT64_MAX - size % 2;
+    require(map(child, sheet, size, form).number != 0);
+    struct juzontefa_places p = juzontefa_to_physical_type(sheet, size);
+    require(form != 0 ? p.number == form : p.number == 0 || p.number == 15);
+    require(p.number != 0 ? p.place == 0 && p.inner == 0 : p.place <= 16 && p.inner <= 16);
+    struct juzontefa_yes_no nested = juzontefa_is_nested(sheet, size), dictionary = juzontefa_contains_dictionary(sheet, size);
+    require(nested.number == form && nested.answer <= (form == 0));
+    require(dictionary.number == form && dictionary.answer <= nested.answer);
+    place = size % 3 == 0 ? UINT64_MAX - size : size % 32;
+    require((ask_all(integer, CONVERSIONS, sheet, size, 100).number == 0) == (place < 10));
+    require((ask_all(primitive, CONVERSIONS, sheet, size, JUZONTEFA_CONVERTED).number == 0) == (place < 17));
+}
+
 static void calls(const uint8_t *sheet, size_t size) {
     /* An export is never eight times as long as its sheet, a plain form never twice. */
     struct juzontefa_answer exported = ask_all(juzontefa_export, EXPORTS, sheet, size, 8 * size + 256);
@@ -133,6 +199,7 @@ static void calls(const uint8_t *sheet, size_t size) {
     if (exported.number <= 3) require(exported.number == plain.number);
     else require(plain.number == 0);
     trips(sheet, size, exported, plain);
+    mappings(sheet, size, plain.number);
 }
 
 #endif

@@ -1,67 +1,16 @@
 /* A C host: walks ArrowSchema structs into schema sheets, imports them and exports what comes; makes field sheets plain, takes them out and back;
- * and tries broken, empty and oversized input on every call. Prints the field sheets and a count; the status is 0 only if every answer was the
- * expected one. */
+ * tries the mappings on every kind; and tries broken, empty and oversized input on every call. Prints the field sheets and a count; the status is 0
+ * only if every answer was the expected one.
+ *
+ *   c KINDS    the table of kinds, host/kinds */
 #include <stdio.h>
 #include <stdlib.h>
 #include <string.h>
 
 #include "../include/juzontefa.h"
+#include "mappings.h"
+#include "tries.h"
 #include "walk.h"
-
-#define SCHEMA "format name flags metadata children dictionary\n"
-#define FIELD "kind p q text more name nullable pairs children\n"
-#define LONGEST 65535
-#define ROOM (1u << 19)
-
-typedef struct juzontefa_answer call(const uint8_t *sheet, size_t sheet_len, uint8_t *out, size_t out_len);
-
-static uint8_t sheet[70000], before[70000];
-static char expected[ROOM];
-static uint8_t out[ROOM];
-static int tried, wrong;
-
-static void count(int ok, const char *what, uint64_t first, uint64_t second)
-{
-    tried++;
-    if (!ok) {
-        wrong++;
-        printf("wrong: %s: %llu, %llu\n", what, (unsigned long long)first, (unsigned long long)second);
-    }
-}
-
-/* `room` bytes of a buffer of ROOM sevens after a call: the answer and sevens, or zeros where there is none; and sevens past the room. */
-static int holds(const uint8_t *buffer, size_t room, const char *answer)
-{
-    size_t length = answer ? strlen(answer) : 0;
-    int ok = length <= room && memcmp(buffer, answer ? answer : "", length) == 0;
-    for (size_t i = length; ok && i < ROOM; i++)
-        ok = buffer[i] == (answer || i >= room ? 7 : 0);
-    return ok;
-}
-
-/* Number and length as expected; zeros on refusal; what stands past the length as it was; the input as it was. */
-static void expect(call *call, const char *what, const uint8_t *in, size_t in_len, size_t room, uint64_t number, const char *answer)
-{
-    memcpy(before, in ? in : sheet, in_len);
-    memset(out, 7, sizeof out);
-    struct juzontefa_answer a = call(in, in_len, room ? out : NULL, room);
-    int ok = a.number == number && a.length == (answer ? strlen(answer) : 0) && holds(out, room, answer);
-    count(ok && (in_len == 0 || memcmp(before, in, in_len) == 0), what, a.number, a.length);
-}
-
-static void text(call *call, const char *what, const char *in, uint64_t number)
-{
-    expect(call, what, (const uint8_t *)in, strlen(in), ROOM, number, NULL);
-}
-
-/* A sheet that is answered, with all kinds of buffers. */
-static void answered(call *call, const char *what, const uint8_t *in, size_t in_len, const char *answer)
-{
-    expect(call, what, in, in_len, ROOM, 0, answer);
-    expect(call, "the exact buffer", in, in_len, strlen(answer), 0, answer);
-    expect(call, "one byte short", in, in_len, strlen(answer) - 1, 16, NULL);
-    expect(call, "no buffer", in, in_len, 0, 16, NULL);
-}
 
 /* ── import, over real structs */
 
@@ -107,35 +56,6 @@ static void broken_schemas(void)
     text(juzontefa_import, "metadata cut short", SCHEMA "67 - 0 0100 0 0\n", 11);
 }
 
-/* ── what every call refuses */
-
-/* `heading` ends in byte 10; `line` has one child. */
-static void broken_sheets(call *call, const char *heading, const char *line, const char *leaf)
-{
-    size_t length = strlen(heading);
-    expect(call, "null and empty", NULL, 0, ROOM, 1, NULL);
-    expect(call, "null, empty and no buffer", NULL, 0, 0, 1, NULL);
-    expect(call, "no byte 10", (const uint8_t *)heading, length - 1, ROOM, 1, NULL);
-    text(call, "another heading", "kind p q\n", 1);
-    text(call, "the other heading", strcmp(heading, FIELD) == 0 ? SCHEMA : FIELD, 1);
-    text(call, "no line", heading, 2);
-    snprintf((char *)sheet, sizeof sheet, "%s%s", heading, line);
-    text(call, "a missing line", (char *)sheet, 2);
-    expect(call, "a line cut short", sheet, strlen((char *)sheet) - 1, ROOM, 2, NULL);
-    snprintf((char *)sheet, sizeof sheet, "%s%s%s", heading, leaf, leaf);
-    text(call, "a line left over", (char *)sheet, 2);
-
-    memset(sheet, 'x', sizeof sheet);
-    expect(call, "oversized", sheet, LONGEST + 1, ROOM, 1, NULL);
-    expect(call, "oversized, with no buffer", sheet, sizeof sheet, 0, 1, NULL);
-
-    memcpy(sheet, heading, length);
-    for (int level = 0; level < 32; level++, length += strlen(line))
-        memcpy(sheet + length, line, strlen(line));
-    memcpy(sheet + length, leaf, strlen(leaf));
-    expect(call, "33 levels", sheet, length + strlen(leaf), ROOM, 3, NULL);
-}
-
 /* ── export, plain form and round trips of field sheets */
 
 #define NAMED "01000000140000004152524f573a657874656e73696f6e3a6e616d650100000078" /* ARROW:extension:name = x */
@@ -175,7 +95,7 @@ static const struct {
 /* A round trip of a sheet into buffers of these rooms: the answer, the number, and the four sheets, or zeros where there are none. */
 static void expect_trip(const char *what, const char *in, const size_t room[4], uint64_t answer, uint64_t number, const char *const sheets[4])
 {
-    static uint8_t buffer[4][ROOM];
+    static uint8_t buffer[4][ROOM], before[70000];
     size_t length = in ? strlen(in) : 0;
     uint8_t *lent[4];
     for (int i = 0; i < 4; i++)
@@ -219,15 +139,6 @@ static void field_sheets(void)
         answered(juzontefa_plain_form, owners[i].what, (const uint8_t *)field, strlen(field), field);
         expect_trip(owners[i].what, field, wide, JUZONTEFA_EXPORT_REFUSED, owners[i].number, NULL);
     }
-}
-
-/* The sheet of `line`, and `leaf` so many times. */
-static size_t many(char *to, const char *line, int times, const char *leaf)
-{
-    size_t length = (size_t)sprintf(to, "%s", line);
-    for (; times > 0; times--)
-        length += (size_t)sprintf(to + length, "%s", leaf);
-    return length;
 }
 
 /* The other answers of a round trip. That the second export differs is not to be had: a plain form is exported as its field is. */
@@ -295,7 +206,7 @@ static void longest_answers(void)
     longest(juzontefa_plain_form, "the longest answer of plain form", in, to, 82603);
 }
 
-int main(void)
+int main(int count, char **words)
 {
     structs();
     broken_schemas();
@@ -305,6 +216,7 @@ int main(void)
     field_sheets();
     other_trips();
     longest_answers();
+    mappings(count == 2 ? words[1] : "");
     printf("C host: %d tried, %d wrong\n", tried, wrong);
     return wrong == 0 ? EXIT_SUCCESS : EXIT_FAILURE;
 }

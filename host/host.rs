@@ -1,38 +1,13 @@
-//! A Rust host: links the static library and calls it on valid, broken, empty and oversized sheets, and takes fields out and back. The status is 0
-//! only if every answer was the expected one.
+//! A Rust host: links the static library and calls it on valid, broken, empty and oversized sheets, takes fields out and back, and tries the mappings
+//! on every kind. The status is 0 only if every answer was the expected one.
+
+#[path = "../include/juzontefa.rs"]
+mod juzontefa;
+mod mappings;
 
 use std::process::ExitCode;
 
-#[repr(C)]
-struct Answer {
-    number: u64,
-    length: u64,
-}
-
-#[repr(C)]
-#[derive(PartialEq)]
-struct Trip {
-    answer: u64,
-    number: u64,
-}
-
-extern "C" {
-    fn juzontefa_import(sheet: *const u8, sheet_len: usize, out: *mut u8, out_len: usize) -> Answer;
-    fn juzontefa_export(sheet: *const u8, sheet_len: usize, out: *mut u8, out_len: usize) -> Answer;
-    fn juzontefa_plain_form(sheet: *const u8, sheet_len: usize, out: *mut u8, out_len: usize) -> Answer;
-    fn juzontefa_round_trip(
-        sheet: *const u8,
-        sheet_len: usize,
-        exported: *mut u8,
-        exported_len: usize,
-        imported: *mut u8,
-        imported_len: usize,
-        plain: *mut u8,
-        plain_len: usize,
-        again: *mut u8,
-        again_len: usize,
-    ) -> Trip;
-}
+use juzontefa::*;
 
 /// What a round trip answers, as far as it is tried here; include/juzontefa.h has all seven.
 const ALL_SAME: u64 = 0;
@@ -40,16 +15,19 @@ const EXPORT_REFUSED: u64 = 1;
 const IMPORT_REFUSED: u64 = 2;
 const IMPORT_DIFFERS: u64 = 5;
 
-type Call = unsafe extern "C" fn(*const u8, usize, *mut u8, usize) -> Answer;
+/// The length of the answer to a sheet, written into a buffer, or the refusal's number.
+type Call<'a> = &'a dyn Fn(&[u8], &mut [u8]) -> Result<usize, u64>;
 
-/// The length of the answer to a sheet, or the refusal's number. An answer can be longer than its sheet.
-fn ask(call: Call, sheet: &[u8], out: &mut [u8]) -> Result<usize, u64> {
-    // SAFETY: both slices are live and do not overlap; the library keeps to their lengths and changes only `out`.
-    let answer = unsafe { call(sheet.as_ptr(), sheet.len(), out.as_mut_ptr(), out.len()) };
+fn told(answer: Answer) -> Result<usize, u64> {
     match answer.number {
         0 => Ok(answer.length as usize),
         number => Err(number),
     }
+}
+
+fn of(call: ToSheet) -> impl Fn(&[u8], &mut [u8]) -> Result<usize, u64> {
+    // SAFETY: both slices are live and do not overlap; the library keeps to their lengths and changes only `out`.
+    move |sheet, out| told(unsafe { call(sheet.as_ptr(), sheet.len(), out.as_mut_ptr(), out.len()) })
 }
 
 /// The round trip of a field sheet; the buffers get its export, the import of that, its plain form, and the export of that.
@@ -87,7 +65,7 @@ impl Tries {
     fn expect(&mut self, call: Call, what: &str, sheet: &[u8], room: usize, expected: Result<&str, u64>) {
         let before = sheet.to_vec();
         let mut out = vec![7u8; room];
-        let right = match (ask(call, sheet, &mut out), expected) {
+        let right = match (call(sheet, &mut out), expected) {
             (Ok(length), Ok(answer)) => length == answer.len() && holds(&out, Some(answer)),
             (Err(number), Err(wanted)) => number == wanted && holds(&out, None),
             _ => false,
@@ -129,8 +107,8 @@ impl Tries {
 
     /// A field with its export and its plain form.
     fn field(&mut self, what: &str, field: &str, exported: &str, plain: &str) {
-        self.answered(juzontefa_export, what, field, exported);
-        self.answered(juzontefa_plain_form, what, field, plain);
+        self.answered(&of(juzontefa_export), what, field, exported);
+        self.answered(&of(juzontefa_plain_form), what, field, plain);
         let sheets = [exported, plain, plain, exported];
         let exact = sheets.map(str::len);
         self.trip(what, field, [ROOM; 4], Trip { answer: ALL_SAME, number: 0 }, Some(sheets));
@@ -155,15 +133,15 @@ fn imports(tries: &mut Tries) {
     let valid = format!("{SCHEMA}2b6c 7065616b 2 ~ 1 0\n67 6974656d 0 ~ 0 0\n");
     let answer = format!("{FIELD}27 0 0 ~ ~ 7065616b 1 ~ 1\n14 0 0 ~ ~ 6974656d 0 ~ 0\n");
     let many = format!("{SCHEMA}2b73 - 0 ~ 3446 0\n{}", "67 - 0 ~ 0 0\n".repeat(3446));
-    tries.answered(juzontefa_import, "a list of peaks", &valid, &answer);
-    tries.broken(juzontefa_import, SCHEMA, "2b6c 70 2 ~ 1 0\n", "67 69 0 ~ 0 0\n");
-    tries.expect(juzontefa_import, "null format", format!("{SCHEMA}~ - 0 ~ 0 0\n").as_bytes(), ROOM, Err(4));
-    tries.expect(juzontefa_import, "longer than 65,536 bytes", many.as_bytes(), 65_536, Err(16));
+    tries.answered(&of(juzontefa_import), "a list of peaks", &valid, &answer);
+    tries.broken(&of(juzontefa_import), SCHEMA, "2b6c 70 2 ~ 1 0\n", "67 69 0 ~ 0 0\n");
+    tries.expect(&of(juzontefa_import), "null format", format!("{SCHEMA}~ - 0 ~ 0 0\n").as_bytes(), ROOM, Err(4));
+    tries.expect(&of(juzontefa_import), "longer than 65,536 bytes", many.as_bytes(), 65_536, Err(16));
 }
 
 fn fields(tries: &mut Tries) {
-    for call in [juzontefa_export as Call, juzontefa_plain_form as Call] {
-        tries.broken(call, FIELD, "27 0 0 ~ ~ 70 1 ~ 1\n", "14 0 0 ~ ~ 69 0 ~ 0\n");
+    for call in [juzontefa_export as ToSheet, juzontefa_plain_form as ToSheet] {
+        tries.broken(&of(call), FIELD, "27 0 0 ~ ~ 70 1 ~ 1\n", "14 0 0 ~ ~ 69 0 ~ 0\n");
     }
     let named = "01000000140000004152524f573a657874656e73696f6e3a6e616d650100000078"; // ARROW:extension:name = x
     let lines = [
@@ -216,6 +194,7 @@ fn main() -> ExitCode {
     let mut tries = Tries::default();
     imports(&mut tries);
     fields(&mut tries);
+    mappings::mappings(&mut tries);
     for what in &tries.wrong {
         println!("wrong: {what}");
     }

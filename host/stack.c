@@ -15,13 +15,22 @@
 #define STACK (1u << 20)
 #define LONGEST 65535
 
-enum call { IMPORT, EXPORT, PLAIN_FORM, ROUND_TRIP, CALLS };
-static const char *const names[CALLS] = { "import", "export", "plain form", "round trip" };
+/* Import reads schema sheets; then come those that read field sheets, and the two conversions, which read none. */
+enum call {
+    IMPORT, EXPORT, PLAIN_FORM, ROUND_TRIP, UNDERLYING_PHYSICAL_TYPE, TO_STORAGE, TO_STORAGE_RECURSIVE, INNER_DTYPE, GET_CHILD, TO_PHYSICAL_TYPE,
+    IS_NESTED, CONTAINS_DICTIONARY, FROM_INTEGER_TYPE, FROM_PRIMITIVE_TYPE, CALLS
+};
+static const char *const names[CALLS] = {
+    "import", "export", "plain_form", "round_trip", "underlying_physical_type", "to_storage", "to_storage_recursive", "inner_dtype", "get_child",
+    "to_physical_type", "is_nested", "contains_dictionary", "from_integer_type", "from_primitive_type"
+};
 
 static uint8_t stack[STACK] __attribute__((aligned(4096)));
 static uint8_t sheet[LONGEST + 2];
 static uint8_t out[4][1u << 19];
 static size_t size, room;
+/* of get_child and the conversions */
+static uint64_t place;
 static enum call called;
 static uint8_t *frame;
 static uint64_t number;
@@ -35,7 +44,17 @@ static void call(void)
     case IMPORT: number = juzontefa_import(sheet, size, out[0], room).number; break;
     case EXPORT: number = juzontefa_export(sheet, size, out[0], room).number; break;
     case PLAIN_FORM: number = juzontefa_plain_form(sheet, size, out[0], room).number; break;
-    default: number = juzontefa_round_trip(sheet, size, out[0], room, out[1], room, out[2], room, out[3], room).number;
+    case ROUND_TRIP: number = juzontefa_round_trip(sheet, size, out[0], room, out[1], room, out[2], room, out[3], room).number; break;
+    case UNDERLYING_PHYSICAL_TYPE: number = juzontefa_underlying_physical_type(sheet, size, out[0], room).number; break;
+    case TO_STORAGE: number = juzontefa_to_storage(sheet, size, out[0], room).number; break;
+    case TO_STORAGE_RECURSIVE: number = juzontefa_to_storage_recursive(sheet, size, out[0], room).number; break;
+    case INNER_DTYPE: number = juzontefa_inner_dtype(sheet, size, out[0], room).number; break;
+    case GET_CHILD: number = juzontefa_get_child(sheet, size, place, out[0], room).number; break;
+    case TO_PHYSICAL_TYPE: number = juzontefa_to_physical_type(sheet, size).number; break;
+    case IS_NESTED: number = juzontefa_is_nested(sheet, size).number; break;
+    case CONTAINS_DICTIONARY: number = juzontefa_contains_dictionary(sheet, size).number; break;
+    case FROM_INTEGER_TYPE: number = juzontefa_from_integer_type(place, out[0], room).number; break;
+    default: number = juzontefa_from_primitive_type(place, out[0], room).number;
     }
 }
 
@@ -216,36 +235,44 @@ struct shape {
     const char *what;
     void (*build)(void);
     uint64_t number;
+    /* the calls that have another number, a bit for each: 15 */
+    uint32_t undefined;
 };
 
+#define NO(call) (1u << call)
+/* what is no list, and what has no child inside extensions */
+#define NO_LIST NO(INNER_DTYPE)
+#define NO_CHILD (NO(INNER_DTYPE) | NO(GET_CHILD))
+#define NO_CHANGE (NO(UNDERLYING_PHYSICAL_TYPE) | NO(TO_STORAGE_RECURSIVE))
+
 static const struct shape schemas[] = {
-    { "one leaf", one_leaf, 0 },
-    { "a list", a_list, 0 },
-    { "dictionary with extension", extension, 0 },
-    { "struct of 4,600", a_struct, 0 },
-    { "32 levels by lists", levels, 0 },
-    { "32 levels by unions", unions, 0 },
-    { "32 levels by dictionaries", dictionaries, 0 },
-    { "32 levels, 15 of them never visited", skipped, 0 },
-    { "32 levels, 3,100 metadata pairs at the deepest", pairs, 0 },
-    { "4,093 levels, refused with 3", too_deep, 3 },
-    { "4,093 levels and no leaf, refused with 2", too_deep_and_broken, 2 },
+    { "one leaf", one_leaf, 0, 0 },
+    { "a list", a_list, 0, 0 },
+    { "dictionary with extension", extension, 0, 0 },
+    { "struct of 4,600", a_struct, 0, 0 },
+    { "32 levels by lists", levels, 0, 0 },
+    { "32 levels by unions", unions, 0, 0 },
+    { "32 levels by dictionaries", dictionaries, 0, 0 },
+    { "32 levels, 15 of them never visited", skipped, 0, 0 },
+    { "32 levels, 3,100 metadata pairs at the deepest", pairs, 0, 0 },
+    { "4,093 levels, refused with 3", too_deep, 3, 0 },
+    { "4,093 levels and no leaf, refused with 2", too_deep_and_broken, 2, 0 },
 };
 
 static const struct shape fields[] = {
-    { "one leaf", field_leaf, 0 },
-    { "a list", field_list, 0 },
-    { "dictionary under an extension", field_extension, 0 },
-    { "struct of 3,200", field_struct, 0 },
-    { "32 levels by lists", field_levels, 0 },
-    { "32 levels by unions without ids", field_unions, 0 },
-    { "32 levels by dictionaries", field_dictionaries, 0 },
-    { "32 levels by extensions", field_extensions, 0 },
-    { "32 levels by lists, each under an extension", field_both, 0 },
-    { "32 levels, 15 of them never visited", field_skipped, 0 },
-    { "32 levels, 3,000 pairs and an extension at the deepest", field_pairs, 0 },
-    { "3,274 levels, refused with 3", field_too_deep, 3 },
-    { "3,274 levels and no leaf, refused with 2", field_too_deep_and_broken, 2 },
+    { "one leaf", field_leaf, 0, NO_CHILD },
+    { "a list", field_list, 0, 0 },
+    { "dictionary under an extension", field_extension, 0, NO_CHILD },
+    { "struct of 3,200", field_struct, 0, NO_LIST },
+    { "32 levels by lists", field_levels, 0, 0 },
+    { "32 levels by unions without ids", field_unions, 0, NO_LIST | NO_CHANGE },
+    { "32 levels by dictionaries", field_dictionaries, 0, NO_CHILD },
+    { "32 levels by extensions", field_extensions, 0, NO_CHILD },
+    { "32 levels by lists, each under an extension", field_both, 0, NO_LIST },
+    { "32 levels, 15 of them never visited", field_skipped, 0, 0 },
+    { "32 levels, 3,000 pairs and an extension at the deepest", field_pairs, 0, 0 },
+    { "3,274 levels, refused with 3", field_too_deep, 3, 0 },
+    { "3,274 levels and no leaf, refused with 2", field_too_deep_and_broken, 2, 0 },
 };
 
 /* The shapes put to the calls from `first` to `last`; how many got another number than they are to get. */
@@ -257,8 +284,8 @@ static int measure(const char *heading, const struct shape *shapes, size_t count
         put(1, heading);
         shapes[i].build();
         for (enum call which = first; which <= last; which++) {
-            printf("%7zu  %-10s  %s\n", used(which), names[which], shapes[i].what);
-            if (number != shapes[i].number) {
+            printf("%7zu  %-24s  %s\n", used(which), names[which], shapes[i].what);
+            if (number != (shapes[i].undefined & NO(which) ? 15 : shapes[i].number)) {
                 printf("wrong: %s of %s: number %llu\n", names[which], shapes[i].what, (unsigned long long)number);
                 wrong++;
             }
@@ -267,10 +294,28 @@ static int measure(const char *heading, const struct shape *shapes, size_t count
     return wrong;
 }
 
+/* Places of both enumerations and past them; how many got another number than they are to get. */
+static int conversions(void)
+{
+    int wrong = 0;
+    const uint64_t past[] = { 10, 17, UINT64_MAX };
+    for (enum call which = FROM_INTEGER_TYPE; which <= FROM_PRIMITIVE_TYPE; which++) {
+        for (int i = 0; i < 20; i++) {
+            place = i < 17 ? (uint64_t)i : past[i - 17];
+            used(which);
+            wrong += number != (place < (which == FROM_INTEGER_TYPE ? 10 : 17) ? 0 : 15);
+        }
+        printf("%7zu  %-24s  all places\n", greatest[which], names[which]);
+    }
+    place = 0;
+    return wrong;
+}
+
 int main(int count, char **files)
 {
     int wrong = measure("format name flags metadata children dictionary\n", schemas, sizeof schemas / sizeof *schemas, IMPORT, IMPORT);
-    wrong += measure("kind p q text more name nullable pairs children\n", fields, sizeof fields / sizeof *fields, EXPORT, ROUND_TRIP);
+    wrong += measure("kind p q text more name nullable pairs children\n", fields, sizeof fields / sizeof *fields, EXPORT, CONTAINS_DICTIONARY);
+    wrong += conversions();
     size_t recorded[CALLS] = { 0 };
     int sheets[CALLS] = { 0 };
     for (int i = 1; i < count; i++) {
@@ -282,7 +327,7 @@ int main(int count, char **files)
         size = fread(sheet, 1, sizeof sheet, file);
         fclose(file);
         int is_field = size > 0 && sheet[0] == 'k';
-        for (enum call which = is_field ? EXPORT : IMPORT; which <= (is_field ? ROUND_TRIP : IMPORT); which++) {
+        for (enum call which = is_field ? EXPORT : IMPORT; which <= (is_field ? CONTAINS_DICTIONARY : IMPORT); which++) {
             size_t bytes = used(which);
             if (bytes > recorded[which]) recorded[which] = bytes;
             sheets[which]++;
@@ -290,7 +335,7 @@ int main(int count, char **files)
     }
     size_t most = 0;
     for (enum call which = IMPORT; which < CALLS; which++) {
-        if (count > 1) printf("%7zu  %-10s  the greatest of %d sheets in files\n", recorded[which], names[which], sheets[which]);
+        if (sheets[which] > 0) printf("%7zu  %-24s  the greatest of %d sheets in files\n", recorded[which], names[which], sheets[which]);
         if (greatest[which] > most) most = greatest[which];
     }
     for (enum call which = IMPORT; which < CALLS; which++)

@@ -6,6 +6,8 @@
  * sheet and buffers must not overlap. A pointer may be null if its length is 0: an empty sheet, or a buffer without room. Calls may run at the
  * same time on different buffers.
  *
+ * A schema sheet goes to import; all other calls read a field sheet, but for the two conversions, which take a place in an enumeration.
+ *
  * The answer's number is 0 for success, or says who is turned back:
  *    1  over 65,535 bytes, wrong heading, or no byte 10 after it
  *    2  a line breaks its rules, or lines are missing or left over
@@ -17,10 +19,14 @@
  *   12  no format (Time32 in micro- or nanoseconds, Time64 in seconds or milliseconds, MonthDayMillis, Unknown)
  *   13  union whose ids are `-`, or `~` over no fields
  *   14  byte 00 in a line's name or timezone
+ *   15  a mapping is not defined for the type, there is no such child, or no such place to convert
  *   16  the answer is longer than the buffer
- * Import gives 1 to 11 and 16; export 1, 2, 3, 12, 13, 14 and 16; plain form 1, 2, 3 and 16. (15 belongs to the mappings, which are not here.)
+ * Import gives 1 to 11 and 16; export 1, 2, 3, 12, 13, 14 and 16; plain form and `to_storage` 1, 2, 3 and 16; `underlying_physical_type`,
+ * `to_storage_recursive`, `inner_dtype` and `get_child` 1, 2, 3, 15 and 16; `to_physical_type` 1, 2, 3 and 15; `is_nested` and
+ * `contains_dictionary` 1, 2 and 3; the two conversions 15 and 16. 1, 2 and 3 are tried over the whole sheet, in that order, before all others; 16
+ * comes last, and only if there is an answer and it is longer than the buffer.
  * On success `length` bytes of the buffer are the answer, and the bytes past them keep what they held. On refusal `length` is 0 and
- * the whole buffer is zeros.
+ * the whole buffer is zeros. Calls that answer numbers are lent no buffer; their numbers are 0 on refusal.
  */
 #ifndef JUZONTEFA_H
 #define JUZONTEFA_H
@@ -33,7 +39,7 @@ extern "C" {
 #endif
 
 /* Bytes of stack to reserve for a call: what the greatest call used, a round trip's 60,136 bytes (measured by host/stack, x86-64; not proved), with
- * a margin of a third. Import's greatest was 59,992, plain form's 58,336, export's 30,048. */
+ * a margin of a third. Import's greatest was 59,992; of the others none used more than 37,752. */
 #define JUZONTEFA_STACK 81920
 
 /* By value, in two registers. */
@@ -53,6 +59,67 @@ struct juzontefa_answer juzontefa_export(const uint8_t *sheet, size_t sheet_len,
 /* The plain form of a field sheet, a field sheet again: what import of its export gives, where the field can be exported and has no reserved key
  * and no dictionary index of 128 bits. The longest answer that was found has 82,603 bytes, for a union without ids of 3,636 leaves. */
 struct juzontefa_answer juzontefa_plain_form(const uint8_t *sheet, size_t sheet_len, uint8_t *out, size_t out_len);
+
+/* ── The mappings of a field's type, and the two conversions, by the names of the Rust.
+ *
+ * An answer of the five that read a field sheet and give one is never longer than the sheet: a line that stays is copied, and one that changes
+ * loses text and gains none (its kind becomes that of a leaf, with `p` and `q` 0 and no text; or it takes over the name, `nullable` and pairs of the
+ * extension that it stood in, whose line vanishes; or they become `~`). That is not proved; host/fuzz and host/host.c try it. So a buffer of
+ * `sheet_len` bytes never gets 16. The longest answer of a conversion has JUZONTEFA_CONVERTED bytes. */
+
+#define JUZONTEFA_CONVERTED 69 /* heading and line of Decimal256, `36 32 32 ~ ~ ~ ~ ~ 0` */
+
+/* The field with its type replaced, its name, `nullable` and pairs as they were. Dates, times, timestamps, durations and decimals become the integers
+ * that they are kept as, in lists and structs too; a dictionary becomes its index type, whatever its values are; an extension what its inner type
+ * becomes. 15 for an interval in MonthDayNano or MonthDayMillis, Decimal256, a map or a union. */
+struct juzontefa_answer juzontefa_underlying_physical_type(const uint8_t *sheet, size_t sheet_len, uint8_t *out, size_t out_len);
+
+/* The field with the type inside its outermost extensions; the field itself where it is none. */
+struct juzontefa_answer juzontefa_to_storage(const uint8_t *sheet, size_t sheet_len, uint8_t *out, size_t out_len);
+
+/* The field without extensions, in lists, structs and the values of dictionaries too. 15 for a map or a union. */
+struct juzontefa_answer juzontefa_to_storage_recursive(const uint8_t *sheet, size_t sheet_len, uint8_t *out, size_t out_len);
+
+/* The type of a list's items, as a sheet whose first line is bare: name, `nullable` and pairs are `~`. 15 for other kinds, extensions among them.
+ * (No call reads a sheet whose first line is bare.) */
+struct juzontefa_answer juzontefa_inner_dtype(const uint8_t *sheet, size_t sheet_len, uint8_t *out, size_t out_len);
+
+/* The type of the child at a place, from 0, of a list, map, struct or union, looked for inside extensions; as a sheet whose first line is bare. 15 if
+ * there is none, and for a dictionary. */
+struct juzontefa_answer juzontefa_get_child(const uint8_t *sheet, size_t sheet_len, uint64_t index, uint8_t *out, size_t out_len);
+
+/* The type of a place in `IntegerType`, 0 to 9: Int8, Int16, Int32, Int64, Int128, UInt8, UInt16, UInt32, UInt64, UInt128; as a sheet whose one line is
+ * bare. 15 for another place. */
+struct juzontefa_answer juzontefa_from_integer_type(uint64_t place, uint8_t *out, size_t out_len);
+
+/* The type of a place in `PrimitiveType`, 0 to 16: Int8, Int16, Int32, Int64, Int128, Int256, UInt8, UInt16, UInt32, UInt64, UInt128, Float16, Float32,
+ * Float64, DaysMs, MonthDayNano, MonthDayMillis; as a sheet whose one line is bare. 15 for another place. */
+struct juzontefa_answer juzontefa_from_primitive_type(uint64_t place, uint8_t *out, size_t out_len);
+
+/* By value; three words, which C returns through memory of the caller's. */
+struct juzontefa_places {
+    uint64_t number;
+    uint64_t place; /* in `PhysicalType`, 0 to 16: Null, Boolean, Primitive, Binary, FixedSizeBinary, LargeBinary, Utf8, LargeUtf8, List, FixedSizeList,
+                       LargeList, Struct, Union, Map, Dictionary, BinaryView, Utf8View */
+    uint64_t inner; /* of Primitive the place in `PrimitiveType`, of Dictionary that in `IntegerType`, else 0 */
+};
+
+/* The physical type of a field. 15 for Unknown, also inside extensions. */
+struct juzontefa_places juzontefa_to_physical_type(const uint8_t *sheet, size_t sheet_len);
+
+/* By value, in two registers. */
+struct juzontefa_yes_no {
+    uint64_t number;
+    uint64_t answer; /* 1 for yes, 0 for no */
+};
+
+/* Whether a field's type is a list, struct, union, map, dictionary or extension. */
+struct juzontefa_yes_no juzontefa_is_nested(const uint8_t *sheet, size_t sheet_len);
+
+/* Whether a dictionary is in a field's type, at any depth. */
+struct juzontefa_yes_no juzontefa_contains_dictionary(const uint8_t *sheet, size_t sheet_len);
+
+/* ── Out and back */
 
 /* What a round trip answers. */
 enum juzontefa_trip_answer {

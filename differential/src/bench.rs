@@ -1,6 +1,7 @@
 //! Times the Rust from sheet to sheet: reading the sheet into its structs or values, its own call, and writing the sheet
 //! of the answer. Where our library is linked, it is timed beside it, batch by batch, and the ratio is printed. Plain form
-//! is not in the Rust: ours is timed beside our own export of the same sheet.
+//! is not in the Rust: ours is timed beside our own export of the same sheet. A sheet that a mapping is not defined for is
+//! timed up to its refusal.
 
 use std::hint::black_box;
 use std::io::Write;
@@ -15,12 +16,22 @@ use crate::generator::{block, hex, hex_text, join_lines, Kind, Line};
 use crate::library;
 use crate::model::Model;
 use crate::oracle::Rust;
+use crate::refusal::{Number, UNDEFINED};
 
 /// A batch takes so much processor time. Batches are short, so that some of them find a quiet machine.
 const BATCH: Duration = Duration::from_millis(4);
 
-/// The calls that are timed.
-pub const CALLS: [Call; 3] = [Call::Import, Call::Export, Call::Plain];
+/// The calls that are timed: those from sheet to sheet.
+pub const CALLS: [Call; 8] = [
+    Call::Import,
+    Call::Export,
+    Call::Plain,
+    Call::UnderlyingPhysicalType,
+    Call::ToStorage,
+    Call::ToStorageRecursive,
+    Call::InnerDtype,
+    Call::GetChild,
+];
 
 /// A workload: a schema sheet of a size, or the field sheet that it is imported to.
 struct Workload {
@@ -102,10 +113,10 @@ struct Timed {
 
 /// A sheet that a call is timed on.
 struct Trial {
-    call: Call,
+    request: Request,
     sheet: Vec<u8>,
-    /// The length of the answer.
-    answer: usize,
+    /// The length of the answer, or the number of the refusal.
+    answer: Result<usize, Number>,
     /// The length of what stands beside it: the same, but for plain form the export's.
     beside: usize,
     timed: Timed,
@@ -140,12 +151,18 @@ pub fn bench(rust: &Rust, rounds: u64, only: Option<Call>, out: &mut dyn Write) 
             measure(rust, trial);
         }
     }
-    writeln!(out, "workload                   call       in    out    ns/call     MB/s   growth  ours")?;
+    writeln!(out, "{:<26} {:<24}     in    out    ns/call     MB/s   growth  ours", "workload", "call")?;
     for row in &rows {
         writeln!(out, "{:<26} {}", row.name, columns(&row.whole, row.quarter.as_ref()))?;
     }
     writeln!(out, "growth: how many times longer than a quarter of the size takes; MB/s: of the sheet handed in")?;
-    if rows.iter().any(|row| row.whole.call == Call::Plain) {
+    if rows.iter().any(|row| row.whole.answer.is_err()) {
+        writeln!(out, "no 15: refused with 15, by the Rust with `None`, an error or a panic")?;
+    }
+    if rows.iter().any(|row| row.whole.request.call == Call::GetChild) {
+        writeln!(out, "get_child: the last child of the first line")?;
+    }
+    if rows.iter().any(|row| row.whole.request.call == Call::Plain) {
         writeln!(out, "plain: not in the Rust; ns/call, MB/s and growth are of our own export of the sheet")?;
     }
     Ok(())
@@ -167,52 +184,75 @@ fn sheet(rust: &Rust, workload: &Workload, size: usize, call: Call) -> Result<Ve
     let schema = join_lines(Kind::Schema, &(workload.lines)(size));
     match call.input() {
         Input::SchemaSheet => Ok(schema),
-        _ => answered(rust, workload, Call::Import, &schema),
+        _ => match rust.answer(Request::new(Call::Import, 0), &schema) {
+            Ok(Answer::Sheet(field)) => Ok(field),
+            other => Err(Failure::Found(format!("{}: {other:?}", workload.name))),
+        },
     }
 }
 
-fn answered(rust: &Rust, workload: &Workload, call: Call, sheet: &[u8]) -> Result<Vec<u8>, Failure> {
-    match compare::answer(rust, &Model::new(), Request::new(call, 0), sheet) {
-        Ok(Answer::Sheet(answer)) => Ok(answer),
-        other => Err(Failure::Found(format!("{}: {other:?}", workload.name))),
+/// What the call is asked on a sheet: `get_child` for the last child of the first line.
+fn request(call: Call, sheet: &[u8]) -> Request {
+    let line = sheet.split(|byte| *byte == b'\n').nth(1).unwrap_or_default();
+    let children = line.rsplit(|byte| *byte == b' ').next().and_then(|count| std::str::from_utf8(count).ok()?.parse().ok());
+    match (call, children) {
+        (Call::GetChild, Some(children)) => Request::new(call, u64::saturating_sub(children, 1)),
+        _ => Request::new(call, 0),
+    }
+}
+
+/// The length of the answer to a sheet, or the refusal's number.
+fn answer_length(rust: &Rust, request: Request, sheet: &[u8]) -> Result<usize, Number> {
+    match compare::answer(rust, &Model::new(), request, sheet)? {
+        Answer::Sheet(answer) => Ok(answer.len()),
+        Answer::Values(..) => Ok(0),
     }
 }
 
 fn trial(rust: &Rust, workload: &Workload, size: usize, call: Call) -> Result<Trial, Failure> {
     let sheet = sheet(rust, workload, size, call)?;
-    let answer = answered(rust, workload, call, &sheet)?.len();
-    let beside = if call == Call::Plain { answered(rust, workload, Call::Export, &sheet)?.len() } else { answer };
-    Ok(Trial { call, sheet, answer, beside, timed: Timed { beside: f64::INFINITY, ours: None } })
+    let request = request(call, &sheet);
+    let answer = answer_length(rust, request, &sheet);
+    let beside = match call {
+        Call::Plain => answer_length(rust, Request::new(Call::Export, 0), &sheet),
+        _ => answer,
+    };
+    match (answer, beside) {
+        (Err(UNDEFINED), _) | (Ok(_), Ok(_)) => {
+            let timed = Timed { beside: f64::INFINITY, ours: None };
+            Ok(Trial { request, beside: beside.unwrap_or(0), answer, sheet, timed })
+        }
+        _ => Err(Failure::Found(format!("{}: {answer:?}", workload.name))),
+    }
 }
 
 /// A batch of the Rust, or of our export beside plain form, and, where it is linked, one of ours.
 fn measure(rust: &Rust, trial: &mut Trial) {
-    let (call, sheet) = (trial.call, &trial.sheet[..]);
-    let mut out = Vec::with_capacity(trial.answer);
-    let beside = match call {
-        Call::Plain => of_ours(Call::Export, sheet, trial.beside),
+    let (request, sheet) = (trial.request, &trial.sheet[..]);
+    // Where it is refused, the buffer has as many bytes as the sheet: no answer of a mapping is longer.
+    let room = trial.answer.unwrap_or(sheet.len());
+    let mut out = Vec::with_capacity(room);
+    let beside = match request.call {
+        Call::Plain => of_ours(Request::new(Call::Export, 0), sheet, trial.beside),
         _ => nanoseconds(|| {
             out.clear();
-            let done = match call {
-                Call::Import => rust.import(black_box(sheet), &mut out),
-                _ => rust.export(black_box(sheet), &mut out),
-            };
+            let done = rust.write(request, black_box(sheet), &mut out);
             black_box(&out);
             black_box(done.is_ok());
         }),
     };
     trial.timed.beside = trial.timed.beside.min(beside);
-    if library::has(call) {
-        let of_ours = of_ours(call, sheet, trial.answer);
+    if library::has(request.call) {
+        let of_ours = of_ours(request, sheet, room);
         trial.timed.ours = Some(trial.timed.ours.map_or(of_ours, |least| least.min(of_ours)));
     }
 }
 
 /// A batch of our library, into a buffer of so many bytes.
-fn of_ours(call: Call, sheet: &[u8], room: usize) -> f64 {
+fn of_ours(request: Request, sheet: &[u8], room: usize) -> f64 {
     let mut buffer = vec![0; room];
     nanoseconds(|| {
-        black_box(library::ask(Request::new(call, 0), black_box(sheet), &mut buffer));
+        black_box(library::ask(request, black_box(sheet), &mut buffer));
     })
 }
 
@@ -257,7 +297,7 @@ fn columns(whole: &Trial, quarter: Option<&Trial>) -> String {
     };
     let Timed { beside, ours } = whole.timed;
     let grows = growth(beside, quarter.map(|quarter| quarter.timed.beside));
-    let what = if whole.call == Call::Plain { "our export" } else { "the Rust" };
+    let what = if whole.request.call == Call::Plain { "our export" } else { "the Rust" };
     let ours = match ours {
         None => "-".to_string(),
         Some(ours) => {
@@ -265,7 +305,8 @@ fn columns(whole: &Trial, quarter: Option<&Trial>) -> String {
             format!("{ours:.0} ns, growth {grows}, {:.2} of {what}", ours / beside)
         }
     };
-    let (call, input, output) = (whole.call.name(), whole.sheet.len(), whole.answer);
+    let (call, input) = (whole.request.call.name(), whole.sheet.len());
+    let output = whole.answer.map_or_else(|number| format!("no {number}"), |length| length.to_string());
     let speed = input as f64 * 1_000.0 / beside;
-    format!("{call:<6} {input:>6} {output:>6} {beside:>10.0} {speed:>8.1} {grows:>8}  {ours}")
+    format!("{call:<24} {input:>6} {output:>6} {beside:>10.0} {speed:>8.1} {grows:>8}  {ours}")
 }

@@ -78,6 +78,12 @@ impl Call {
         !matches!(self, Call::ToPhysicalType | Call::IsNested | Call::ContainsDictionary)
     }
 
+    /// Whether an answer is never longer than its sheet, as `include/juzontefa.h` says of the mappings from sheet to sheet.
+    pub fn never_lengthens(self) -> bool {
+        let lengthens = matches!(self, Call::Import | Call::Export | Call::Plain);
+        self.writes() && self.input() != Input::Place && !lengthens
+    }
+
     /// Plain form is not in the Rust: the plain reading answers it.
     pub fn is_in_rust(self) -> bool {
         self != Call::Plain

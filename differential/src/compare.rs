@@ -21,8 +21,9 @@ pub struct Case<'a> {
 }
 
 impl Case<'_> {
+    /// A call that writes no sheet is lent nothing.
     pub fn lent(&self) -> Vec<u8> {
-        lent(self.room)
+        lent(if self.request.call.writes() { self.room } else { 0 })
     }
 }
 
@@ -216,6 +217,10 @@ impl Comparison<'_> {
     }
 
     fn compare_case(&mut self, case: &Case, answered: &Answered) -> Result<(), String> {
+        let Case { request: Request { call, .. }, sheet, .. } = *case;
+        if call.never_lengthens() && matches!(answered, Ok(Answer::Sheet(answer)) if answer.len() > sheet.len()) {
+            return Err(format!("{} is longer than its sheet on \"{}\"", call.name(), sheet.escape_ascii()));
+        }
         let outcome = Outcome::of(answered, case.lent());
         self.counts.add(case.request, outcome.number);
         for (other, name) in OTHERS {

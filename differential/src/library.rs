@@ -1,78 +1,80 @@
 //! Our own calls, from the static library that `differential/build --with LIBRARY` links; without it there are none.
 //!
-//! This is the one place that knows the library's functions, as `include/juzontefa.h` declares them. `differential/build`
-//! turns a feature on for each that the library has. A call is added here by its name among the extern functions and a
-//! case in `writer`, and there by its feature; all commands then compare, replay and time it beside the Rust.
+//! `include/juzontefa.rs` declares the library's functions, and this is the one place that asks them. `differential/build`
+//! turns a feature on for each that the library has; a call whose feature is off is passed over by all commands.
 
 use std::ptr;
 
 use crate::answer::{Answer, Answered, Outcome};
 use crate::call::{Call, Request};
+use crate::juzontefa::{self, ToSheet};
 use crate::trip::Trip;
 
-/// What a call that writes a sheet answers.
-#[repr(C)]
-struct Told {
-    number: u64,
-    length: u64,
+type RoundTrip = unsafe extern "C" fn(
+    *const u8,
+    usize,
+    *mut u8,
+    usize,
+    *mut u8,
+    usize,
+    *mut u8,
+    usize,
+    *mut u8,
+    usize,
+) -> juzontefa::Trip;
+
+/// The library's function for a call, by what it takes and answers.
+// A library need not have all of them.
+#[allow(dead_code)]
+enum Function {
+    ToSheet(ToSheet),
+    Indexed(unsafe extern "C" fn(*const u8, usize, u64, *mut u8, usize) -> juzontefa::Answer),
+    Conversion(unsafe extern "C" fn(u64, *mut u8, usize) -> juzontefa::Answer),
+    ToPlaces(unsafe extern "C" fn(*const u8, usize) -> juzontefa::Places),
+    ToYesNo(unsafe extern "C" fn(*const u8, usize) -> juzontefa::YesNo),
 }
 
-/// What a round trip answers.
-#[repr(C)]
-struct ToldTrip {
-    answer: u64,
-    number: u64,
-}
-
-type Writer = unsafe extern "C" fn(*const u8, usize, *mut u8, usize) -> Told;
-type RoundTrip =
-    unsafe extern "C" fn(*const u8, usize, *mut u8, usize, *mut u8, usize, *mut u8, usize, *mut u8, usize) -> ToldTrip;
-
-extern "C" {
-    #[cfg(feature = "import")]
-    fn juzontefa_import(sheet: *const u8, sheet_len: usize, out: *mut u8, out_len: usize) -> Told;
-    #[cfg(feature = "export")]
-    fn juzontefa_export(sheet: *const u8, sheet_len: usize, out: *mut u8, out_len: usize) -> Told;
-    #[cfg(feature = "plain_form")]
-    fn juzontefa_plain_form(sheet: *const u8, sheet_len: usize, out: *mut u8, out_len: usize) -> Told;
-    #[cfg(feature = "round_trip")]
-    fn juzontefa_round_trip(
-        sheet: *const u8,
-        sheet_len: usize,
-        exported: *mut u8,
-        exported_len: usize,
-        imported: *mut u8,
-        imported_len: usize,
-        plain: *mut u8,
-        plain_len: usize,
-        again: *mut u8,
-        again_len: usize,
-    ) -> ToldTrip;
-}
-
-/// The library's function for a call that writes a sheet, if it has it.
-fn writer(call: Call) -> Option<Writer> {
+/// The function for a call, if the library has it.
+fn function(call: Call) -> Option<Function> {
+    // A function's name stands only where its feature is on: else the library would be asked for it.
+    macro_rules! has {
+        ($feature:literal, $form:ident, $name:ident) => {{
+            #[cfg(feature = $feature)]
+            let function = Some(Function::$form(juzontefa::$name));
+            #[cfg(not(feature = $feature))]
+            let function = None;
+            function
+        }};
+    }
     match call {
-        #[cfg(feature = "import")]
-        Call::Import => Some(juzontefa_import),
-        #[cfg(feature = "export")]
-        Call::Export => Some(juzontefa_export),
-        #[cfg(feature = "plain_form")]
-        Call::Plain => Some(juzontefa_plain_form),
-        _ => None,
+        Call::Import => has!("import", ToSheet, juzontefa_import),
+        Call::Export => has!("export", ToSheet, juzontefa_export),
+        Call::Plain => has!("plain_form", ToSheet, juzontefa_plain_form),
+        Call::ToPhysicalType => has!("to_physical_type", ToPlaces, juzontefa_to_physical_type),
+        Call::UnderlyingPhysicalType => {
+            has!("underlying_physical_type", ToSheet, juzontefa_underlying_physical_type)
+        }
+        Call::ToStorage => has!("to_storage", ToSheet, juzontefa_to_storage),
+        Call::ToStorageRecursive => has!("to_storage_recursive", ToSheet, juzontefa_to_storage_recursive),
+        Call::InnerDtype => has!("inner_dtype", ToSheet, juzontefa_inner_dtype),
+        Call::GetChild => has!("get_child", Indexed, juzontefa_get_child),
+        Call::IsNested => has!("is_nested", ToYesNo, juzontefa_is_nested),
+        Call::ContainsDictionary => has!("contains_dictionary", ToYesNo, juzontefa_contains_dictionary),
+        Call::FromIntegerType => has!("from_integer_type", Conversion, juzontefa_from_integer_type),
+        Call::FromPrimitiveType => has!("from_primitive_type", Conversion, juzontefa_from_primitive_type),
     }
 }
 
 fn trip_call() -> Option<RoundTrip> {
     #[cfg(feature = "round_trip")]
-    return Some(juzontefa_round_trip);
+    return Some(juzontefa::juzontefa_round_trip);
     #[cfg(not(feature = "round_trip"))]
     None
 }
 
 /// Whether a library is linked that has the call.
 pub fn has(call: Call) -> bool {
-    writer(call).is_some()
+    function(call).is_some()
 }
 
 pub fn has_round_trip() -> bool {
@@ -114,13 +116,25 @@ pub fn answer(call: Call, sheet: &[u8]) -> Answered {
 
 /// The number, the length or first value, and the second value. For calls that `has` says yes to.
 pub fn ask(request: Request, sheet: &[u8], out: &mut [u8]) -> (u64, u64, u64) {
-    let Some(writer) = writer(request.call) else {
+    let Some(function) = function(request.call) else {
         unreachable!("the library has no {}", request.call.name());
     };
-    let (from, to) = (start(sheet), start_mut(out));
+    let (from, len, to, room) = (start(sheet), sheet.len(), start_mut(out), out.len());
+    let of_sheet = |told: juzontefa::Answer| (told.number, told.length, 0);
+    let of_yes_no = |told: juzontefa::YesNo| (told.number, told.answer, 0);
     // SAFETY: both slices are live, and the library keeps to their lengths.
-    let told = unsafe { writer(from, sheet.len(), to, out.len()) };
-    (told.number, told.length, 0)
+    unsafe {
+        match function {
+            Function::ToSheet(call) => of_sheet(call(from, len, to, room)),
+            Function::Indexed(call) => of_sheet(call(from, len, request.argument, to, room)),
+            Function::Conversion(call) => of_sheet(call(request.argument, to, room)),
+            Function::ToPlaces(call) => {
+                let juzontefa::Places { number, place, inner } = call(from, len);
+                (number, place, inner)
+            }
+            Function::ToYesNo(call) => of_yes_no(call(from, len)),
+        }
+    }
 }
 
 /// The round trip of a sheet; none where the library has no such call. Ends the program as `outcome` does.

@@ -9,6 +9,8 @@ mod compare;
 mod demand3;
 mod failure;
 mod generator;
+#[path = "../../include/juzontefa.rs"]
+mod juzontefa;
 mod library;
 mod model;
 mod mutants;

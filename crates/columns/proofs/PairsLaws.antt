@@ -42,7 +42,7 @@ front-pairs (x ∷ y ∷ b) = pick (isPair x y) refl (front-pairs b)
     pick false e h = refl
 
 -- after pairs, the pairs that go on
-pairs-on : (c r : Bytes) → Meets (pairs c) → pairsLength (c ++ r) ≡ length c + pairsLength r
+pub pairs-on : (c r : Bytes) → Meets (pairs c) → pairsLength (c ++ r) ≡ length c + pairsLength r
 unfolding pairsLength
 pairs-on [] r h = omega arith
 pairs-on (x ∷ []) r h = never h
@@ -93,12 +93,12 @@ part-append s a b c h k =
     ap (λ (i : ℕ). take i (drop a s)) n ∙ take-add (b - a) (c - b) (drop a s)
     ∙ ap (λ (l : Bytes). part s a b ++ take (c - b) l) (drop-drop (b - a) a s ∙ ap (λ (i : ℕ). drop i s) m)
 
-part-rest : (s : Bytes) (a b : ℕ) → a ≤ b → drop a s ≡ part s a b ++ drop b s
+pub part-rest : (s : Bytes) (a b : ℕ) → a ≤ b → drop a s ≡ part s a b ++ drop b s
 part-rest s a b h =
     let m : a + (b - a) ≡ b = omega arith in
     sym (take-append-drop (b - a) (drop a s)) ∙ ap (λ (l : Bytes). part s a b ++ l) (drop-drop (b - a) a s ∙ ap (λ (i : ℕ). drop i s) m)
 
-part-size : (s : Bytes) (a b : ℕ) → b ≤ length s → length (part s a b) ≡ b - a
+pub part-size : (s : Bytes) (a b : ℕ) → b ≤ length s → length (part s a b) ≡ b - a
 part-size s a b h = length-take (b - a) (drop a s) ∙ omega (arith, length-drop a s)
 
 pub part-end : (s : Bytes) (a : ℕ) → part s a (length s) ≡ drop a s

@@ -11,11 +11,12 @@ use lib.ListN.{length, getD, drop, drop-of-length-le, length-drop}
 use lib.Seq.{drop-cons}
 use borrow.Author.Tests.{eq-eqb, ne-eqb, eqb-true, not-true, lt-ltb}
 use Rattle.sheets.specs.Refusal.{badLines}
-use Rattle.sheets.specs.Rule.{passes}
-use Rattle.sheets.specs.Bytes.{Bytes, lacks}
+use Rattle.sheets.specs.Rule.{passes, Meets}
+use Rattle.sheets.specs.Bytes.{Bytes, all, lacks, isByte}
 use Rattle.sheets.specs.Answer.{Answer, refused, given, _>>=_}
-use Rattle.sheets.specs.Text.{hexDigit, unhex, readText}
+use Rattle.sheets.specs.Text.{hexDigit, hex, unhex, readText}
 use Rattle.sheets.proofs.Tests.{never, and-left, and-right}
+use Rattle.sheets.proofs.TextLaws.{unhex-hex}
 use Rattle.hex.specs.Hex.{gives, isDigit, valueOf, isHex, bytesOf}
 use Rattle.hex.proofs.DigitLaws.{digit-of-value}
 use Rattle.hex.proofs.HexLaws.{unhex-is, digit-at, byte-of-pair, length-bytes}
@@ -66,6 +67,11 @@ text-pairs : (s : Bytes) → 2 ≤ length s → readText s ≡ (unhex s >>= λ b
 text-pairs [] h = absurd (omega arith)
 text-pairs (c ∷ []) h = absurd (omega arith)
 text-pairs (c ∷ d ∷ s) h = simp and-false
+
+-- the hexadecimal of bytes, at least one, is the text that they are
+pub hex-text : (c b : Bytes) → 0 < length c → c ≡ hex b → Meets (all isByte b) → readText c ≡ given (some b)
+hex-text c [] n e h = absurd (omega (arith, ap length e))
+hex-text c (x ∷ b) n e h = ap readText e ∙ text-pairs (hex (x ∷ b)) (omega arith) ∙ ap (λ (a : Answer Bytes). a >>= λ bs. given (some bs)) (unhex-hex (x ∷ b) h)
 
 some-gives : (a : Answer Bytes) → gives (a >>= λ bs. given (some bs)) ≡ gives a
 some-gives (refused r) = refl

@@ -1,5 +1,6 @@
 -- The numbers in columns: what the column from a place on says, and where it ends. Assumes nothing.
 use mathlib.Core.Path.{_≡_}
+use mathlib.Core.Bool.{true}
 use Prim.Native.Nat.{ℕ, _^_, _≤_, _<_}
 use lib.IntN.{ℤ}
 use lib.Signed.{mag}
@@ -9,9 +10,10 @@ use Rattle.sheets.specs.Bytes.{Bytes}
 use Rattle.sheets.specs.Answer.{Answer, refused, given, _>>=_, found}
 use Rattle.sheets.specs.Number.{readNumber, readSigned}
 use Rattle.decimal.specs.Column.{columnBelow, signedColumn}
-use Rattle.columns.specs.Columns.{part, columnEnd}
+use Rattle.columns.specs.Columns.{part, isStop, stopFrom, columnEnd, ColumnAt}
 use Rattle.columns.specs.declared.number.NumberColumn.{NumberColumn}
 use Rattle.columns.specs.declared.number.NumberColumn.the-variants as Unsigned
+use Rattle.columns.specs.declared.number.NumberTo.{NumberTo}
 use Rattle.columns.specs.declared.number.SignedColumn.{SignedColumn}
 use Rattle.columns.specs.declared.number.SignedColumn.the-variants as Signed
 
@@ -41,9 +43,13 @@ signedColumnAnswer Signed.Bad = refused badLines
 
 -- ── numbers that are known to stand
 
--- the bytes from a to b are a number of 64 bits
-abbrev pub HasNumber : Bytes → ℕ → ℕ → Type 0
-HasNumber s a b = (n : ℕ) × (readNumber (part s a b) ≡ given n) × (n < 2 ^ 64) × (b ≤ length s)
+-- the column from a on is a number of 64 bits
+abbrev pub HasNumber : Bytes → ℕ → Type 0
+HasNumber s a = (e : ℕ) × (stop : ℕ) × ColumnAt s a e stop × (isStop stop ≡ true) × (n : ℕ) × (readNumber (part s a e) ≡ given n) × (n < 2 ^ 64)
+
+-- this is the number, and there its column ends
+abbrev pub NumberStands : Bytes → ℕ → NumberTo → Type 0
+NumberStands s a r = (r .end ≡ stopFrom s a) × (readNumber (part s a (r .end)) ≡ given (r .value))
 
 -- the bytes from a to b are a signed number of 64 bits
 abbrev pub HasSigned : Bytes → ℕ → ℕ → Type 0

@@ -3,7 +3,7 @@ use mathlib.Core.Path.{_≡_}
 use mathlib.Core.Bool.{Bool, true, false, _&&_, _||_, cond}
 use mathlib.Core.List.{[], _∷_}
 use Prim.Native.Nat.{ℕ, suc, _+_, _≤_}
-use lib.Dec.{leb}
+use lib.Dec.{leb, ltb}
 use lib.ListN.{length, drop}
 use Rattle.sheets.specs.Rule.{Rule, is, _and_, passes}
 use Rattle.sheets.specs.Bytes.{Bytes}
@@ -18,6 +18,10 @@ abbrev pub pairs : Bytes → Rule
 pairs [] = is true
 pairs (a ∷ []) = is false
 pairs (a ∷ b ∷ bs) = is (isPair a b) and pairs bs
+
+-- such pairs, at least one
+unfoldable pub arePairs : Bytes → Bool
+arePairs c = ltb 0 (length c) && passes (pairs c)
 
 -- how many bytes such pairs have that stand at the front
 unfoldable pub pairsLength : Bytes → ℕ

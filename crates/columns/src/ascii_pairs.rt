@@ -3,10 +3,12 @@ ghost use mathlib.Core.Path.{_≡_};
 ghost use Prim.Native.Nat.{_+_, _≤_};
 ghost use lib.ListN.{length};
 ghost use Rattle.sheets.specs.Rule.{passes};
-ghost use Rattle.columns.specs.Columns.{part, blockSize};
-ghost use Rattle.columns.specs.Pairs.{isPair, pairs, pairsLength, pairsFrom, PairsPass};
+ghost use Rattle.sheets.specs.Bytes.{space};
+ghost use Rattle.columns.specs.Columns.{part, blockSize, columnOf, placeOption};
+ghost use Rattle.columns.specs.Pairs.{isPair, pairs, pairsLength, pairsFrom, PairsPass, arePairs};
 use crate::BLOCK;
 use crate::NEAR;
+use crate::Place;
 
 // Both tests are joined without a branch: in `are_pairs` they compile to vector instructions.
 fn is_pair(a: u8, b: u8) -> bool
@@ -72,4 +74,24 @@ pub fn pairs_from(s: &[u8], at: usize) -> usize
         return e;
     }
     pairs_before(s, blocks_from(s, e), s.len())
+}
+
+// The end of the column from place at on, if it is such pairs and a space ends it: the end and the text are found in one look.
+pub fn pairs_column(s: &[u8], at: usize) -> Place
+    ensures { λ r. ⌜ placeOption r ≡ columnOf arePairs space (now (s .entry)) at ⌝ }
+{
+    if s.len() <= at {
+        return Place::Nowhere;
+    }
+    let e = pairs_from(s, at);
+    if s.len() <= e {
+        return Place::Nowhere;
+    }
+    if s[e] != b' ' {
+        return Place::Nowhere;
+    }
+    if e == at {
+        return Place::Nowhere;
+    }
+    Place::At(e)
 }

@@ -105,8 +105,8 @@ fn pass_blocks(s: &[u8], at: usize) -> usize
     i
 }
 
-// The same as `text_end`, for a text of any length: by single bytes at first, since most are short, then by blocks.
-fn any_end(s: &[u8], at: usize) -> usize
+// The same as `number_end`, for texts: by single bytes at first, since most are short, then by blocks.
+pub fn any_end(s: &[u8], at: usize) -> usize
     ensures { λ r. ⌜ r ≡ stopFrom (now (s .entry)) at ⌝ }
 {
     if s.len() <= at {
@@ -120,7 +120,7 @@ fn any_end(s: &[u8], at: usize) -> usize
     number_end(s, pass_blocks(s, near))
 }
 
-// The same as `number_end`, for texts and lists: most are one byte or long.
+// The same, for texts and lists of which most are `~`.
 pub fn text_end(s: &[u8], at: usize) -> usize
     ensures { λ r. ⌜ r ≡ stopFrom (now (s .entry)) at ⌝ }
 {

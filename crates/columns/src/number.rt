@@ -6,7 +6,7 @@ ghost use Rattle.sheets.specs.Bytes.{space};
 ghost use Rattle.sheets.specs.Answer.{given};
 ghost use Rattle.sheets.specs.Number.{isDigit, readNumber, readSigned};
 ghost use Rattle.columns.specs.Columns.{isStop, part, oneOf};
-ghost use Rattle.columns.specs.NumberColumns.{numberIn, signedIn, numberAnswer, signedColumnAnswer, HasNumber, HasSigned};
+ghost use Rattle.columns.specs.NumberColumns.{numberIn, signedIn, numberAnswer, signedColumnAnswer, HasNumber, NumberStands, HasSigned};
 use crate::Place;
 use decimal::Signed64;
 use decimal::Unsigned64;
@@ -79,18 +79,24 @@ pub fn number_column(s: &[u8], at: usize, stop: u8) -> NumberColumn
     any_number(s, at, stop)
 }
 
-// The number whose digits stand from place at up to end, read without a test.
-pub fn number_at(s: &[u8], at: usize, end: usize) -> u64
-    requires { ⌜ HasNumber (now s) at end ⌝ }
-    ensures { λ r. ⌜ readNumber (part (now (s .entry)) at end) ≡ given r ⌝ }
+// A number and the end of its column.
+pub struct NumberTo {
+    pub value: u64,
+    pub end: usize,
+}
+
+// The number that is known to stand from place at on: its digits are read up to the byte that ends them, and not tested.
+pub fn number_at(s: &[u8], at: usize) -> NumberTo
+    requires { ⌜ HasNumber (now s) at ⌝ }
+    ensures { λ r. ⌜ NumberStands (now (s .entry)) at r ⌝ }
 {
     let mut v: u64 = 0;
     let mut i = at;
-    while i < end {
+    while b'0' <= s[i] {
         v = v * 10 + buffer::wide(s[i] - b'0');
         i += 1;
     }
-    v
+    NumberTo { value: v, end: i }
 }
 
 // The signed number that stands from place at up to end.

@@ -8,6 +8,7 @@ ghost use Rattle.hex.specs.Hex.{isHex, bytesOf};
 ghost use Rattle.columns.specs.Columns.{columnOf, oneOf, placeOption};
 ghost use Rattle.columns.specs.TextColumns.{isMark, isText, isZero, zerosApart, isCString};
 use crate::Place;
+use crate::ascii_pairs;
 
 // `~` is a null pointer, `-` an empty text.
 fn is_mark(b: u8) -> bool
@@ -101,7 +102,7 @@ fn one_mark(s: &[u8], at: usize) -> bool
 fn any_text(s: &[u8], at: usize) -> Place
     ensures { λ r. ⌜ placeOption r ≡ columnOf isText space (now (s .entry)) at ⌝ }
 {
-    let Place::At(e) = crate::column(s, at, crate::text_end(s, at), b' ') else {
+    let Place::At(e) = crate::column(s, at, crate::any_end(s, at), b' ') else {
         return Place::Nowhere;
     };
     if is_text(&s[at..e]) {
@@ -120,15 +121,25 @@ pub fn text_column(s: &[u8], at: usize) -> Place
     any_text(s, at)
 }
 
-// The end of the column from place at on that is a text without byte 00.
-pub fn c_string_column(s: &[u8], at: usize) -> Place
+// The same as `c_string_column`, for texts of any bytes.
+fn any_c_string(s: &[u8], at: usize) -> Place
     ensures { λ r. ⌜ placeOption r ≡ columnOf isCString space (now (s .entry)) at ⌝ }
 {
-    let Place::At(e) = crate::column(s, at, crate::text_end(s, at), b' ') else {
+    let Place::At(e) = crate::column(s, at, crate::any_end(s, at), b' ') else {
         return Place::Nowhere;
     };
     if is_c_string(&s[at..e]) {
         return Place::At(e);
     }
     Place::Nowhere
+}
+
+// The end of the column from place at on that is a text without byte 00. Most are ASCII: then each byte is looked at once.
+pub fn c_string_column(s: &[u8], at: usize) -> Place
+    ensures { λ r. ⌜ placeOption r ≡ columnOf isCString space (now (s .entry)) at ⌝ }
+{
+    if let Place::At(e) = ascii_pairs::pairs_column(s, at) {
+        return Place::At(e);
+    }
+    any_c_string(s, at)
 }

@@ -4,11 +4,11 @@ use mathlib.Core.Path.{_≡_, refl, sym, ap, ap₂, subst, _∙_}
 use mathlib.Core.Bool.{Bool, true, false, not, _&&_, _||_, cond}
 use mathlib.Core.List.{List, [], _∷_, _++_}
 use mathlib.Core.Option.{Option, none, some}
-use Prim.Native.Nat.{ℕ, _+_, _-_, _*_, _≤_, _<_, _^_}
+use Prim.Native.Nat.{ℕ, _+_, _-_, _≤_, _<_, _^_}
 use native.Mathlib.Omega.{arith}
 use lib.Dec.{eqb}
 use lib.IntN.{pos}
-use lib.ListN.{length, drop, length-append, length-drop}
+use lib.ListN.{length, length-append, length-drop}
 use Rattle.sheets.specs.Rule.{passes, Meets}
 use Rattle.sheets.specs.Bytes.{Bytes, lacks, lineEnd}
 use Rattle.sheets.specs.Answer.{Answer, refused, given, _>>=_}
@@ -18,13 +18,12 @@ use Rattle.sheets.specs.Flags.{NULLABLE}
 use Rattle.sheets.specs.Kind
 use Rattle.sheets.specs.Field.{Info, ArrowDataType}
 use Rattle.sheets.specs.FieldSheet.{Entry, Shape, columns, infoColumns}
-use Rattle.sheets.specs.LineTrees.{Standing}
 use Rattle.sheets.specs.FieldTrees.{Head, isExtension, shapeRule, ownRule, typeShape, typeCount, typeBelow, entryHead, entryLines, fields}
 use Rattle.sheets.specs.Mappings.{toStorage}
 use Rattle.sheets.specs.Metadata.{Extension, schemaMetadata}
 use Rattle.sheets.specs.Schema.{schemaLine, lineOf}
 use Rattle.sheets.specs.Export.{flag}
-use Rattle.sheets.specs.Walk.{skip, Step, writes, lineWritten, typeWalk, rowWalk}
+use Rattle.sheets.specs.Walk.{Step, writes, lineWritten, typeWalk, rowWalk}
 use Rattle.sheets.specs.ExportSteps.{Bearer, orValues, extensionIn, schemaOwn, schemaStep}
 use Rattle.sheets.proofs.Tests.{never}
 use Rattle.sheets.proofs.FieldTrees.{fields-lawful, below-kind}
@@ -42,39 +41,27 @@ use Rattle.put_schema_line.specs.declared.LineNumbers.{LineNumbers}
 use Rattle.put_schema_line.proofs.LineLaws.{moved, shapeFlags, shape-flags, other-small, line-size}
 use Rattle.read_field_line.specs.FieldLines.{PartAt, Shows, FieldLineAt}
 use Rattle.read_field_line.specs.declared.FieldLine.{FieldLine}
-use Rattle.field_sheet.specs.Subtrees.{skipAnswer, SkipsRow}
-use Rattle.field_sheet.specs.declared.subtrees.Skipped.{Skipped}
-use Rattle.field_sheet.specs.declared.subtrees.Skipped.the-variants.{To, Deep}
 use Rattle.walks.specs.Places.{ownLimit, TypeAt, RowAt, Owns, Begins, BeginsAs}
 use Rattle.walks.specs.Answers.{begunAnswer}
 use Rattle.walks.specs.declared.LineBegun.{LineBegun}
 use Rattle.walks.specs.declared.Subtree.{Subtree}
 use Rattle.walks.specs.declared.Subtrees.{Subtrees}
-use Rattle.walks.proofs.BeginLaws.{row-inside, row-inside-smaller, some-level, begin-visit, begin-skip}
-use Rattle.export_line.specs.Begins.{InnerLine, isAlone, columnsFrom, numbersOf, rowFrom, EndsBelow, RowLeft, HasBelow, zeroPending, begunWith}
+use Rattle.storage_line.specs.StorageLines.{StorageAt}
+use Rattle.storage_line.specs.Below.{RowLeft}
+use Rattle.storage_line.specs.declared.StorageLine.{StorageLine}
+use Rattle.storage_line.proofs.BelowLaws as Storage
+use Rattle.export_line.specs.Begins.{isAlone, columnsFrom, numbersOf, zeroPending, begunWith}
 use Rattle.export_line.proofs.ColumnLaws.{is-part, part-short, part-text, name-column, pairs-column, nullable-is, name-is, extensionName, extensionMore, extension-said, extension-rules, more-said, name-said, can-format, line-format, line-said}
-use Rattle.export_line.proofs.StepLaws.{isDictionary, dictionary-kind, index-small, extended, storage-plain, Leaves, visited, nothing, skipped, WrittenType, written, own-put}
-
--- ── the types below are skipped
-
-module _ (s : Bytes) (l : FieldLine) (levels : ℕ) (r : Skipped) (k : SkipsRow s (l .end) (l .children) false levels (skipAnswer r)) where
-  told-as : (q : Skipped) → r ≡ q → SkipsRow s (l .end) (l .children) false levels (skipAnswer q)
-  told-as q e = subst (λ (y : Skipped). SkipsRow s (l .end) (l .children) false levels (skipAnswer y)) e k
-
-  pub skipped-to : (next : ℕ) → r ≡ To next → EndsBelow s l levels next
-  skipped-to next e us es w =
-      let h = told-as (To next) e us es (w .stands) (w .counted) in
-      (h .1, h .2, h .3)
-
-  -- none has more levels
-  pub skipped-deep : r ≡ Deep → (next : ℕ) → EndsBelow s l levels next
-  skipped-deep e next us es w = absurd (omega (arith, told-as Deep e .1 us es (w .stands) (w .counted), w .deep))
+use Rattle.export_line.proofs.StepLaws.{isDictionary, dictionary-kind, index-small, extended, WrittenType, written, own-put}
 
 -- ── a field
 
 -- a field at `tree`: its first line, and the line of its type in all extensions
 module _ {s : Bytes} (tree : Subtree) {i : Option Info} {t : ArrowDataType} {es : List Entry} (f : TypeAt s (tree .at) (tree .levels) (tree .inside) i t es)
-    (first l : FieldLine) (a : FieldLineAt s (tree .at) first) (g : InnerLine s (tree .at) t es l) (alone : Bool) (is : alone ≡ isAlone (first .kind) (l .kind)) where
+    (first : FieldLine) (a : FieldLineAt s (tree .at) first) {v : StorageLine} (g : StorageAt s tree t es v) (alone : Bool) (is : alone ≡ isAlone (first .kind) (v .line .kind)) where
+  abbrev l : FieldLine
+  l = v .line
+
   abbrev inner : Shape
   inner = typeShape (toStorage t)
 
@@ -99,19 +86,22 @@ module _ {s : Bytes} (tree : Subtree) {i : Option Info} {t : ArrowDataType} {es 
   own-rules = let o = subst (λ (h : Head). Meets (fields .own h)) (sym head) (a .there .own) in (o .0, o .1)
 
   inner-rule : Meets (shapeRule inner)
-  inner-rule = subst (λ (h : Shape). Meets (shapeRule h)) (sym (g .shape)) (g .line .there .own .1)
+  inner-rule = Storage.rule-kept tree f g
+
+  shape-is : inner ≡ g .line .line .shape
+  shape-is = ap (λ (h : Head). h .shape) (Storage.head-is tree f g .0)
 
   kind-is : l .kind ≡ columns inner .kind
-  kind-is = g .line .shows .kind ∙ ap (λ (h : Shape). columns h .kind) (sym (g .shape))
+  kind-is = Storage.kind-is tree f g
 
   p-is : l .p ≡ columns inner .p
-  p-is = g .line .shows .p ∙ ap (λ (h : Shape). columns h .p) (sym (g .shape))
+  p-is = Storage.p-is tree f g
 
   q-is : l .q ≡ columns inner .q
-  q-is = g .line .shows .q ∙ ap (λ (h : Shape). columns h .q) (sym (g .shape))
+  q-is = g .line .shows .q ∙ ap (λ (h : Shape). columns h .q) (sym shape-is)
 
   count-is : l .children ≡ typeCount (toStorage t)
-  count-is = g .line .shows .children ∙ sym (g .children)
+  count-is = Storage.count-is tree f g
 
   outer-is : eqb (first .kind) Kind.Extension ≡ isExtension (typeShape t)
   outer-is = ap (λ (k : ℕ). eqb k Kind.Extension) (shown .kind) ∙ sym (below-kind (typeShape t) (own-rules .1) .0)
@@ -132,14 +122,8 @@ module _ {s : Bytes} (tree : Subtree) {i : Option Info} {t : ArrowDataType} {es 
 
   -- ── what stands below
 
-  place-fits : l .end ≤ length s
-  place-fits = g .line .there .high
-
   row : RowAt s (l .end) (l .children) (tree .levels - 1) false below es
-  row = subst (λ (n : ℕ). RowAt s (l .end) n (tree .levels - 1) false below es) (sym count-is) (row-inside f (l .end) (g .stands) place-fits (storage-plain t))
-
-  pub row-there : HasBelow s tree l
-  row-there = (some-level f, (below, es, row))
+  row = Storage.row tree f g
 
   few-below : typeCount (toStorage t) < 65536
   few-below = omega (arith, f .short, standing-many fields-lawful (row .stands), length-append below es, row .counted, count-is, length-drop (l .end) s)
@@ -155,10 +139,10 @@ module _ {s : Bytes} (tree : Subtree) {i : Option Info} {t : ArrowDataType} {es 
       λ j. numbersOf (b j) (alone-is j) (kind-is j) (p-is j) (q-is j) (count-is j)
 
   abbrev wrote : WrittenType (toStorage t) info around numbers
-  wrote = written info (toStorage t) (storage-plain t) inner-rule around
+  wrote = written info (toStorage t) (Storage.storage-plain t) inner-rule around
 
   text-at : PartAt s (l .text) (columns inner .text)
-  text-at = subst (λ (h : Shape). PartAt s (l .text) (columns h .text)) (sym (g .shape)) (g .line .shows .text)
+  text-at = subst (λ (h : Shape). PartAt s (l .text) (columns h .text)) (sym shape-is) (g .line .shows .text)
 
   more-at : PartAt s (first .more) (writeText (extensionMore (typeShape t)))
   more-at = subst (PartAt s (first .more)) (more-said (typeShape t)) (shown .more)
@@ -281,37 +265,12 @@ module _ {s : Bytes} (tree : Subtree) {i : Option Info} {t : ArrowDataType} {es 
       ∙ ap (λ (x : Answer (Step (Option Bearer))). lineWritten x (λ τ. rowWalk schemaStep below τ) (entryLines below)) (wrote .step ∙ ap (λ (x : Answer Bytes). x >>= λ h. given (stepOf h)) (format-is ∙ e))
 
   module _ (w : Subtrees) (left : RowLeft s tree l alone w) (old out : Bytes) where
-    -- the row y is left
-    abbrev BegunAt : ℕ → Answer (Unit {0}) → Subtrees → Type 0
-    BegunAt len pending y =
-        Begins schemaStep s (tree .at) (tree .levels) (tree .inside) (typeWalk schemaStep t i none) es old out
-        (record { from = y .at; count = y .count; levels = y .levels; inside = y .inside; state = none; len = len; pending = pending })
-
     -- the line is written
-    begun : (h : Bytes) → format ≡ given h → (len : ℕ) (pending : Answer (Unit {0})) → Owns (stepOf h .own) pending len old out → len ≤ ownLimit → BegunAt len pending w
-    begun h e len pending owns short = go (wrote .left)
-      where
-        at-row : (x : Bool) → (isDictionary inner && isSome around) ≡ x → RowLeft s tree l x w
-        at-row x q = subst (λ (b : Bool). RowLeft s tree l b w) (alone-is ∙ q) left
-
-        long : (next : ℕ) → l .end ≤ next → len + ownLimit * tree .at ≤ ownLimit * next
-        long next k = omega (arith, short, k, g .low, g .line .there .low)
-
-        passed : wrote .below ≡ skip → (next : ℕ) → Standing fields (drop next s) es → l .end ≤ next → next ≤ length s → BegunAt len pending (rowFrom next 0 (tree .levels - 1))
-        passed v next d low high =
-            begin-skip schemaStep s (tree .at) (tree .levels) (tree .inside) (typeWalk schemaStep t i none) (stepOf h) below es (opened (given h) e) none next (tree .levels - 1) false (row-inside-smaller f) d high (f .short) v old out len pending owns (long next low)
-
-        go : Leaves below (wrote .below) (isDictionary inner && isSome around) → BegunAt len pending w
-        go (visited v q) =
-            subst (BegunAt len pending) (sym (at-row false q))
-            (begin-visit schemaStep s (tree .at) (tree .levels) (tree .inside) (typeWalk schemaStep t i none) (stepOf h) below es (opened (given h) e) none v (l .end) (l .children) (tree .levels - 1) false row (row-inside-smaller f) old out len pending owns (long (l .end) (omega arith)))
-        go (nothing v q n) =
-            let zero : l .children ≡ 0 = sym (row .counted) ∙ ap length n in
-            subst (BegunAt len pending) (sym (at-row false q ∙ ap (λ (c : ℕ). rowFrom (l .end) c (tree .levels - 1)) zero)) (passed v (l .end) (subst (λ (us : List Entry). Standing fields (drop (l .end) s) (us ++ es)) n (row .stands)) (omega arith) place-fits)
-        go (skipped v q) =
-            let d = at-row true q in
-            let k = d .2 below es row in
-            subst (BegunAt len pending) (sym (d .1)) (passed v (d .0) (k .0) (k .1) (k .2))
+    begun : (h : Bytes) → format ≡ given h → (len : ℕ) (pending : Answer (Unit {0})) → Owns (stepOf h .own) pending len old out → len ≤ ownLimit
+        → Begins schemaStep s (tree .at) (tree .levels) (tree .inside) (typeWalk schemaStep t i none) es old out
+        (record { from = w .at; count = w .count; levels = w .levels; inside = w .inside; state = none; len = len; pending = pending })
+    begun h e len pending owns short =
+        Storage.begun tree f g schemaStep none (typeWalk schemaStep t i none) (stepOf h) (opened (given h) e) (isDictionary inner && isSome around) w (subst (λ (b : Bool). RowLeft s tree l b w) alone-is left) old out len pending owns short (wrote .left)
 
     -- what was written, or why nothing was
     told : (r : Exported) → At (λ text name pairs extension more. PutsColumns numbers text name pairs extension more r old out)

@@ -1,4 +1,3 @@
-pub mod InnerLaws
 pub mod ColumnLaws
 pub mod StepLaws
 pub mod BelowLaws

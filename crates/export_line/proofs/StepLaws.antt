@@ -2,7 +2,7 @@
 -- index type alone is written as the integer type that it is. Assumes nothing.
 use mathlib.Core.Path.{_≡_, refl, sym, ap, _∙_}
 use mathlib.Core.Bool.{Bool, true, false, not, _&&_, _||_, cond, true≢false}
-use mathlib.Core.List.{List, [], _∷_}
+use mathlib.Core.List.{[], _∷_}
 use mathlib.Core.Option.{Option, none, some}
 use Prim.Native.Nat.{ℕ, _+_, _≤_, _<_}
 use native.Mathlib.Omega.{arith}
@@ -15,9 +15,8 @@ use Rattle.sheets.specs.Answer.{given, _>>=_, decide}
 use Rattle.sheets.specs.Sheet.{ended, isSome}
 use Rattle.sheets.specs.Kind
 use Rattle.sheets.specs.Field.{Info, bits128, bits32, bits64, bits256, leaf, timestamp, fixedSizeBinary, decimalType, list, largeList, fixedSizeList, map, struct, union, ArrowDataType, scalar, nested, grouped, dictionary, extension}
-use Rattle.sheets.specs.FieldSheet.{Entry, Shape, ofScalar, ofNesting, ofGrouping, ofDictionary, ofExtension, columns}
+use Rattle.sheets.specs.FieldSheet.{Shape, ofScalar, ofNesting, ofGrouping, ofDictionary, ofExtension, columns}
 use Rattle.sheets.specs.FieldTrees.{isExtension, shapeRule, typeShape, typeCount, typeBelow}
-use Rattle.sheets.specs.Mappings.{toStorage}
 use Rattle.sheets.specs.Metadata.{Extension}
 use Rattle.sheets.specs.Walk.{Below, visit, skip, writes}
 use Rattle.sheets.specs.ExportSteps.{Bearer, schemaOwn, schemaStepOf, extensionIn}
@@ -28,6 +27,7 @@ use Rattle.put_format.specs.LineFormat.{shapeFormat}
 use Rattle.put_format.proofs.ArmLaws.{can-index}
 use Rattle.put_schema_line.specs.declared.LineNumbers.{LineNumbers}
 use Rattle.put_schema_line.proofs.LineLaws.{shapeFlags}
+use Rattle.storage_line.proofs.BelowLaws.{Leaves, visited, nothing, passed}
 use Rattle.export_line.specs.Begins.{numbersWith, numbersOf, zeroPending}
 
 -- ── by the column `kind`
@@ -71,21 +71,7 @@ extended (ofGrouping g) = refl
 extended (ofDictionary ix ordered) = refl
 extended (ofExtension a m) = refl
 
--- the type in all extensions is none
-pub storage-plain : (t : ArrowDataType) → isExtension (typeShape (toStorage t)) ≡ false
-storage-plain (scalar s) = refl
-storage-plain (nested n j t) = refl
-storage-plain (grouped g fs) = refl
-storage-plain (dictionary ix ordered t) = refl
-storage-plain (extension n m t) = storage-plain t
-
 -- ── the step
-
--- what is done with the types us below a line: they are visited; there are none; or they are passed, as those below an index type alone are
-pub data Leaves (us : List Entry) (below : Below (Option Bearer)) (alone : Bool) : Type 0 where
-  visited : below ≡ visit none → alone ≡ false → Leaves us below alone
-  nothing : below ≡ skip → alone ≡ false → us ≡ [] → Leaves us below alone
-  skipped : below ≡ skip → alone ≡ true → Leaves us below alone
 
 -- the type that is written for the type v, under the extension e, and its step
 pub record WrittenType (v : ArrowDataType) (i : Info) (e : Option Extension) (n : LineNumbers) : Type 0 where
@@ -100,7 +86,7 @@ pub record WrittenType (v : ArrowDataType) (i : Info) (e : Option Extension) (n 
   pub few : children ≤ typeCount v
   pub one : values ≤ 1
   pub step : schemaStepOf (typeShape v) (typeCount v) i e ≡ (shapeFormat shape children >>= λ f. given (writes (schemaOwn i e f (shapeFlags shape) children values) below))
-  pub left : Leaves (typeBelow v) below (isDictionary (typeShape v) && isSome e)
+  pub left : Leaves {S = Option Bearer} none (typeBelow v) below (isDictionary (typeShape v) && isSome e)
 
 module _ (i : Info) where
   abbrev numbersFor : ArrowDataType → Option Extension → LineNumbers
@@ -147,7 +133,7 @@ module _ (i : Info) where
         few = omega arith;
         one = omega arith;
         step = refl;
-        left = skipped refl refl;
+        left = passed refl refl;
       }
   written (extension a m t) p h e = absurd (true≢false p)
 

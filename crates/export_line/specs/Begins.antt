@@ -1,52 +1,23 @@
 -- Export at the first line of a field: "`ARROW:extension:name` and `ARROW:extension:metadata`" stand "for the outermost extension only", so all extensions
 -- around a type are passed at the field's first line, and the line of the type in all of them is written. Assumes nothing.
-use mathlib.Core.Path.{_≡_}
-use mathlib.Core.Bool.{Bool, true, false, _&&_, cond}
-use mathlib.Core.List.{List, _∷_, _++_}
+use mathlib.Core.Bool.{Bool, _&&_, cond}
 use mathlib.Core.Option.{Option, none}
-use Prim.Native.Nat.{ℕ, _+_, _-_, _≤_}
+use Prim.Native.Nat.{ℕ, _+_}
 use lib.Dec.{eqb}
-use lib.ListN.{length, drop}
 use Rattle.sheets.specs.Refusal.{zeroByte}
 use Rattle.sheets.specs.Bytes.{Bytes}
 use Rattle.sheets.specs.Answer.{Answer, refused, given}
 use Rattle.sheets.specs.Kind
-use Rattle.sheets.specs.Field.{Info, ArrowDataType}
-use Rattle.sheets.specs.FieldSheet.{Entry}
-use Rattle.sheets.specs.LineTrees.{Standing}
-use Rattle.sheets.specs.TreeWalks.{HasTree}
-use Rattle.sheets.specs.FieldTrees.{typeShape, typeCount, typeBelow, fields}
-use Rattle.sheets.specs.Mappings.{toStorage}
 use Rattle.sheets.specs.ExportSteps.{Bearer, schemaStep}
-use Rattle.read_field_line.specs.FieldLines.{FieldLineAt}
 use Rattle.read_field_line.specs.declared.FieldLine.{FieldLine}
 use Rattle.put_schema_line.specs.Lines.{lineFlags}
 use Rattle.put_schema_line.specs.declared.LineColumns.{LineColumns}
 use Rattle.put_schema_line.specs.declared.LineNumbers.{LineNumbers}
-use Rattle.walks.specs.Places.{Begun, RowAt, HasRow, TypeBegins}
+use Rattle.walks.specs.Places.{Begun, TypeBegins}
 use Rattle.walks.specs.Answers.{begunAnswer}
 use Rattle.walks.specs.declared.LineBegun.{LineBegun}
 use Rattle.walks.specs.declared.Subtree.{Subtree}
 use Rattle.walks.specs.declared.Subtrees.{Subtrees}
-
--- ── the line of the type in all extensions around t, which stands from `at` on with es after it: the types below it stand next
-
-pub record InnerLine (s : Bytes) (at : ℕ) (t : ArrowDataType) (es : List Entry) (l : FieldLine) : Type 0 where
-  pub place : ℕ
-  pub line : FieldLineAt s place l
-  pub low : at ≤ place
-  pub shape : typeShape (toStorage t) ≡ line .line .shape
-  pub children : typeCount (toStorage t) ≡ line .line .children
-  pub stands : Standing fields (drop (l .end) s) (typeBelow (toStorage t) ++ es)
-
--- the first line of a field was read
-abbrev pub HasFirstLine : Bytes → FieldLine → Type 0
-HasFirstLine s first = (at : ℕ) × FieldLineAt s at first × HasTree fields s at
-
--- wherever it was read, this is the line of its type in all extensions
-abbrev pub IsInner : Bytes → FieldLine → FieldLine → Type 0
-IsInner s first l =
-    (at : ℕ) → FieldLineAt s at first → (i : Option Info) (t : ArrowDataType) (es : List Entry) → Standing fields (drop at s) ((i, t) ∷ es) → InnerLine s at t es l
 
 -- ── the columns and numbers of the schema line
 
@@ -77,24 +48,6 @@ numbersOf nullable alone kind p q children =
     (numbersWith nullable kind p q children 0))
 
 -- ── what is left
-
--- types that stand in no extension
-abbrev pub rowFrom : ℕ → ℕ → ℕ → Subtrees
-rowFrom at count levels = record { at = at; count = count; levels = levels; inside = false }
-
--- the place after the types below the line
-abbrev pub EndsBelow : Bytes → FieldLine → ℕ → ℕ → Type 0
-EndsBelow s l levels next =
-    (us es : List Entry) → RowAt s (l .end) (l .children) levels false us es → Standing fields (drop next s) es × (l .end ≤ next) × (next ≤ length s)
-
--- the types below the line, or none after them
-abbrev pub RowLeft : Bytes → Subtree → FieldLine → Bool → Subtrees → Type 0
-RowLeft s tree l false r = r ≡ rowFrom (l .end) (l .children) (tree .levels - 1)
-RowLeft s tree l true r = (next : ℕ) × (r ≡ rowFrom next 0 (tree .levels - 1)) × EndsBelow s l (tree .levels - 1) next
-
--- they stand there, of one level less
-abbrev pub HasBelow : Bytes → Subtree → FieldLine → Type 0
-HasBelow s tree l = (1 ≤ tree .levels) × HasRow s (l .end) (l .children) (tree .levels - 1) false
 
 -- "14 byte 00 in a line's `name` or timezone", pending until what is below is done with
 abbrev pub zeroPending : Bool → Answer (Unit {0})

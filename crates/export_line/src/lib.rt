@@ -1,36 +1,24 @@
 // What export writes for one field of a field sheet: the schema line of its type, from the first line of the field and the line of the type inside all
 // extensions around it; and what is left to be visited below.
 ghost use mathlib.Core.Path.{_≡_};
-ghost use mathlib.Core.Bool.{true, false};
+ghost use mathlib.Core.Bool.{true};
 ghost use mathlib.Core.Option.{none};
 ghost use Prim.Native.Nat.{_<_};
 ghost use Rattle.put_format.specs.Formats.{exportedAnswer};
 ghost use Rattle.walks.specs.Answers.{begunAnswer, pendingAnswer};
-ghost use Rattle.walks.specs.Places.{HasType, HasRow};
-ghost use Rattle.export_line.specs.Begins.{HasFirstLine, IsInner, isAlone, columnsFrom, numbersWith, numbersOf, HasBelow, EndsBelow, RowLeft, zeroPending, begunWith, ExportBegins};
+ghost use Rattle.walks.specs.Places.{HasType};
+ghost use Rattle.export_line.specs.Begins.{isAlone, columnsFrom, numbersWith, numbersOf, zeroPending, begunWith, ExportBegins};
 use datatypes::kind;
-use field_sheet::subtrees::Skipped;
 use put_format::Exported;
 use put_schema_line::LineColumns;
 use put_schema_line::LineNumbers;
 use read_field_line::FieldLine;
 use refusal::Refusal;
+use storage_line::below;
 use walks::LineBegun;
 use walks::Pending;
 use walks::Subtree;
 use walks::Subtrees;
-
-// The line of the type inside all extensions around it. An extension's inner type stands in the next line.
-fn inner_line(s: &[u8], first: FieldLine) -> FieldLine
-    requires { ⌜ HasFirstLine (now s) first ⌝ }
-    ensures { λ r. ⌜ IsInner (now (s .entry)) first r ⌝ }
-{
-    let mut l = first;
-    while l.kind == kind::EXTENSION {
-        l = read_field_line::field_line_at(s, l.end);
-    }
-    l
-}
 
 // Whether the type is a dictionary directly under extensions, which is written as its index type alone.
 fn is_alone(outer: u64, inner: u64) -> bool
@@ -103,42 +91,6 @@ fn line_numbers(nullable: bool, alone: bool, l: FieldLine) -> LineNumbers
     numbers_with(nullable, l.kind, l.p, l.q, l.children, 0)
 }
 
-// The place after the types below the line.
-fn after_below(s: &[u8], l: FieldLine, levels: usize) -> usize
-    requires { ⌜ HasRow (now s) (l .end) (l .children) levels false ⌝ }
-    ensures { λ r. ⌜ EndsBelow (now (s .entry)) l levels r ⌝ }
-{
-    let Skipped::To(next) = field_sheet::subtrees::skip_row(s, l.end, l.children, false, levels)
-    else {
-        // the whole sheet was read before, and no type has more levels: this never comes
-        return s.len();
-    };
-    next
-}
-
-// The types that are visited below the line; the values of a dictionary that is written as its index type are skipped.
-fn row_below(s: &[u8], tree: Subtree, l: FieldLine, alone: bool) -> Subtrees
-    requires { ⌜ HasBelow (now s) tree l ⌝ }
-    ensures { λ r. ⌜ RowLeft (now (s .entry)) tree l alone r ⌝ }
-{
-    let levels = tree.levels - 1;
-    if alone {
-        let next = after_below(s, l, levels);
-        return Subtrees {
-            at: next,
-            count: 0,
-            levels,
-            inside: false,
-        };
-    }
-    Subtrees {
-        at: l.end,
-        count: l.children,
-        levels,
-        inside: false,
-    }
-}
-
 fn pending_of(zero: bool) -> Pending
     ensures { λ r. ⌜ pendingAnswer r ≡ zeroPending zero ⌝ }
 {
@@ -164,9 +116,10 @@ pub fn begin_export(s: &[u8], tree: Subtree, out: &mut [u8]) -> LineBegun
     ensures { λ r. ⌜ ExportBegins (now (s .entry)) tree (now (out .entry)) (now (out .exit)) r ⌝ }
 {
     let first = read_field_line::field_line_at(s, tree.at);
-    let l = inner_line(s, first);
+    let inner = storage_line::storage_line(s, tree, first);
+    let l = inner.line;
     let alone = is_alone(first.kind, l.kind);
-    let row = row_below(s, tree, l, alone);
+    let row = below::row_below(s, tree, l, alone);
     let columns = line_columns(first, l);
     let numbers = line_numbers(first.bare | first.nullable, alone, l);
     let line = put_schema_line::put_schema_line(out, s, columns, numbers);

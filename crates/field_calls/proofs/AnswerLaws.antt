@@ -18,6 +18,7 @@ use Rattle.sheets.specs.Outcome.{Outcome, outcome, refusal}
 use Rattle.sheets.specs.Walk.{typeWalk, sheetWalk}
 use Rattle.sheets.proofs.ExportSteps.{sheet-exported}
 use Rattle.sheets.proofs.PlainSteps.{sheet-plain}
+use Rattle.sheets.proofs.MappingSteps.{sheet-recursive, sheet-underlying}
 use Rattle.buffer.specs.Over.{PutAt}
 use Rattle.refusal.specs.declared.Refusal.{Refusal as Reason}
 use Rattle.refusal.specs.Refusals.{refusalOf}
@@ -35,7 +36,7 @@ use Rattle.field_sheet.specs.declared.SheetRead.{SheetRead}
 use Rattle.field_sheet.specs.declared.SheetRead.the-variants.{Body, Refused as Unread}
 use Rattle.field_sheet.proofs.SheetLaws.{Opens, sheet-opens, sheet-refused}
 use Rattle.field_walk.specs.declared.Call.{Call}
-use Rattle.field_walk.specs.declared.Call.the-variants.{Export, Plain}
+use Rattle.field_walk.specs.declared.Call.the-variants.{Export, Plain, ToStorageRecursive, UnderlyingPhysicalType}
 use Rattle.field_walk.specs.Calls.{stepOf, stateOf, CallWrote}
 use Rattle.field_calls.specs.Answers.{answerOf, callOutcome, headingOf, HasField, sheetFor, SheetWrote}
 
@@ -43,6 +44,8 @@ use Rattle.field_calls.specs.Answers.{answerOf, callOutcome, headingOf, 
 call-walked : (c : Call) (b : Bytes) → answerOf c b ≡ sheetWalk (stepOf c) (stateOf c false) (headingOf c) b
 call-walked Export b = sheet-exported b
 call-walked Plain b = sheet-plain b
+call-walked ToStorageRecursive b = sheet-recursive b
+call-walked UnderlyingPhysicalType b = sheet-underlying b
 
 -- the subtree of the sheet's first line
 abbrev treeAt : ℕ → Subtree
@@ -53,6 +56,8 @@ treeAt at = record { at = at; levels = levelLimit; inside = false }
 pub heading-short : (c : Call) → length (headingLine (headingOf c)) ≤ 48
 heading-short Export = omega arith
 heading-short Plain = omega arith
+heading-short ToStorageRecursive = omega arith
+heading-short UnderlyingPhysicalType = omega arith
 
 module _ (c : Call) (s : Bytes) (at : ℕ) (lent part : Bytes) (r : Step) (h : CallWrote c s (treeAt at) lent part r) where
   pub lines-refused : (q : Reason) → r ≡ Refused q → (i : Info) (t : ArrowDataType) (es : List Entry) → TypeAt s at levelLimit false (some i) t es → sheetFor c i t ≡ refused (refusalOf q)

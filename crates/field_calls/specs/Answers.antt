@@ -10,14 +10,15 @@ use Rattle.sheets.specs.Sheet.{levelLimit, writeSheet}
 use Rattle.sheets.specs.Schema.{schemaHeading}
 use Rattle.sheets.specs.Field.{Info, ArrowDataType}
 use Rattle.sheets.specs.FieldSheet.{Entry, fieldHeading}
-use Rattle.sheets.specs.Outcome.{Outcome, outcome, exported, plained}
+use Rattle.sheets.specs.Mappings.{toStorageRecursive, underlyingPhysicalType}
+use Rattle.sheets.specs.Outcome.{Outcome, outcome, exported, plained, mapped}
 use Rattle.sheets.specs.Walk.{typeWalk}
 use Rattle.outcome.specs.Answers.{SheetTold}
 use Rattle.walks.specs.Places.{TypeAt}
 use Rattle.walks.specs.Answers.{stepAnswer}
 use Rattle.walks.specs.declared.Step.{Step}
 use Rattle.field_walk.specs.declared.Call.{Call}
-use Rattle.field_walk.specs.declared.Call.the-variants.{Export, Plain}
+use Rattle.field_walk.specs.declared.Call.the-variants.{Export, Plain, ToStorageRecursive, UnderlyingPhysicalType}
 use Rattle.field_walk.specs.Calls.{stepOf, stateOf}
 
 -- ── the sheet that is answered, or the refusal
@@ -25,14 +26,18 @@ use Rattle.field_walk.specs.Calls.{stepOf, stateOf}
 abbrev pub answerOf : Call → Bytes → Answer Bytes
 answerOf Export = exported
 answerOf Plain = plained
+answerOf ToStorageRecursive = mapped toStorageRecursive
+answerOf UnderlyingPhysicalType = mapped underlyingPhysicalType
 
 abbrev pub callOutcome : Call → Bytes → Bytes → Outcome
 callOutcome c s out = outcome (answerOf c s) out
 
--- the heading of the answer: export answers a schema sheet, plain form a field sheet
+-- the heading of the answer: export answers a schema sheet, all others a field sheet
 abbrev pub headingOf : Call → Bytes
 headingOf Export = schemaHeading
 headingOf Plain = fieldHeading
+headingOf ToStorageRecursive = fieldHeading
+headingOf UnderlyingPhysicalType = fieldHeading
 
 -- ── what is required and told
 

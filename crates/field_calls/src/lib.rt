@@ -1,7 +1,7 @@
 // The calls that take a field sheet's bytes and answer a sheet in a lent buffer.
 ghost use mathlib.Core.Path.{_≡_};
 ghost use Rattle.sheets.specs.Sheet.{headingLine};
-ghost use Rattle.sheets.specs.Outcome.{exportOutcome, plainOutcome};
+ghost use Rattle.sheets.specs.Outcome.{exportOutcome, plainOutcome, toStorageRecursiveOutcome, underlyingPhysicalTypeOutcome};
 ghost use Rattle.buffer.specs.Over.{PutAt};
 ghost use Rattle.outcome.specs.Answers.{outcomeOf};
 ghost use Rattle.field_calls.specs.Answers.{headingOf, callOutcome, HasField, SheetWrote};
@@ -17,7 +17,9 @@ fn put_heading(call: Call, out: &mut [u8]) -> usize
 {
     match call {
         Call::Export => buffer::put_at(out, 0, b"format name flags metadata children dictionary\n"),
-        Call::Plain => buffer::put_at(out, 0, b"kind p q text more name nullable pairs children\n"),
+        Call::Plain => field_line::put_heading(out),
+        Call::ToStorageRecursive => field_line::put_heading(out),
+        Call::UnderlyingPhysicalType => field_line::put_heading(out),
     }
 }
 
@@ -67,4 +69,18 @@ pub fn plain_form(s: &[u8], out: &mut [u8]) -> Answered
     ensures { λ r. ⌜ outcomeOf (r .number) (r .length) (now (out .exit)) ≡ plainOutcome (now (s .entry)) (now (out .entry)) ⌝ }
 {
     answer(Call::Plain, s, out)
+}
+
+// The field of a field sheet with every extension's storage type in its place; its type must have no map and no union.
+pub fn to_storage_recursive(s: &[u8], out: &mut [u8]) -> Answered
+    ensures { λ r. ⌜ outcomeOf (r .number) (r .length) (now (out .exit)) ≡ toStorageRecursiveOutcome (now (s .entry)) (now (out .entry)) ⌝ }
+{
+    answer(Call::ToStorageRecursive, s, out)
+}
+
+// The field of a field sheet with its underlying physical type.
+pub fn underlying_physical_type(s: &[u8], out: &mut [u8]) -> Answered
+    ensures { λ r. ⌜ outcomeOf (r .number) (r .length) (now (out .exit)) ≡ underlyingPhysicalTypeOutcome (now (s .entry)) (now (out .entry)) ⌝ }
+{
+    answer(Call::UnderlyingPhysicalType, s, out)
 }

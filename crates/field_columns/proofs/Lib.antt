@@ -4,3 +4,4 @@ pub mod PairLaws
 pub mod PairAtLaws
 pub mod GoingLaws
 pub mod ContentLaws
+pub mod UsualLaws

@@ -1,5 +1,7 @@
 -- What the columns of a field line that are no numbers hold: what the definitions of document 01 read there and the rules keep, as tests. Assumes nothing.
-use mathlib.Core.Bool.{Bool}
+use mathlib.Core.Bool.{Bool, true, false, _||_}
+use Prim.Native.Nat.{ℕ}
+use lib.Dec.{eqb}
 use Rattle.sheets.specs.Rule.{is}
 use Rattle.sheets.specs.Bytes.{Bytes, same}
 use Rattle.sheets.specs.Answer.{_>>=_}
@@ -37,3 +39,21 @@ isContent C.Text c = isSomeText c
 isContent C.Ids c = isIds c
 isContent C.Flag c = isFlag c
 isContent C.Pairs c = isPairs c
+
+-- the one byte that most of these columns are: `~` where nothing or None may stand, 0 or 1
+abbrev pub isUsual : Content → ℕ → Bool
+isUsual C.Nothing b = eqb b 126
+isUsual C.OptionalText b = eqb b 126
+isUsual C.Text b = false
+isUsual C.Ids b = eqb b 126
+isUsual C.Flag b = eqb b 48 || eqb b 49
+isUsual C.Pairs b = eqb b 126
+
+-- where any text in UTF-8 may stand
+abbrev pub takesText : Content → Bool
+takesText C.Nothing = false
+takesText C.OptionalText = true
+takesText C.Text = true
+takesText C.Ids = false
+takesText C.Flag = false
+takesText C.Pairs = false

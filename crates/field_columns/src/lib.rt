@@ -4,8 +4,9 @@ pub mod lists;
 ghost use mathlib.Core.Path.{_≡_};
 ghost use Rattle.sheets.specs.Bytes.{space};
 ghost use Rattle.columns.specs.Columns.{columnOf, placeOption};
-ghost use Rattle.field_columns.specs.FieldColumns.{isNothing, isSomeText, isOptionalText, isFlag, isContent};
+ghost use Rattle.field_columns.specs.FieldColumns.{isNothing, isSomeText, isOptionalText, isFlag, isContent, isUsual, takesText};
 use columns::Place;
+use columns::ascii_pairs;
 
 // What a column must hold.
 pub enum Content {
@@ -80,15 +81,60 @@ fn is_content(c: &[u8], content: Content) -> bool
     }
 }
 
-// The end of the column from place at on that holds this.
-pub fn content_column(s: &[u8], at: usize, content: Content) -> Place
+// The one byte that most columns are, by what they must hold.
+fn is_usual(content: Content, b: u8) -> bool
+    ensures { λ r. ⌜ r ≡ isUsual content b ⌝ }
+{
+    match content {
+        Content::Nothing => b == b'~',
+        Content::OptionalText => b == b'~',
+        Content::Text => false,
+        Content::Ids => b == b'~',
+        Content::Flag => (b == b'0') | (b == b'1'),
+        Content::Pairs => b == b'~',
+    }
+}
+
+// Whether any text in UTF-8 may stand there.
+fn takes_text(content: Content) -> bool
+    ensures { λ r. ⌜ r ≡ takesText content ⌝ }
+{
+    match content {
+        Content::Nothing => false,
+        Content::OptionalText => true,
+        Content::Text => true,
+        Content::Ids => false,
+        Content::Flag => false,
+        Content::Pairs => false,
+    }
+}
+
+// The same as `content_column`, for a column of any bytes.
+fn any_content(s: &[u8], at: usize, content: Content) -> Place
     ensures { λ r. ⌜ placeOption r ≡ columnOf (isContent content) space (now (s .entry)) at ⌝ }
 {
-    let Place::At(e) = columns::column(s, at, columns::text_end(s, at), b' ') else {
+    let Place::At(e) = columns::column(s, at, columns::any_end(s, at), b' ') else {
         return Place::Nowhere;
     };
     if is_content(&s[at..e], content) {
         return Place::At(e);
     }
     Place::Nowhere
+}
+
+// The end of the column from place at on that holds this. Most are one byte or ASCII: then each byte is looked at once.
+pub fn content_column(s: &[u8], at: usize, content: Content) -> Place
+    ensures { λ r. ⌜ placeOption r ≡ columnOf (isContent content) space (now (s .entry)) at ⌝ }
+{
+    if columns::one_byte(s, at, b' ') {
+        if is_usual(content, s[at]) {
+            return Place::At(at + 1);
+        }
+    }
+    if takes_text(content) {
+        if let Place::At(e) = ascii_pairs::pairs_column(s, at) {
+            return Place::At(e);
+        }
+    }
+    any_content(s, at, content)
 }

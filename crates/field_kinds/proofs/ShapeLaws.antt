@@ -273,7 +273,7 @@ fits-shape c f = pick (isLeaf (c .kind)) refl
 
 -- ── the numbers fit 64 bits
 
-leaf-known : (k : ℕ) → isLeaf k ≡ true → k < 42
+pub leaf-known : (k : ℕ) → isLeaf k ≡ true → k < 42
 leaf-known k h = pick (leb k 41) refl
   where
     pick : (t : Bool) → leb k 41 ≡ t → k < 42

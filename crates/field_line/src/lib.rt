@@ -5,9 +5,17 @@ ghost use mathlib.Core.Path.{_≡_};
 ghost use Prim.Native.Nat.{_+_};
 ghost use lib.ListN.{length};
 ghost use Rattle.sheets.specs.Number.{decimal};
-ghost use Rattle.sheets.specs.FieldSheet.{noText, toNat};
+ghost use Rattle.sheets.specs.Sheet.{headingLine};
+ghost use Rattle.sheets.specs.FieldSheet.{fieldHeading, noText, toNat};
 ghost use Rattle.buffer.specs.Over.{IsUsize, PutAt};
 ghost use Rattle.field_line.specs.Columns.{column, kindPiece, shapePiece, ownPiece, endPiece, pairPiece};
+
+// Writes the heading of a field sheet and its byte 10, as much as fits; their length.
+pub fn put_heading(out: &mut [u8]) -> usize
+    ensures { λ r. ⌜ PutAt 0 (headingLine fieldHeading) r (now (out .entry)) (now (out .exit)) ⌝ }
+{
+    buffer::put_at(out, 0, b"kind p q text more name nullable pairs children\n")
+}
 
 // `nullable`, and what else of a line is 0 or 1.
 pub fn flag(b: bool) -> u64

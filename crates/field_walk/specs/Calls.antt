@@ -1,15 +1,13 @@
 -- The calls that answer a sheet for a field sheet: each has a step (sheets/specs/Walk) for a line, and what it tells is told of its step. Assumes nothing.
-use mathlib.Core.Bool.{Bool, false}
+use mathlib.Core.Bool.{Bool, true, false}
 use mathlib.Core.Option.{Option, none}
 use Rattle.sheets.specs.Bytes.{Bytes}
 use Rattle.sheets.specs.Answer.{Answer}
-use Rattle.sheets.specs.Schema.{schemaHeading}
-use Rattle.sheets.specs.FieldSheet.{fieldHeading}
 use Rattle.sheets.specs.FieldTrees.{Head}
-use Rattle.sheets.specs.Outcome.{Outcome, exportOutcome, plainOutcome}
 use Rattle.sheets.specs.Walk.{Step}
 use Rattle.sheets.specs.ExportSteps.{Bearer, schemaStep}
 use Rattle.sheets.specs.PlainSteps.{plainStep}
+use Rattle.sheets.specs.MappingSteps.{Borne, storageChange, underlyingChange, changeStep}
 use Rattle.walks.specs.Places.{TypeBegins, LeafWrote, TypeWrote, RowWrote}
 use Rattle.walks.specs.Answers.{begunAnswer, putOption, stepAnswer}
 use Rattle.walks.specs.declared.LeafPut.{LeafPut}
@@ -18,23 +16,38 @@ use Rattle.walks.specs.declared.Step.{Step as Stepped}
 use Rattle.walks.specs.declared.Subtree.{Subtree}
 use Rattle.walks.specs.declared.Subtrees.{Subtrees}
 use Rattle.field_walk.specs.declared.Call.{Call}
-use Rattle.field_walk.specs.declared.Call.the-variants.{Export, Plain}
+use Rattle.field_walk.specs.declared.Call.the-variants.{Export, Plain, ToStorageRecursive, UnderlyingPhysicalType}
+use Rattle.field_walk.specs.declared.LeafLine.{LeafLine}
+use Rattle.field_walk.specs.declared.LeafLine.the-variants.{Schema, Same}
 
 -- what a call carries from a line to those below it
 abbrev pub StateOf : Call → Type 0
 StateOf Export = Option Bearer
 StateOf Plain = Bool
+StateOf ToStorageRecursive = Borne
+StateOf UnderlyingPhysicalType = Borne
 
 -- what it does with a line
 abbrev pub stepOf : (c : Call) → StateOf c → Head → Answer (Step (StateOf c))
 stepOf Export = schemaStep
 stepOf Plain = plainStep
+stepOf ToStorageRecursive = changeStep storageChange
+stepOf UnderlyingPhysicalType = changeStep underlyingChange
 
--- the state at a line that stands directly in an extension, or not. Export passes all extensions around a type at their first line, so it visits none
--- in a state.
+-- the state at a line that stands directly in an extension, or not. Export and the mappings pass all extensions around a type at their first line, so
+-- they visit none in a state.
 abbrev pub stateOf : (c : Call) → Bool → StateOf c
 stateOf Export inside = none
 stateOf Plain inside = inside
+stateOf ToStorageRecursive inside = none
+stateOf UnderlyingPhysicalType inside = none
+
+-- what it writes for a leaf's short line: a schema line, or the line as it stands; a date's is another line underneath
+abbrev pub leafLineOf : Call → LeafLine
+leafLineOf Export = Schema
+leafLineOf Plain = Same true
+leafLineOf ToStorageRecursive = Same true
+leafLineOf UnderlyingPhysicalType = Same false
 
 -- ── what the functions of the walk tell
 

@@ -1,7 +1,9 @@
 // The walk over the lines of a field sheet, once for every call that answers a sheet for it: the lines that a call makes of a type are written line by line
 // into a lent buffer, by a recursion on the levels left.
+ghost use mathlib.Core.Path.{_≡_};
 ghost use Rattle.walks.specs.Places.{HasType, HasRow};
-ghost use Rattle.field_walk.specs.Calls.{CallBegins, CallLeafWrote, CallWrote, CallRowWrote};
+ghost use Rattle.field_walk.specs.Calls.{leafLineOf, CallBegins, CallLeafWrote, CallWrote, CallRowWrote};
+use mapping_line::change::Change;
 use walks::LeafPut;
 use walks::LineBegun;
 use walks::Step;
@@ -12,6 +14,8 @@ use walks::Subtrees;
 pub enum Call {
     Export,
     Plain,
+    ToStorageRecursive,
+    UnderlyingPhysicalType,
 }
 
 // A call is one case here: what it writes for the line at `at`, and what is left to be visited below.
@@ -22,16 +26,40 @@ fn begin_line(call: Call, s: &[u8], tree: Subtree, out: &mut [u8]) -> LineBegun
     match call {
         Call::Export => export_line::begin_export(s, tree, out),
         Call::Plain => plain_line::begin_plain(s, tree, out),
+        Call::ToStorageRecursive => mapping_line::begin_change(Change::Storage, s, tree, out),
+        Call::UnderlyingPhysicalType => mapping_line::begin_change(
+            Change::Underlying,
+            s,
+            tree,
+            out,
+        ),
     }
 }
 
-// The line of a leaf at once, where it is of the short kind and fits; else nothing is written.
+// What a call writes for a leaf's short line: a schema line, or the line as it stands, that of a date among them or not.
+enum LeafLine {
+    Schema,
+    Same(bool),
+}
+
+fn leaf_line(call: Call) -> LeafLine
+    ensures { λ r. ⌜ r ≡ leafLineOf call ⌝ }
+{
+    match call {
+        Call::Export => LeafLine::Schema,
+        Call::Plain => LeafLine::Same(true),
+        Call::ToStorageRecursive => LeafLine::Same(true),
+        Call::UnderlyingPhysicalType => LeafLine::Same(false),
+    }
+}
+
+// The line of a leaf at once, where it is of the short kind and fits; else nothing is written. `copy_leaf` has one caller, so that it stands in the loop.
 fn put_leaf(call: Call, s: &[u8], tree: Subtree, out: &mut [u8]) -> LeafPut
     ensures { λ r. ⌜ CallLeafWrote call (now (s .entry)) tree (now (out .entry)) (now (out .exit)) r ⌝ }
 {
-    match call {
-        Call::Export => put_schema_leaf::put_schema_leaf(s, tree.at, out),
-        Call::Plain => put_schema_leaf::copy_leaf(s, tree.at, out),
+    match leaf_line(call) {
+        LeafLine::Schema => put_schema_leaf::put_schema_leaf(s, tree.at, out),
+        LeafLine::Same(dates) => put_schema_leaf::copy_leaf(s, tree.at, dates, out),
     }
 }
 

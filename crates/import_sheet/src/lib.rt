@@ -16,7 +16,7 @@ fn put_sheet(s: &[u8], at: usize, out: &mut [u8], entries: &mut [u32], spare: &m
     requires { ⌜ HasSheet (now s) at × HasEntries (now s) (now entries) (now spare) ⌝ }
     ensures { λ r. ⌜ SheetWrote (now (s .entry)) at (now (out .entry)) (now (out .exit)) r ⌝ }
 {
-    let head = buffer::put_at(out, 0, b"kind p q text more name nullable pairs children\n");
+    let head = field_line::put_heading(out);
     let w = buffer::within(head, out.len());
     let tree = Tree {
         at,

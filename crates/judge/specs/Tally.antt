@@ -1,12 +1,13 @@
--- The counts that `replay` keeps: for each of the calls the records that were replayed, then for each those that differ, then how many were passed
--- over. A count goes round at 2^64. Assumes nothing.
+-- The counts that `replay` keeps: for each of the calls the records that were replayed, then for each those that differ. A count goes round at 2^64.
+-- Assumes nothing.
 use mathlib.Core.Bool.{Bool, true, false, cond}
 use mathlib.Core.List.{List}
 use mathlib.Core.Option.{Option, none, some}
-use Prim.Native.Nat.{ℕ, _+_, _*_, _%_, _^_}
+use Prim.Native.Nat.{ℕ, _+_, _%_, _^_}
 use lib.Dec.{ltb}
 use lib.ListN.{getD, set}
 use Rattle.recorded_list.specs.Codes.{calls}
+use Rattle.judge.specs.declared.Numbers.{Numbers}
 
 -- one more at place i
 abbrev pub oneMore : ℕ → List ℕ → List ℕ
@@ -17,12 +18,10 @@ abbrev pub counted : ℕ → ℕ → List ℕ → List ℕ
 counted from call kept = cond (ltb call calls) (oneMore (from + call) kept) kept
 
 -- what is kept after a record, by what was told of it
-abbrev pub tallied : Option (Option (ℕ × ℕ)) → ℕ → List ℕ → List ℕ
-tallied none call kept = oneMore (2 * calls) kept
-tallied (some none) call kept = counted 0 call kept
-tallied (some (some came)) call kept = counted calls call (counted 0 call kept)
+abbrev pub tallied : Option Numbers → ℕ → List ℕ → List ℕ
+tallied none call kept = counted 0 call kept
+tallied (some came) call kept = counted calls call (counted 0 call kept)
 
-abbrev pub differs : Option (Option (ℕ × ℕ)) → Bool
+abbrev pub differs : Option Numbers → Bool
 differs none = false
-differs (some none) = false
-differs (some (some came)) = true
+differs (some came) = true

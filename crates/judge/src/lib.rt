@@ -1,5 +1,5 @@
-// An answer held against the recorded one. Before the call the lent buffer was filled with a byte that no sheet has. A sheet is lent as `&[u8]`:
-// that it is unchanged needs no test.
+// An answer held against the recorded one. Before a call that writes a sheet the lent buffer was filled with a byte that no sheet has. A sheet is lent
+// as `&[u8]`: that it is unchanged needs no test.
 pub mod print;
 pub mod tally;
 
@@ -7,19 +7,26 @@ ghost use mathlib.Core.Path.{_≡_};
 ghost use mathlib.Core.List.{_++_};
 ghost use Prim.Native.Nat.{_-_};
 ghost use lib.ListN.{length, replicate};
-ghost use Rattle.sheets.specs.Bytes.{same};
 ghost use mathlib.Core.Option.{some};
+ghost use Rattle.sheets.specs.Bytes.{same};
 ghost use Rattle.outcome.specs.Answers.{outcomeOf};
-ghost use Rattle.judge.specs.Judging.{recorded, difference, replayedOption};
+ghost use Rattle.judge.specs.Judging.{recorded, difference, answersNumbers, recordedNumbers, numbersDifference, replayedOption};
+use recorded_list::call;
 use recorded_list::records::Header;
 
 pub const FILLER: u8 = 165;
 
+// What a record has of an answer besides a sheet: the number, the length or the first value, and the second value.
+pub struct Numbers {
+    pub number: u64,
+    pub first: u64,
+    pub second: u64,
+}
+
 pub enum Replayed {
     Agrees,
-    // the number and the length that came
-    Differs(u64, u64),
-    NotYet,
+    // what came
+    Differs(Numbers),
 }
 
 pub fn fill(out: &mut [u8], b: u8)
@@ -55,24 +62,63 @@ fn is_then(s: &[u8], x: &[u8], b: u8) -> bool
     all_are(&s[n..], b)
 }
 
+fn differs(number: u64, size: u64) -> Replayed
+    ensures { λ r. ⌜ replayedOption r ≡ some (record { number = number; first = size; second = 0 }) ⌝ }
+{
+    Replayed::Differs(Numbers {
+        number,
+        first: size,
+        second: 0,
+    })
+}
+
 // Whether an answer, with the buffer after it, is the recorded one.
 pub fn judge(number: u64, size: u64, h: Header, output: &[u8], lent: &[u8]) -> Replayed
-    ensures { λ r. ⌜ replayedOption r ≡ some (difference (outcomeOf number size (now (lent .entry))) (recorded h (now (output .entry)) (length (now (lent .entry))))) ⌝ }
+    ensures { λ r. ⌜ replayedOption r ≡ difference (outcomeOf number size (now (lent .entry))) (recorded h (now (output .entry)) (length (now (lent .entry)))) ⌝ }
 {
     if number != h.number {
-        return Replayed::Differs(number, size);
+        return differs(number, size);
     }
     if size != h.first {
-        return Replayed::Differs(number, size);
+        return differs(number, size);
     }
     if number != 0 {
         if all_are(lent, 0) {
             return Replayed::Agrees;
         }
-        return Replayed::Differs(number, size);
+        return differs(number, size);
     }
     if is_then(lent, output, FILLER) {
         return Replayed::Agrees;
     }
-    Replayed::Differs(number, size)
+    differs(number, size)
+}
+
+// Whether the call answers numbers and writes no sheet.
+pub fn answers_numbers(code: u64) -> bool
+    ensures { λ r. ⌜ r ≡ answersNumbers code ⌝ }
+{
+    if code == call::TO_PHYSICAL_TYPE {
+        return true;
+    }
+    if code == call::IS_NESTED {
+        return true;
+    }
+    code == call::CONTAINS_DICTIONARY
+}
+
+// Whether the numbers are the recorded ones.
+pub fn judge_numbers(came: Numbers, h: Header) -> Replayed
+    ensures { λ r. ⌜ replayedOption r ≡ numbersDifference came (recordedNumbers h) ⌝ }
+{
+    if came.number != h.number {
+        return Replayed::Differs(came);
+    }
+    if came.first != h.first {
+        return Replayed::Differs(came);
+    }
+    if came.second != h.second {
+        return Replayed::Differs(came);
+    }
+    Replayed::Agrees
 }

@@ -3,7 +3,6 @@
 use crate::Replayed;
 use crate::tally::COUNTS;
 use crate::tally::DIFFER;
-use crate::tally::PASSED_OVER;
 use libc::STDOUT_FILENO;
 use recorded_list::call;
 use recorded_list::records::Header;
@@ -41,7 +40,7 @@ pub fn bad_list(record: u64) {
     put(b"\n");
 }
 
-fn answer(who: &[u8], n: u64, length: u64, sheet: &[u8]) {
+fn sheet_answer(who: &[u8], n: u64, length: u64, sheet: &[u8]) {
     put(who);
     put(b": number ");
     number(n);
@@ -55,22 +54,38 @@ fn answer(who: &[u8], n: u64, length: u64, sheet: &[u8]) {
 fn came(h: Header, output: &[u8], n: u64, length: u64, lent: &[u8]) {
     let end = buffer::within(length as usize, lent.len());
     let sheet = &lent[..end];
-    answer(b"came", n, length, sheet);
+    sheet_answer(b"came", n, length, sheet);
     if n == h.number && length == h.first && buffer::same(sheet, output) {
         put(b"the buffer past the sheet differs\n");
     }
 }
 
+fn numbers_answer(who: &[u8], n: u64, first: u64, second: u64) {
+    put(who);
+    put(b": number ");
+    number(n);
+    put(b", values ");
+    number(first);
+    put(b" ");
+    number(second);
+    put(b"\n");
+}
+
 // The record that differs, if it does.
 pub fn difference(place: u64, h: Header, output: &[u8], r: Replayed, lent: &[u8]) {
-    if let Replayed::Differs(n, length) = r {
+    if let Replayed::Differs(c) = r {
         put(b"record ");
         number(place);
         put(b" differs: ");
         name(h.call);
         put(b"\n");
-        answer(b"expected", h.number, h.first, output);
-        came(h, output, n, length, lent);
+        if crate::answers_numbers(h.call) {
+            numbers_answer(b"expected", h.number, h.first, h.second);
+            numbers_answer(b"came", c.number, c.first, c.second);
+        } else {
+            sheet_answer(b"expected", h.number, h.first, output);
+            came(h, output, c.number, c.first, lent);
+        }
     }
 }
 
@@ -86,16 +101,9 @@ fn call_counts(call: u64, replayed: u64, differ: u64) {
     }
 }
 
-fn passed_over(records: u64) {
-    put(b"other calls: ");
-    number(records);
-    put(b" passed over\n");
-}
-
-// The counts of each call and of what was passed over, as `tally` keeps them.
+// The counts of each call, as `tally` keeps them.
 pub fn counts(kept: &[u64; COUNTS]) {
     for c in 0..call::CALLS {
         call_counts(c as u64, kept[c], kept[DIFFER + c]);
     }
-    passed_over(kept[PASSED_OVER]);
 }

@@ -7,14 +7,12 @@ ghost use Rattle.judge.specs.Tally.{counted, tallied, differs};
 use crate::Replayed;
 use recorded_list::call::CALLS;
 
-// The places of the counts: the replayed records of each call, those of them that differ, and last the records that were passed over.
+// The places of the counts: the replayed records of each call, then those of them that differ.
 const REPLAYED: usize = 0;
 
 pub const DIFFER: usize = CALLS;
 
-pub const PASSED_OVER: usize = 2 * CALLS;
-
-pub const COUNTS: usize = 2 * CALLS + 1;
+pub const COUNTS: usize = 2 * CALLS;
 
 // Counts one more for the call, among the counts from place from on. No count comes near 2^64.
 fn count(kept: &mut [u64; COUNTS], from: usize, call: u64)
@@ -36,14 +34,10 @@ pub fn tally(r: Replayed, call: u64, kept: &mut [u64; COUNTS]) -> bool
             count(kept, REPLAYED, call);
             false
         }
-        Replayed::Differs(_, _) => {
+        Replayed::Differs(_) => {
             count(kept, REPLAYED, call);
             count(kept, DIFFER, call);
             true
-        }
-        Replayed::NotYet => {
-            kept[PASSED_OVER] = std::num::wrapping_add_u64(kept[PASSED_OVER], 1);
-            false
         }
     }
 }

@@ -1,11 +1,12 @@
 // The calls for a host: over pointers and lengths, with nothing demanded of the caller. `include/juzontefa.h` declares them for C.
 ghost use mathlib.Core.Path.{_≡_};
-ghost use Rattle.sheets.specs.Outcome.{importOutcome, exportOutcome, plainOutcome};
+ghost use Rattle.sheets.specs.Outcome.{importOutcome, exportOutcome, plainOutcome, toPhysicalTypeOutcome, underlyingPhysicalTypeOutcome, toStorageOutcome, toStorageRecursiveOutcome, innerDtypeOutcome, getChildOutcome, isNestedOutcome, containsDictionaryOutcome, fromIntegerTypeOutcome, fromPrimitiveTypeOutcome};
 ghost use Rattle.sheets.specs.RoundTrip.{roundTripOutcome};
 ghost use Rattle.outcome.specs.Answers.{outcomeOf};
 ghost use Rattle.round_trips.specs.Trips.{four};
-ghost use Rattle.juzontefa.specs.Answers.{answerFor};
+ghost use Rattle.juzontefa.specs.Answers.{answerFor, placesTold, placesFor, yesNoTold, yesNoFor};
 ghost use Rattle.juzontefa.specs.Trips.{tripFor, hostTold, hostTrip};
+use mapping_calls::physical::PhysicalPlaces;
 use outcome::Answered;
 use round_trips::RoundTrip;
 
@@ -104,4 +105,118 @@ pub extern "C" fn juzontefa_round_trip(
     ensures { λ r. ⌜ hostTold (r .answer) (r .number) (four (now (exported .exit)) (now (imported .exit)) (now (plain .exit)) (now (again .exit))) ≡ hostTrip (roundTripOutcome (now (sheet .entry)) (four (now (exported .entry)) (now (imported .entry)) (now (plain .entry)) (now (again .entry)))) ⌝ }
 {
     trip_of(round_trips::round_trip(sheet, exported, imported, plain, again))
+}
+
+// The number, 0 for success, and the places of the physical type and of the primitive or index type that it carries, 0 if it carries none.
+#[repr(C)]
+pub struct Places {
+    pub number: u64,
+    pub place: u64,
+    pub inner: u64,
+}
+
+fn places_of(p: PhysicalPlaces) -> Places
+    ensures { λ r. ⌜ r ≡ placesFor p ⌝ }
+{
+    Places {
+        number: p.number as u64,
+        place: p.place,
+        inner: p.inner,
+    }
+}
+
+// `to_physical_type` of a field's type.
+#[no_mangle]
+pub extern "C" fn juzontefa_to_physical_type(sheet: &[u8]) -> Places
+    ensures { λ r. ⌜ placesTold r ≡ toPhysicalTypeOutcome (now (sheet .entry)) ⌝ }
+{
+    places_of(mapping_calls::physical::to_physical_type(sheet).places())
+}
+
+// A field with its type replaced by the one that it is physically.
+#[no_mangle]
+pub extern "C" fn juzontefa_underlying_physical_type(sheet: &[u8], out: &mut [u8]) -> Answer
+    ensures { λ r. ⌜ outcomeOf (r .number) (r .length) (now (out .exit)) ≡ underlyingPhysicalTypeOutcome (now (sheet .entry)) (now (out .entry)) ⌝ }
+{
+    answer_of(field_calls::underlying_physical_type(sheet, out))
+}
+
+// A field with its type replaced by the one inside all extensions.
+#[no_mangle]
+pub extern "C" fn juzontefa_to_storage(sheet: &[u8], out: &mut [u8]) -> Answer
+    ensures { λ r. ⌜ outcomeOf (r .number) (r .length) (now (out .exit)) ≡ toStorageOutcome (now (sheet .entry)) (now (out .entry)) ⌝ }
+{
+    answer_of(picked_types::to_storage(sheet, out))
+}
+
+// A field with its type replaced by the one without extensions at any depth.
+#[no_mangle]
+pub extern "C" fn juzontefa_to_storage_recursive(sheet: &[u8], out: &mut [u8]) -> Answer
+    ensures { λ r. ⌜ outcomeOf (r .number) (r .length) (now (out .exit)) ≡ toStorageRecursiveOutcome (now (sheet .entry)) (now (out .entry)) ⌝ }
+{
+    answer_of(field_calls::to_storage_recursive(sheet, out))
+}
+
+// The type of a list's field.
+#[no_mangle]
+pub extern "C" fn juzontefa_inner_dtype(sheet: &[u8], out: &mut [u8]) -> Answer
+    ensures { λ r. ⌜ outcomeOf (r .number) (r .length) (now (out .exit)) ≡ innerDtypeOutcome (now (sheet .entry)) (now (out .entry)) ⌝ }
+{
+    answer_of(picked_types::inner_dtype(sheet, out))
+}
+
+// The type of the field at an index, from 0.
+#[no_mangle]
+pub extern "C" fn juzontefa_get_child(sheet: &[u8], index: u64, out: &mut [u8]) -> Answer
+    ensures { λ r. ⌜ outcomeOf (r .number) (r .length) (now (out .exit)) ≡ getChildOutcome (now (sheet .entry)) index (now (out .entry)) ⌝ }
+{
+    answer_of(picked_types::get_child(sheet, index, out))
+}
+
+// The number, 0 for success, and 1 for yes, 0 for no.
+#[repr(C)]
+pub struct YesNo {
+    pub number: u64,
+    pub answer: u64,
+}
+
+fn yes_no_of(a: mapping_calls::YesNo) -> YesNo
+    ensures { λ r. ⌜ r ≡ yesNoFor a ⌝ }
+{
+    YesNo {
+        number: a.number as u64,
+        answer: field_line::flag(a.answer),
+    }
+}
+
+// Whether a field's type holds other types.
+#[no_mangle]
+pub extern "C" fn juzontefa_is_nested(sheet: &[u8]) -> YesNo
+    ensures { λ r. ⌜ yesNoTold r ≡ isNestedOutcome (now (sheet .entry)) ⌝ }
+{
+    yes_no_of(mapping_calls::is_nested(sheet))
+}
+
+// Whether a dictionary stands anywhere in a field's type.
+#[no_mangle]
+pub extern "C" fn juzontefa_contains_dictionary(sheet: &[u8]) -> YesNo
+    ensures { λ r. ⌜ yesNoTold r ≡ containsDictionaryOutcome (now (sheet .entry)) ⌝ }
+{
+    yes_no_of(mapping_calls::contains_dictionary(sheet))
+}
+
+// The type of a dictionary's index, by its place in `IntegerType`.
+#[no_mangle]
+pub extern "C" fn juzontefa_from_integer_type(place: u64, out: &mut [u8]) -> Answer
+    ensures { λ r. ⌜ outcomeOf (r .number) (r .length) (now (out .exit)) ≡ fromIntegerTypeOutcome place (now (out .entry)) ⌝ }
+{
+    answer_of(mapping_calls::conversions::from_integer_type(place, out))
+}
+
+// The type that a primitive type stands for, by its place in `PrimitiveType`.
+#[no_mangle]
+pub extern "C" fn juzontefa_from_primitive_type(place: u64, out: &mut [u8]) -> Answer
+    ensures { λ r. ⌜ outcomeOf (r .number) (r .length) (now (out .exit)) ≡ fromPrimitiveTypeOutcome place (now (out .entry)) ⌝ }
+{
+    answer_of(mapping_calls::conversions::from_primitive_type(place, out))
 }

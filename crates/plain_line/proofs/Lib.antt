@@ -1,3 +1,4 @@
 pub mod IdsLaws
 pub mod LineLaws
 pub mod BeginLaws
+pub mod InnerLaws

@@ -1,7 +1,7 @@
 -- Document 01, 'Plain form', of one line and of what stands below it: "Extensions directly inside an extension vanish; the outermost stays. A dictionary
 -- then directly under an extension becomes its index type." Assumes nothing.
 use mathlib.Core.Path.{_≡_}
-use mathlib.Core.Bool.{Bool, cond}
+use mathlib.Core.Bool.{Bool, cond, _&&_}
 use mathlib.Core.List.{[], _∷_}
 use mathlib.Core.Option.{none}
 use Prim.Native.Nat.{ℕ, _+_, _-_}
@@ -37,6 +37,10 @@ rowBelow t l =
       levels = t .levels - lineCost (t .inside) (eqb (l .kind) Kind.Extension);
       inside = eqb (l .kind) Kind.Extension;
     }
+
+-- the one type directly inside an extension
+abbrev pub isInner : Subtrees → Bool
+isInner w = w .inside && eqb (w .count) 1
 
 -- "a bare line of that type's kind, with `p`, `q` 0, both texts `~` and no children"
 abbrev pub indexLine : ℕ → Bytes

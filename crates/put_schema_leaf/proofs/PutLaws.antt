@@ -1,18 +1,19 @@
 -- A leaf's schema line written as words, and its field line copied: each piece, and then the whole line, which is that of the node that `ArrowSchema::new`
 -- makes of the leaf, or that of its plain form. Assumes nothing.
 use mathlib.Core.Path.{_≡_, refl, sym, ap, ap₂, subst, _∙_}
-use mathlib.Core.Bool.{Bool, true, false}
+use mathlib.Core.Bool.{Bool, true, false, not, _&&_, and-false}
 use mathlib.Core.List.{[], _∷_, _++_, append-assoc, append-nil}
 use mathlib.Core.Option.{Option, none, some}
 use Prim.Native.Nat.{ℕ, zero, suc, _+_, _*_, _-_, _/_, _%_, _^_, _≤_, _<_, min}
 use native.Mathlib.Nat.{zero-add, pow-suc, div-div-eq-div-mul}
 use native.Mathlib.Omega.{arith}
-use lib.Dec.{eqb}
+use lib.Dec.{eqb, leb}
 use lib.IntN.{pos}
 use lib.ListN.{length, set, drop, length-append, length-take}
-use borrow.Author.Tests.{lt-ltb, lt-leb}
+use borrow.Author.Tests.{ne-eqb, lt-ltb, lt-leb}
 use Rattle.sheets.specs.Refusal.{zeroByte}
 use Rattle.sheets.specs.Rule.{_and_, Meets}
+use Rattle.sheets.specs.Kind
 use Rattle.sheets.specs.Bytes.{Bytes, lacks}
 use Rattle.sheets.specs.Answer.{given}
 use Rattle.sheets.specs.Number.{decimal}
@@ -37,7 +38,7 @@ use Rattle.field_leaf.proofs.LeafLaws.{leaf-told, name-size, leaf-part}
 use Rattle.put_schema_leaf.specs.declared.format.Digits.{Digits}
 use Rattle.put_schema_leaf.specs.declared.format.Digits.the-variants.{Are, Nothing}
 use Rattle.put_schema_leaf.specs.Formats.{digitsText, digitsOption, formatDigits}
-use Rattle.put_schema_leaf.specs.Written.{schemaTail, schemaText, formatFits, schemaFits, SchemaLeafWritten, copyFits, LeafCopied}
+use Rattle.put_schema_leaf.specs.Written.{schemaTail, schemaText, formatFits, schemaFits, SchemaLeafWritten, isCopied, copyFits, LeafCopied}
 use Rattle.put_schema_leaf.proofs.FormatLaws.{digits-size, Format, format-told}
 
 -- ── a number's lowest bytes, two at once
@@ -219,14 +220,23 @@ module _ {s : Bytes} {at kind from e n low high len : ℕ} (k : FieldLeafAt s at
         short = omega (arith, p .0, q .0, t .0, length-append (digitsText low high len) (32 ∷ []), digits-size low high len, name-size k, tail-size n, format-size f .1);
       }
 
+-- ── dates
+
+module _ (dates : Bool) (kind : ℕ) (d : dates ≡ false) where
+  pub is-date32 : kind ≡ Kind.Date32 → false ≡ isCopied dates kind
+  is-date32 e = rw (d, e)
+
+  pub not-date32 : (kind ≡ Kind.Date32 → ⊥) → not (eqb kind Kind.Date64) ≡ isCopied dates kind
+  not-date32 n = rw (d, ne-eqb kind Kind.Date32 n)
+
 -- ── nothing is written
 
 module _ (s : Bytes) (at : ℕ) (out : Bytes) (r : FieldLeaf) (h : leafOption r ≡ fieldLeafIn s at) where
   pub no-leaf : r ≡ Other → schemaFits out (fieldLeafIn s at) ≡ false
   no-leaf is = ap (schemaFits out) (sym h ∙ ap leafOption is)
 
-  pub no-copy : r ≡ Other → copyFits out at (fieldLeafIn s at) ≡ false
-  no-copy is = ap (copyFits out at) (sym h ∙ ap leafOption is)
+  pub no-copy : (dates : Bool) → r ≡ Other → copyFits out at dates (fieldLeafIn s at) ≡ false
+  no-copy dates is = ap (copyFits out at dates) (sym h ∙ ap leafOption is)
 
   module _ (kind from e n : ℕ) (is : r ≡ Line kind from e n) where
     fits-here : schemaFits out (fieldLeafIn s at) ≡ formatFits out (e - from) (formatDigits kind)
@@ -241,8 +251,15 @@ module _ (s : Bytes) (at : ℕ) (out : Bytes) (r : FieldLeaf) (h : leafOption r 
           fits-here ∙ ap (formatFits out (e - from)) (sym g ∙ ap digitsOption are)
           ∙ lt-leb (length (digitsText low high len) + 10 + (e - from)) (length out) (omega (arith, digits-size low high len))
 
-    pub no-copy-room : length out < e + 7 - at → copyFits out at (fieldLeafIn s at) ≡ false
-    no-copy-room l = ap (copyFits out at) (sym h ∙ ap leafOption is) ∙ lt-leb (e + 7 - at) (length out) l
+    module _ (dates : Bool) where
+      copy-here : copyFits out at dates (fieldLeafIn s at) ≡ (isCopied dates kind && leb (e + 7 - at) (length out))
+      copy-here = ap (copyFits out at dates) (sym h ∙ ap leafOption is)
+
+      pub no-copy-date : isCopied dates kind ≡ false → copyFits out at dates (fieldLeafIn s at) ≡ false
+      no-copy-date d = copy-here ∙ ap (λ (b : Bool). b && leb (e + 7 - at) (length out)) d
+
+      pub no-copy-room : length out < e + 7 - at → copyFits out at dates (fieldLeafIn s at) ≡ false
+      no-copy-room l = copy-here ∙ ap (λ (b : Bool). isCopied dates kind && b) (lt-leb (e + 7 - at) (length out) l) ∙ and-false (isCopied dates kind)
 
 -- ── the line itself
 
@@ -250,8 +267,8 @@ module _ {s : Bytes} {at kind from e n : ℕ} (k : FieldLeafAt s at kind from e 
   pub copy-can : e + 7 - at ≤ length out → CanCopy out 0 s at (e + 7)
   copy-can room = record { low = omega (arith, k .long, k .begins); high = k .high; room = omega arith }
 
-  pub leaf-copied : (r : Bytes) (size : ℕ) → PutAt 0 (part s at (e + 7)) size out r → LeafCopied s at out r (e + 7) size
-  leaf-copied r size p =
+  pub leaf-copied : (dates : Bool) → isCopied dates kind ≡ true → (r : Bytes) (size : ℕ) → PutAt 0 (part s at (e + 7)) size out r → LeafCopied s at dates out r (e + 7) size
+  leaf-copied dates d r size p =
       let v : Written 0 (part s at (e + 7)) out size r = record { place = p .0; holds = p .1 } in
       let all = whole v in
-      record { kind = kind; from = from; e = e; nullable = n; leaf = k; after = refl; put = (all .0 ∙ ap length (leaf-part k), all .1 ∙ ap (λ (b : Bytes). over b out) (leaf-part k)); short = omega (arith, p .0, length-take (e + 7 - at) (drop at s)) }
+      record { kind = kind; from = from; e = e; nullable = n; leaf = k; copied = d; after = refl; put = (all .0 ∙ ap length (leaf-part k), all .1 ∙ ap (λ (b : Bytes). over b out) (leaf-part k)); short = omega (arith, p .0, length-take (e + 7 - at) (drop at s)) }

@@ -1,13 +1,14 @@
 -- What is known where a leaf's line was written at once, and where it was not. Assumes nothing.
 use mathlib.Core.Path.{_≡_}
-use mathlib.Core.Bool.{Bool, false}
+use mathlib.Core.Bool.{Bool, true, false, not, _&&_, _||_}
 use mathlib.Core.List.{[], _∷_, _++_}
 use mathlib.Core.Option.{Option, none, some}
 use Prim.Native.Nat.{ℕ, _+_, _*_, _-_, _≤_}
-use lib.Dec.{leb}
+use lib.Dec.{eqb, leb}
 use lib.ListN.{length}
 use Rattle.sheets.specs.Bytes.{Bytes}
 use Rattle.sheets.specs.Answer.{given}
+use Rattle.sheets.specs.Kind
 use Rattle.sheets.specs.Sheet.{ended}
 use Rattle.sheets.specs.Schema.{Node, schema, end, absent, schemaLines}
 use Rattle.sheets.specs.Export.{schemaNew}
@@ -66,26 +67,31 @@ SchemaLeafPuts s at out out' r = SchemaLeafTold s at out out' (putOption r)
 abbrev pub plainText : ℕ → Bytes → ℕ → Bytes
 plainText kind name nullable = let f = plain (leafField kind name nullable) in ended (typeLines (f .type) (some (f .info)))
 
+-- a date is another type underneath
+abbrev pub isCopied : Bool → ℕ → Bool
+isCopied dates kind = dates || not (eqb kind Kind.Date32 || eqb kind Kind.Date64)
+
 -- a leaf's field line stands at `at`, and the lines of its plain form are written
-pub record LeafCopied (s : Bytes) (at : ℕ) (out out' : Bytes) (next len : ℕ) : Type 0 where
+pub record LeafCopied (s : Bytes) (at : ℕ) (dates : Bool) (out out' : Bytes) (next len : ℕ) : Type 0 where
   pub kind : ℕ
   pub from : ℕ
   pub e : ℕ
   pub nullable : ℕ
   pub leaf : FieldLeafAt s at kind from e nullable
+  pub copied : isCopied dates kind ≡ true
   pub after : next ≡ e + 7
   pub put : PutFirst (plainText kind (leaf .bytes) nullable) len out out'
   pub short : len ≤ e + 7 - at
 
--- a line that is copied at once: short, and with room
-abbrev pub copyFits : Bytes → ℕ → Option Told → Bool
-copyFits out at none = false
-copyFits out at (some (kind, (from, (e, nullable)))) = leb (e + 7 - at) (length out)
+-- a line that is copied at once: short, of a kind that is copied, and with room
+abbrev pub copyFits : Bytes → ℕ → Bool → Option Told → Bool
+copyFits out at dates none = false
+copyFits out at dates (some (kind, (from, (e, nullable)))) = isCopied dates kind && leb (e + 7 - at) (length out)
 
-abbrev pub LeafCopyTold : Bytes → ℕ → Bytes → Bytes → Option (ℕ × ℕ) → Type 0
-LeafCopyTold s at out out' (some (next, len)) = LeafCopied s at out out' next len
-LeafCopyTold s at out out' none = (copyFits out at (fieldLeafIn s at) ≡ false) × (out' ≡ out)
+abbrev pub LeafCopyTold : Bytes → ℕ → Bool → Bytes → Bytes → Option (ℕ × ℕ) → Type 0
+LeafCopyTold s at dates out out' (some (next, len)) = LeafCopied s at dates out out' next len
+LeafCopyTold s at dates out out' none = (copyFits out at dates (fieldLeafIn s at) ≡ false) × (out' ≡ out)
 
 -- what `copy_leaf` tells
-abbrev pub LeafCopies : Bytes → ℕ → Bytes → Bytes → LeafPut → Type 0
-LeafCopies s at out out' r = LeafCopyTold s at out out' (putOption r)
+abbrev pub LeafCopies : Bytes → ℕ → Bool → Bytes → Bytes → LeafPut → Type 0
+LeafCopies s at dates out out' r = LeafCopyTold s at dates out out' (putOption r)

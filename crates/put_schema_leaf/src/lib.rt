@@ -1,4 +1,5 @@
-// What becomes of a leaf's field line where it is recognised at once: its schema line, for export, and the line itself, as it is its own plain form.
+// What becomes of a leaf's field line where it is recognised at once: its schema line, for export, and the line itself, as it is its own plain form
+// and, unless it is a date's, its own underlying type.
 pub mod format;
 
 ghost use mathlib.Core.Path.{_≡_};
@@ -8,8 +9,9 @@ ghost use lib.ListN.{length};
 ghost use Rattle.buffer.specs.Over.{PutAt};
 ghost use Rattle.words.specs.Words.{lowBytes};
 ghost use Rattle.put_schema_leaf.specs.Formats.{digitsText};
-ghost use Rattle.put_schema_leaf.specs.Written.{schemaTail, SchemaLeafPuts, LeafCopies};
+ghost use Rattle.put_schema_leaf.specs.Written.{schemaTail, SchemaLeafPuts, isCopied, LeafCopies};
 use crate::format::Digits;
+use datatypes::kind;
 use field_leaf::FieldLeaf;
 use walks::LeafPut;
 
@@ -92,13 +94,29 @@ pub fn put_schema_leaf(s: &[u8], at: usize, out: &mut [u8]) -> LeafPut
     LeafPut::Put(e + 7, written)
 }
 
-// Copies the line of the leaf that stands at `at`, if it is recognised and fits.
-pub fn copy_leaf(s: &[u8], at: usize, out: &mut [u8]) -> LeafPut
-    ensures { λ r. ⌜ LeafCopies (now (s .entry)) at (now (out .entry)) (now (out .exit)) r ⌝ }
+// Whether the line of a leaf of this kind is copied: a date, which is another type underneath, only where dates are.
+fn is_copied(dates: bool, kind: u64) -> bool
+    ensures { λ r. ⌜ r ≡ isCopied dates kind ⌝ }
+{
+    if dates {
+        return true;
+    }
+    if kind == kind::DATE32 {
+        return false;
+    }
+    kind != kind::DATE64
+}
+
+// Copies the line of the leaf that stands at `at`, if it is recognised and fits; a date's only where `dates` are copied.
+pub fn copy_leaf(s: &[u8], at: usize, dates: bool, out: &mut [u8]) -> LeafPut
+    ensures { λ r. ⌜ LeafCopies (now (s .entry)) at dates (now (out .entry)) (now (out .exit)) r ⌝ }
 {
     let FieldLeaf::Line(kind, from, e, nullable) = field_leaf::leaf_at(s, at) else {
         return LeafPut::Other;
     };
+    if !is_copied(dates, kind) {
+        return LeafPut::Other;
+    }
     let next = e + 7;
     if out.len() < next - at {
         return LeafPut::Other;

@@ -1,7 +1,7 @@
 -- A line that is known to stand, walked from column to column: each end that `text_end` or `number_end` finds is the column's, so that all that the line says
 -- is where it is read. Assumes nothing.
 use mathlib.Core.Path.{_≡_, refl, sym, _∙_, ap, ap₂, subst}
-use mathlib.Core.Bool.{Bool, true, false, cond, and-false}
+use mathlib.Core.Bool.{Bool, true, false, cond, and-false, true≢false}
 use mathlib.Core.List.{[], _∷_}
 use mathlib.Core.Option.{Option, none, some}
 use Prim.Native.Nat.{ℕ, _+_, _-_, _/_, _^_, _<_}
@@ -10,7 +10,7 @@ use native.Mathlib.Omega.{arith}
 use lib.Dec.{eqb, ltb}
 use lib.ListN.{length, getD, drop}
 use lib.Seq.{getD-take, getD-drop}
-use borrow.Author.Tests.{ltb-true, ne-eqb}
+use borrow.Author.Tests.{ltb-true, ne-eqb, eqb-true, eqb-false}
 use Rattle.sheets.specs.Rule.{Meets}
 use Rattle.sheets.specs.Bytes.{Bytes}
 use Rattle.sheets.specs.Answer.{given}
@@ -18,19 +18,23 @@ use Rattle.sheets.specs.Codec.{number, raw, done, _▸_}
 use Rattle.sheets.specs.Number.{readNumber}
 use Rattle.sheets.specs.Text.{hexDigit, writeText}
 use Rattle.sheets.specs.Field.{textRule}
-use Rattle.sheets.specs.FieldSheet.{Line, columnsOf, childrenOf}
+use Rattle.sheets.specs.FieldSheet.{Line, noText, columnsOf, childrenOf}
 use Rattle.sheets.specs.FieldTrees.{fields}
 use Rattle.sheets.specs.TreeWalks.{HasTree}
 use Rattle.sheets.proofs.Tests.{same-given}
+use Rattle.sheets.proofs.BytesLaws.{same-eq}
 use Rattle.sheets.proofs.Utf8Laws.{utf8-bytes}
 use Rattle.columns.specs.Columns.{part, stopFrom, ColumnAt}
 use Rattle.columns.specs.Tails.{Tail}
 use Rattle.columns.specs.NumberColumns.{HasNumber}
+use Rattle.columns.proofs.ColumnLaws.{column-size}
 use Rattle.columns.proofs.TailLaws.{tail-next, tail-last, found, last-found}
-use Rattle.field_columns.specs.FieldColumns.{isNothing, isOptionalText}
-use Rattle.field_kinds.specs.FieldKinds.{childrenFit, Fits, OwnFits}
+use Rattle.field_columns.specs.FieldColumns.{isNothing, isOptionalText, isContent}
+use Rattle.field_columns.specs.declared.Content.the-variants as C
+use Rattle.field_columns.proofs.ContentLaws.{flag-long}
+use Rattle.field_kinds.specs.FieldKinds.{flagContent, pairsContent, childrenFit, Fits, OwnFits}
 use Rattle.field_kinds.proofs.ShapeLaws.{text-is}
-use Rattle.read_field_line.specs.Stages.{OwnLine, ownRow, TypeStands, OwnStands, TypeAt, OwnAt, HasTypeColumns, HasOwnColumns}
+use Rattle.read_field_line.specs.Stages.{OwnLine, ownRow, TypeStands, OwnStands, TypeAt, OwnAt, HasTypeColumns, HasOwnColumns, bareOwn}
 use Rattle.read_field_line.specs.FieldLines.{FieldLineAt}
 use Rattle.read_field_line.specs.declared.types.TypeColumns.{TypeColumns}
 use Rattle.read_field_line.specs.declared.own.OwnColumns.{OwnColumns}
@@ -50,15 +54,6 @@ module _ {s : Bytes} {at : ℕ} {x : Line} {rest : Bytes} (w : TypeStands s at x
     module _ {h : ℕ} (eh : h ≡ stopFrom s (g + 1)) where
       pub q-known : ColumnAt s (g + 1) h 32
       q-known = found number raw (raw ▸ ownRow) (q-tail w kind-known p-known) eh .column
-
-      pub kind-number : HasNumber s at f
-      kind-number = (x .0, kind-reads w kind-known p-known q-known, small w .kindSmall, omega (arith, kind-known .high))
-
-      pub p-number : HasNumber s (f + 1) g
-      p-number = (x .1 .0, p-reads w kind-known p-known q-known, small w .pSmall, omega (arith, p-known .high))
-
-      pub q-number : HasNumber s (g + 1) h
-      q-number = (x .1 .1 .0, q-reads w kind-known p-known q-known, small w .qSmall, omega (arith, q-known .high))
 
       module _ {i : ℕ} (ei : i ≡ stopFrom s (h + 1)) where
         pub text-known : ColumnAt s (h + 1) i 32
@@ -105,6 +100,18 @@ module _ {s : Bytes} {at : ℕ} {x : Line} {rest : Bytes} (w : TypeStands s at x
                 fits = fits;
               }
 
+-- the numbers that stand there
+module _ {s : Bytes} {at : ℕ} {x : Line} {rest : Bytes} (w : TypeStands s at x rest) where
+  pub kind-number : HasNumber s at
+  kind-number = let k = kind-known w refl in let p = p-known w refl refl in (_, 32, k, refl, x .0, kind-reads w k p (q-known w refl refl refl), small w .kindSmall)
+
+  module _ {f : ℕ} (ef : f ≡ stopFrom s at) where
+    pub p-number : HasNumber s (f + 1)
+    p-number = let p = p-known w ef refl in (_, 32, p, refl, x .1 .0, p-reads w (kind-known w ef) p (q-known w ef refl refl), small w .pSmall)
+
+    pub q-number : {g : ℕ} → g ≡ stopFrom s (f + 1) → HasNumber s (g + 1)
+    q-number eg = let q = q-known w ef eg refl in (_, 32, q, refl, x .1 .1 .0, q-reads w (kind-known w ef) (p-known w ef eg) q, small w .qSmall)
+
 -- ── name nullable pairs
 
 digit-other : (d : ℕ) → d < 16 → eqb (hexDigit d) 126 ≡ false
@@ -113,6 +120,22 @@ digit-other d h = pick (ltb d 10) refl
     pick : (t : Bool) → ltb d 10 ≡ t → eqb (cond t (48 + d) (87 + d)) 126 ≡ false
     pick true e = ne-eqb (48 + d) 126 (λ q. omega arith)
     pick false e = ne-eqb (87 + d) 126 (λ q. omega arith)
+
+nothing-is : (c : Bytes) → isNothing c ≡ true → c ≡ 126 ∷ []
+unfolding isNothing
+nothing-is c h = sym (same-eq noText c h)
+
+flag-size : (c : Bytes) → isContent C.Flag c ≡ true → length c ≡ 1
+flag-size c h = pick (eqb (length c) 1) refl
+  where
+    pick : (t : Bool) → eqb (length c) 1 ≡ t → length c ≡ 1
+    pick true e = eqb-true (length c) 1 e
+    pick false e = absurd (true≢false (sym h ∙ flag-long c (eqb-false (length c) 1 e)))
+
+-- the column's first byte
+first-byte : {s : Bytes} {a e x : ℕ} {c : Bytes} → ColumnAt s a e 32 → part s a e ≡ x ∷ c → getD s a 0 ≡ x
+first-byte {s} {a} {e} {x} {c} k h =
+    sym (getD-take (e - a) (drop a s) 0 0 (omega (arith, column-size k, ap length h)) ∙ getD-drop a s 0 0 ∙ ap (λ (j : ℕ). getD s j 0) (add-zero a)) ∙ ap (λ (l : Bytes). getD l 0 0) h
 
 -- the first byte tells `~` from a text
 mark-first : (c : Bytes) → isOptionalText c ≡ true → eqb (getD c 0 0) 126 ≡ isNothing c
@@ -158,7 +181,10 @@ module _ {s : Bytes} {at : ℕ} {y : OwnLine} {rest : Bytes} (w : OwnStands s at
       pairs-is : part s (g + 1) h ≡ y .1 .1 .0
       pairs-is = same-given (tail-next raw (number ▸ done) rest-tail pairs-known .0)
 
-      pub own-known : OwnAt s at (record { name = record { start = at; end = f }; bare = eqb (getD s at 0) 126; nullable = eqb (getD s (f + 1) 0) 49; pairs = record { start = g + 1; end = h }; end = h })
+      own-fits : OwnFits (part s at f, (part s (f + 1) g, part s (g + 1) h))
+      own-fits = subst OwnFits (λ z. (sym (name-is w name-known) z, (sym flag-is z, sym pairs-is z))) (owned w)
+
+      own-known : OwnAt s at (record { name = record { start = at; end = f }; bare = eqb (getD s at 0) 126; nullable = eqb (getD s (f + 1) 0) 49; pairs = record { start = g + 1; end = h }; end = h })
       own-known =
           record {
             nameEnd = f;
@@ -170,8 +196,65 @@ module _ {s : Bytes} {at : ℕ} {y : OwnLine} {rest : Bytes} (w : OwnStands s at
             pairsIs = refl;
             bareIs = bare-known;
             flagIs = refl;
-            fits = subst OwnFits (λ z. (sym (name-is w name-known) z, (sym flag-is z, sym pairs-is z))) (owned w);
+            fits = own-fits;
           }
+
+      -- `nullable` is one byte
+      module _ (other : eqb (getD s at 0) 126 ≡ false) where
+        flag-end : g ≡ f + 2
+        flag-end = omega (arith, column-size flag-known, flag-known .low, flag-size (part s (f + 1) g) (ap (λ (t : Bool). isContent (flagContent t) (part s (f + 1) g)) (sym other ∙ bare-known) ∙ own-fits .flagFit))
+
+        named-known : OwnAt s at (record { name = record { start = at; end = f }; bare = false; nullable = eqb (getD s (f + 1) 0) 49; pairs = record { start = f + 1 + 2; end = h }; end = h })
+        named-known =
+            let place : g + 1 ≡ f + 1 + 2 = omega (arith, flag-end) in
+            subst (λ (o : OwnColumns). OwnAt s at o) (λ i. record { name = record { start = at; end = f }; bare = other i; nullable = eqb (getD s (f + 1) 0) 49; pairs = record { start = place i; end = h }; end = h }) own-known
+
+      -- all three are `~`
+      module _ (bare : eqb (getD s at 0) 126 ≡ true) where
+        nothing : isNothing (part s at f) ≡ true
+        nothing = sym bare-known ∙ bare
+
+        flag-nothing : isNothing (part s (f + 1) g) ≡ true
+        flag-nothing = ap (λ (t : Bool). isContent (flagContent t) (part s (f + 1) g)) (sym nothing) ∙ own-fits .flagFit
+
+        pairs-nothing : isNothing (part s (g + 1) h) ≡ true
+        pairs-nothing = ap (λ (t : Bool). isContent (pairsContent t) (part s (g + 1) h)) (sym nothing) ∙ own-fits .pairsFit
+
+        name-end : f ≡ at + 1
+        name-end = omega (arith, column-size name-known, name-known .low, ap length (nothing-is (part s at f) nothing))
+
+        flag-end-bare : g ≡ at + 3
+        flag-end-bare = omega (arith, name-end, column-size flag-known, flag-known .low, ap length (nothing-is (part s (f + 1) g) flag-nothing))
+
+        pairs-end-bare : h ≡ at + 5
+        pairs-end-bare = omega (arith, flag-end-bare, column-size pairs-known, pairs-known .low, ap length (nothing-is (part s (g + 1) h) pairs-nothing))
+
+        no-flag : eqb (getD s (f + 1) 0) 49 ≡ false
+        no-flag = ap (λ (b : ℕ). eqb b 49) (first-byte flag-known (nothing-is (part s (f + 1) g) flag-nothing))
+
+        bare-known-there : OwnAt s at (bareOwn at)
+        bare-known-there =
+            let start : g + 1 ≡ at + 4 = omega (arith, flag-end-bare) in
+            subst (λ (o : OwnColumns). OwnAt s at o) (λ i. record { name = record { start = at; end = name-end i }; bare = bare i; nullable = no-flag i; pairs = record { start = start i; end = pairs-end-bare i }; end = pairs-end-bare i }) own-known
+
+module _ {s : Bytes} {at : ℕ} {y : OwnLine} {rest : Bytes} (w : OwnStands s at y rest) where
+  pub first-there : at < length s
+  first-there = omega (arith, name-some w refl, name-known w refl .high)
+
+  pub bare-there : eqb (getD s at 0) 126 ≡ true → OwnAt s at (bareOwn at)
+  bare-there h = bare-known-there w refl refl refl h
+
+  module _ (other : eqb (getD s at 0) 126 ≡ false) {f : ℕ} (ef : f ≡ stopFrom s at) where
+    flag-there : stopFrom s (f + 1) ≡ f + 2
+    flag-there = flag-end w ef refl refl other
+
+    pub flag-within : f + 2 < length s
+    flag-within = omega (arith, flag-there, flag-known w ef refl .high)
+
+    pub named-there : {h : ℕ} → h ≡ stopFrom s (f + 1 + 2) → OwnAt s at (record { name = record { start = at; end = f }; bare = false; nullable = eqb (getD s (f + 1) 0) 49; pairs = record { start = f + 1 + 2; end = h }; end = h })
+    named-there eh =
+        let place : f + 1 + 2 ≡ stopFrom s (f + 1) + 1 = omega (arith, flag-there) in
+        named-known w ef refl (eh ∙ ap (stopFrom s) place) other
 
 -- ── the line
 
@@ -193,9 +276,6 @@ module _ (s : Bytes) (at : ℕ) (h : HasTree fields s at) where
       children-read : readNumber (part s (o .end + 1) e) ≡ given (childrenOf (first .line))
       children-read = tail-last number (children-stand s at first a d) children-known .0
 
-      pub children-number : length s < 2 ^ 64 → HasNumber s (o .end + 1) e
-      children-number fits = (childrenOf (first .line), children-read, few-children s at first fits, omega (arith, children-known .high))
-
       pub line-known : {n : ℕ} → readNumber (part s (o .end + 1) e) ≡ given n
           → FieldLineAt s at
           (record {
@@ -215,3 +295,6 @@ module _ (s : Bytes) (at : ℕ) (h : HasTree fields s at) where
           let m : childrenOf (first .line) ≡ n = same-given (sym children-read ∙ r) in
           let k : columnsOf (first .line) .kind ≡ t .kind = the-kind (type-stands s at first) (a .numbers) in
           line-there a d children-known r (sym (ap₂ childrenFit k m) ∙ kind-children s at first)
+
+    pub children-number : {o : OwnColumns} → OwnAt s (t .end + 1) o → length s < 2 ^ 64 → HasNumber s (o .end + 1)
+    children-number d fits = (_, 10, children-known d refl, refl, childrenOf (first .line), children-read d refl, few-children s at first fits)

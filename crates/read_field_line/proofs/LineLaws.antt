@@ -22,6 +22,7 @@ use Rattle.sheets.specs.LineTrees.{Row}
 use Rattle.sheets.specs.FieldTrees.{Head, readHead, shapeRule, ownRule, childrenRule, fields}
 use Rattle.sheets.specs.TreeWalks.{HasTree}
 use Rattle.sheets.proofs.Tests.{first-gave, same-given, meets, passing}
+use Rattle.sheets.proofs.InverseLaws.{number-read}
 use Rattle.sheets.proofs.LineTrees.{Begins, row-begins, standing-begins}
 use Rattle.sheets.proofs.FieldTrees.{fields-lawful}
 use Rattle.columns.specs.Columns.{part, partOf, ColumnAt}
@@ -190,6 +191,15 @@ flag-byte (some i) = go (i .nullable)
     go true = refl
     go false = refl
 
+flag-one : (i : Option Info) → length (infoColumns i .1 .0) ≡ 1
+unfolding decimal
+flag-one none = refl
+flag-one (some i) = go (i .nullable)
+  where
+    go : (b : Bool) → length (decimal (toNat b)) ≡ 1
+    go true = refl
+    go false = refl
+
 pub flag-shown : (s : Bytes) (a e : ℕ) (i : Option Info) → a < e → infoColumns i .1 .0 ≡ part s a e → eqb (getD s a 0) 49 ≡ flagOf i
 flag-shown s a e i l h =
     ap (λ (b : ℕ). eqb b 49) (sym (getD-take (e - a) (drop a s) 0 0 (omega arith) ∙ getD-drop a s 0 0 ∙ ap (λ (j : ℕ). getD s j 0) (add-zero a)) ∙ ap (λ (c : Bytes). getD c 0 0) (sym h))
@@ -249,5 +259,7 @@ line-there {s} {at} {t} a {o} d {e} {n} ce he fit =
             nullable = d .flagIs ∙ flag-shown s (d .nameEnd + 1) (d .flagEnd) (inf .info) (flag .some) (ap (λ (y : Own). y .1 .0) (inf .written));
             pairs = subst (λ (c : Own). PartAt s (o .pairs) (c .1 .1)) (sym (inf .written)) (part-at (pairsContent (isNothing (part s (t .end + 1) (d .nameEnd)))) (d .pairsAt) (d .fits .pairsFit) (d .pairsIs));
             children = refl;
+            flag = omega (arith, ap (λ (q : Part). q .end) (d .nameIs), ap (λ (q : Part). q .start) (d .pairsIs), column-size (d .flagAt), d .flagAt .low, ap (λ (y : Own). length (y .1 .0)) (inf .written), flag-one (inf .info));
+            last = omega (arith, ap (λ (q : Part). q .end) (d .pairsIs), column-size ce, ce .low, ap length (number-read (part s (o .end + 1) e) n he));
           };
     }

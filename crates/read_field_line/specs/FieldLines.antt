@@ -2,11 +2,12 @@
 use mathlib.Core.Path.{_≡_}
 use mathlib.Core.Bool.{Bool, false}
 use mathlib.Core.Option.{Option, none, some}
-use Prim.Native.Nat.{ℕ, _≤_, _<_}
+use Prim.Native.Nat.{ℕ, _+_, _≤_, _<_}
 use lib.ListN.{length}
 use Rattle.sheets.specs.Refusal.{badLines}
 use Rattle.sheets.specs.Bytes.{Bytes}
 use Rattle.sheets.specs.Answer.{Answer, refused, given}
+use Rattle.sheets.specs.Number.{decimal}
 use Rattle.sheets.specs.Field.{Info}
 use Rattle.sheets.specs.FieldSheet.{columns, infoColumns}
 use Rattle.sheets.specs.FieldTrees.{Head, isBare, fields}
@@ -40,6 +41,9 @@ pub record Shows (s : Bytes) (l : FieldLine) (h : Head) : Type 0 where
   pub nullable : l .nullable ≡ flagOf (h .info)
   pub pairs : PartAt s (l .pairs) (infoColumns (h .info) .1 .1)
   pub children : l .children ≡ h .children
+  -- where they stand: `nullable`, one byte, between name and pairs, and `children` after pairs, up to the line's byte 10
+  pub flag : l .pairs .start ≡ l .name .end + 3
+  pub last : l .end ≡ l .pairs .end + length (decimal (h .children)) + 2
 
 -- a line that keeps its rules stands here, and the struct shows it
 pub record FieldLineAt (s : Bytes) (at : ℕ) (l : FieldLine) : Type 0 where

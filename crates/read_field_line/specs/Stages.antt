@@ -1,11 +1,11 @@
 -- A line of a field sheet is read in stages: kind p q, then text more, then name nullable pairs. What each stage finds from a place on, or that no line
 -- stands there whose columns of this stage keep the rules. Assumes nothing.
 use mathlib.Core.Path.{_≡_}
-use mathlib.Core.Bool.{true}
+use mathlib.Core.Bool.{Bool, true, false, _&&_}
 use mathlib.Core.Option.{Option}
 use Prim.Native.Nat.{ℕ, _+_}
 use lib.Dec.{eqb}
-use lib.ListN.{getD}
+use lib.ListN.{getD, drop}
 use Rattle.sheets.specs.Refusal.{badLines}
 use Rattle.sheets.specs.Rule.{Meets}
 use Rattle.sheets.specs.Bytes.{Bytes, space}
@@ -15,7 +15,7 @@ use Rattle.sheets.specs.Codec.{ColumnsCodec as Columns, number, raw, done, _▸
 use Rattle.sheets.specs.Field.{Info}
 use Rattle.sheets.specs.FieldSheet.{Shape, Line, columnsOf, readShape, readInfo}
 use Rattle.sheets.specs.FieldTrees.{shapeRule, ownRule}
-use Rattle.columns.specs.Columns.{part, partOf, ColumnAt}
+use Rattle.columns.specs.Columns.{part, partOf, oneOf, ColumnAt}
 use Rattle.columns.specs.Tails.{Tail}
 use Rattle.field_columns.specs.FieldColumns.{isNothing}
 use Rattle.field_kinds.specs.FieldKinds.{pFits, qFits, Fits, OwnFits}
@@ -123,3 +123,15 @@ HasTypeColumns s at = (x : Line) × (rest : Bytes) × TypeStands s at x rest
 
 abbrev pub HasOwnColumns : Bytes → ℕ → Type 0
 HasOwnColumns s at = (y : OwnLine) × (rest : Bytes) × OwnStands s at y rest
+
+-- ── a bare line, whose name, `nullable` and pairs are `~`
+
+abbrev pub isNone : ℕ → Bool
+isNone b = eqb b 126
+
+abbrev pub bareAt : Bytes → ℕ → Bool
+bareAt s at = oneOf isNone space (drop at s) && (oneOf isNone space (drop (at + 2) s) && oneOf isNone space (drop (at + 4) s))
+
+-- its columns, each one byte and a space
+abbrev pub bareOwn : ℕ → OwnColumns
+bareOwn at = record { name = partOf at (at + 1); bare = true; nullable = false; pairs = partOf (at + 4) (at + 5); end = at + 5 }

@@ -73,8 +73,7 @@ pub fn field_line_at(s: &[u8], at: usize) -> FieldLine
 {
     let t = crate::types::known_type(s, at);
     let o = crate::own::known_own(s, t.end + 1);
-    let start = o.end + 1;
-    let end = columns::number_end(s, start);
+    let children = number::number_at(s, o.end + 1);
     let text = t.text;
     let more = t.more;
     let name = o.name;
@@ -89,7 +88,7 @@ pub fn field_line_at(s: &[u8], at: usize) -> FieldLine
         bare: o.bare,
         nullable: o.nullable,
         pairs,
-        children: number::number_at(s, start, end),
-        end: end + 1,
+        children: children.value,
+        end: children.end + 1,
     }
 }

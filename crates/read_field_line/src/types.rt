@@ -87,16 +87,17 @@ pub fn known_type(s: &[u8], at: usize) -> TypeColumns
     requires { ⌜ HasTypeColumns (now s) at ⌝ }
     ensures { λ r. ⌜ TypeAt (now (s .entry)) at r ⌝ }
 {
-    let kind = columns::number_end(s, at);
-    let p = columns::number_end(s, kind + 1);
-    let q = columns::number_end(s, p + 1);
-    let text = columns::text_end(s, q + 1);
+    let kind = number::number_at(s, at);
+    let p = number::number_at(s, kind.end + 1);
+    let q = number::number_at(s, p.end + 1);
+    let start = q.end + 1;
+    let text = columns::text_end(s, start);
     let more = columns::text_end(s, text + 1);
     TypeColumns {
-        kind: number::number_at(s, at, kind),
-        p: number::number_at(s, kind + 1, p),
-        q: number::number_at(s, p + 1, q),
-        text: columns::between(q + 1, text),
+        kind: kind.value,
+        p: p.value,
+        q: q.value,
+        text: columns::between(start, text),
         more: columns::between(text + 1, more),
         end: more,
     }

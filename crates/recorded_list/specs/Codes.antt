@@ -10,6 +10,36 @@ exportCall = 1
 abbrev pub plainCall : ℕ
 plainCall = 2
 
+abbrev pub toPhysicalTypeCall : ℕ
+toPhysicalTypeCall = 3
+
+abbrev pub underlyingPhysicalTypeCall : ℕ
+underlyingPhysicalTypeCall = 4
+
+abbrev pub toStorageCall : ℕ
+toStorageCall = 5
+
+abbrev pub toStorageRecursiveCall : ℕ
+toStorageRecursiveCall = 6
+
+abbrev pub innerDtypeCall : ℕ
+innerDtypeCall = 7
+
+abbrev pub getChildCall : ℕ
+getChildCall = 8
+
+abbrev pub isNestedCall : ℕ
+isNestedCall = 9
+
+abbrev pub containsDictionaryCall : ℕ
+containsDictionaryCall = 10
+
+abbrev pub fromIntegerTypeCall : ℕ
+fromIntegerTypeCall = 11
+
+abbrev pub fromPrimitiveTypeCall : ℕ
+fromPrimitiveTypeCall = 12
+
 -- the codes are the numbers below this
 abbrev pub calls : ℕ
 calls = 13

@@ -16,6 +16,7 @@ use Rattle.recorded_list.specs.Moving.{Within}
 use Rattle.recorded_list.specs.Reading.{ReadsNext}
 use Rattle.recorded_list.specs.declared.window.Window.{Window}
 use Rattle.recorded_list.proofs.ReadingLaws.{read-kind, rest-within}
+use Rattle.judge.specs.declared.Numbers.{Numbers}
 use Rattle.judge.specs.Judging.{replayed}
 use Rattle.replay.specs.Turns.{longestBuffer, Lendable, Told, proper, turn, ReplaysNext}
 
@@ -32,7 +33,7 @@ module _ (input output : ℕ) (before : Bytes) (w : Window) (after : Bytes) wher
         let is = read-kind (IsRecord input output) recordText (λ r. true) before w after r rest reads in
         record { inputFits = is .input .fits; outputFits = is .output .fits; roomFits = leb-true (r .header .room) longestBuffer (and-right (ltb (r .header .call) calls) _ e) }
 
-    pub one-turn : proper (r .header) ≡ true → (told : Option (Option (ℕ × ℕ))) → told ≡ replayed (r .header .room) r → ReplaysNext input output before w after (some (rest, r .header .call, told))
+    pub one-turn : proper (r .header) ≡ true → (told : Option Numbers) → told ≡ replayed (r .header .room) r → ReplaysNext input output before w after (some (rest, r .header .call, told))
     one-turn e told h =
         let t : Told = (rest, r .header .call, replayed (r .header .room) r) in
         let same : _≡_ {A = Option Told} (some (rest, r .header .call, told)) (some t) = λ i. some (rest, r .header .call, h i) in

@@ -10,6 +10,7 @@ use Rattle.recorded_list.specs.ListText.{Record}
 use Rattle.recorded_list.specs.Reading.{ReadsNext}
 use Rattle.recorded_list.specs.declared.records.Header.{Header}
 use Rattle.recorded_list.specs.declared.window.Window.{Window}
+use Rattle.judge.specs.declared.Numbers.{Numbers}
 use Rattle.judge.specs.Judging.{replayed, replayedOption}
 use Rattle.replay.specs.declared.Turn.{Turn}
 use Rattle.replay.specs.declared.Turn.the-variants.{Done, Bad}
@@ -29,7 +30,7 @@ pub record Lendable (h : Header) (input output : ℕ) : Type 0 where
 
 -- what is still to be read after a record, its call, and what is told of it
 abbrev pub Told : Type 0
-Told = Window × ℕ × Option (Option (ℕ × ℕ))
+Told = Window × ℕ × Option Numbers
 
 -- the answer, case by case
 abbrev pub turnOption : Turn → Option Told

@@ -1,15 +1,19 @@
 // Replays the recorded list of answers (differential/ANSWERS.md) that stands on standard input. Prints for each call how many records were
 // replayed and how many differ, and in full the first that does; or at which record the list is malformed. Records are counted from 0.
 ghost use mathlib.Core.Path.{_≡_};
-ghost use mathlib.Core.Option.{some};
 ghost use lib.ListN.{length};
-ghost use Rattle.sheets.specs.Outcome.{importOutcome, exportOutcome, plainOutcome};
+ghost use Rattle.outcome.specs.Answers.{outcomeOf};
+ghost use Rattle.mapping_calls.specs.Answers.{placesOf, yesNoOf};
 ghost use Rattle.recorded_list.specs.Answers.{recordIn};
 ghost use Rattle.recorded_list.specs.Moving.{longestPart, Within};
-ghost use Rattle.judge.specs.Judging.{filled, recorded, difference, replayed, replayedOption};
+ghost use Rattle.judge.specs.Judging.{filled, recorded, difference, sheetOutcome, placesNumbers, yesNoNumbers, numbersOutcome, replayed, replayedOption};
 ghost use Rattle.replay.specs.Turns.{longestBuffer, recordOf, Lendable, proper, turnOption, ReplaysNext};
+use judge::Numbers;
 use judge::Replayed;
 use judge::tally::COUNTS;
+use mapping_calls::YesNo;
+use mapping_calls::physical::PhysicalPlaces;
+use outcome::Answered;
 use recorded_list::Next;
 use recorded_list::Start;
 use recorded_list::call;
@@ -40,44 +44,74 @@ fn part_buffer() -> [u8; LONGEST_PART]
     [0; LONGEST_PART]
 }
 
-// Import replayed on a filled buffer.
-fn replay_import(h: Header, input: &[u8], output: &[u8], lent: &mut [u8]) -> Replayed
-    ensures { λ r. ⌜ replayedOption r ≡ some (difference (importOutcome (now (input .entry)) (filled (length (now (lent .entry))))) (recorded h (now (output .entry)) (length (now (lent .entry))))) ⌝ }
+// The answer of a call that writes a sheet. The last one has the code that is left.
+fn ask(code: u64, argument: u64, s: &[u8], out: &mut [u8]) -> Answered
+    ensures { λ r. ⌜ outcomeOf (r .number) (r .length) (now (out .exit)) ≡ sheetOutcome code argument (now (s .entry)) (now (out .entry)) ⌝ }
+{
+    match code {
+        call::IMPORT => import_sheet::import(s, out),
+        call::EXPORT => field_calls::export(s, out),
+        call::PLAIN => field_calls::plain_form(s, out),
+        call::UNDERLYING_PHYSICAL_TYPE => field_calls::underlying_physical_type(s, out),
+        call::TO_STORAGE => picked_types::to_storage(s, out),
+        call::TO_STORAGE_RECURSIVE => field_calls::to_storage_recursive(s, out),
+        call::INNER_DTYPE => picked_types::inner_dtype(s, out),
+        call::GET_CHILD => picked_types::get_child(s, argument, out),
+        call::FROM_INTEGER_TYPE => mapping_calls::conversions::from_integer_type(argument, out),
+        _ => mapping_calls::conversions::from_primitive_type(argument, out),
+    }
+}
+
+// Such a call replayed on a filled buffer.
+fn replay_sheet(h: Header, input: &[u8], output: &[u8], lent: &mut [u8]) -> Replayed
+    ensures { λ r. ⌜ replayedOption r ≡ difference (sheetOutcome (h .call) (h .argument) (now (input .entry)) (filled (length (now (lent .entry))))) (recorded h (now (output .entry)) (length (now (lent .entry)))) ⌝ }
 {
     judge::fill(lent, judge::FILLER);
-    let a = import_sheet::import(input, lent);
+    let a = ask(h.call, h.argument, input, lent);
     judge::judge(a.number as u64, a.length as u64, h, output, lent)
 }
 
-// Export replayed on a filled buffer.
-fn replay_export(h: Header, input: &[u8], output: &[u8], lent: &mut [u8]) -> Replayed
-    ensures { λ r. ⌜ replayedOption r ≡ some (difference (exportOutcome (now (input .entry)) (filled (length (now (lent .entry))))) (recorded h (now (output .entry)) (length (now (lent .entry))))) ⌝ }
+fn physical_numbers(p: PhysicalPlaces) -> Numbers
+    ensures { λ r. ⌜ r ≡ placesNumbers (placesOf p) ⌝ }
 {
-    judge::fill(lent, judge::FILLER);
-    let a = field_calls::export(input, lent);
-    judge::judge(a.number as u64, a.length as u64, h, output, lent)
+    Numbers {
+        number: p.number as u64,
+        first: p.place,
+        second: p.inner,
+    }
 }
 
-// Plain form replayed on a filled buffer.
-fn replay_plain(h: Header, input: &[u8], output: &[u8], lent: &mut [u8]) -> Replayed
-    ensures { λ r. ⌜ replayedOption r ≡ some (difference (plainOutcome (now (input .entry)) (filled (length (now (lent .entry))))) (recorded h (now (output .entry)) (length (now (lent .entry))))) ⌝ }
+fn yes_no_numbers(y: YesNo) -> Numbers
+    ensures { λ r. ⌜ r ≡ yesNoNumbers (yesNoOf y) ⌝ }
 {
-    judge::fill(lent, judge::FILLER);
-    let a = field_calls::plain_form(input, lent);
-    judge::judge(a.number as u64, a.length as u64, h, output, lent)
+    Numbers {
+        number: y.number as u64,
+        first: y.answer as u64,
+        second: 0,
+    }
 }
 
-// A call that is replayed is one case here.
+// The answer of a call that answers numbers. The last one has the code that is left.
+fn ask_numbers(code: u64, s: &[u8]) -> Numbers
+    ensures { λ r. ⌜ r ≡ numbersOutcome code (now (s .entry)) ⌝ }
+{
+    match code {
+        call::TO_PHYSICAL_TYPE => {
+            physical_numbers(mapping_calls::physical::to_physical_type(s).places())
+        }
+        call::IS_NESTED => yes_no_numbers(mapping_calls::is_nested(s)),
+        _ => yes_no_numbers(mapping_calls::contains_dictionary(s)),
+    }
+}
+
+// A record of one of the calls replayed.
 fn replay(h: Header, input: &[u8], output: &[u8], lent: &mut [u8]) -> Replayed
     ensures { λ r. ⌜ replayedOption r ≡ replayed (length (now (lent .entry))) (recordOf h (now (input .entry)) (now (output .entry))) ⌝ }
 {
-    let code = h.call;
-    match code {
-        call::IMPORT => replay_import(h, input, output, lent),
-        call::EXPORT => replay_export(h, input, output, lent),
-        call::PLAIN => replay_plain(h, input, output, lent),
-        _ => Replayed::NotYet,
+    if judge::answers_numbers(h.call) {
+        return judge::judge_numbers(ask_numbers(h.call, input), h);
     }
+    replay_sheet(h, input, output, lent)
 }
 
 // Replays a record whose parts stand in the first bytes of input and output; a difference is printed unless one was told before.

@@ -71,18 +71,12 @@ module _ {s : Bytes} {at : ℕ} {x : Line} {rest : Bytes} (b : Stands s at x res
           pub children-within : h < length s
           children-within = children-found .column .high
 
-          pub children-number : HasNumber s (m + 1) h
-          children-number = (childrenOf x, children-found .reads, ltb-true (childrenOf x) (2 ^ 64) (rule .1 .0), omega (arith, children-within))
-
           module _ {e : ℕ} (ee : e ≡ stopFrom s (h + 1)) where
             last : ColumnAt s (h + 1) e 10
             last = last-found number (children-found .after) ee
 
             pub dictionary-within : e < length s
             dictionary-within = last .high
-
-            pub dictionary-number : HasNumber s (h + 1) e
-            dictionary-number = (dictionaryOf x, tail-last number (children-found .after) last .0, omega (arith, ltb-true (dictionaryOf x) 2 (rule .1 .1)), omega (arith, last .high))
 
             pub ends : Ends s at x f n g m h e
             ends =
@@ -110,6 +104,16 @@ module _ {s : Bytes} {at : ℕ} {x : Line} {rest : Bytes} (b : Stands s at x res
                 let pc : childrenOf x ≡ c = same-given (sym (k .isChildren) ∙ rc) in
                 let pd : dictionaryOf x ≡ d = same-given (sym (k .isDictionary) ∙ rd) in
                 ends-read k rule ∙ (λ i. given (shown at f n g m e (pz i) (pc i) (pd i)))
+
+-- the numbers that stand there
+module _ {s : Bytes} {at : ℕ} {x : Line} {rest : Bytes} (b : Stands s at x rest) (rule : Meets (lineRule x)) {f n g m : ℕ} (ef : f ≡ stopFrom s at) (en : n ≡ stopFrom s (f + 1)) (eg : g ≡ stopFrom s (n + 1)) (em : m ≡ stopFrom s (g + 1)) where
+  pub children-number : HasNumber s (m + 1)
+  children-number = let k = children-found b rule ef en eg em refl in (_, 32, k .column, refl, childrenOf x, k .reads, ltb-true (childrenOf x) (2 ^ 64) (rule .1 .0))
+
+  pub dictionary-number : {h : ℕ} → h ≡ stopFrom s (m + 1) → HasNumber s (h + 1)
+  dictionary-number eh =
+      let k = last b rule ef en eg em eh refl in
+      (_, 10, k, refl, dictionaryOf x, tail-last number (children-found b rule ef en eg em eh .after) k .0, omega (arith, ltb-true (dictionaryOf x) 2 (rule .1 .1)))
 
 -- ── a line that stands
 

@@ -58,19 +58,19 @@ pub fn line_at(s: &[u8], at: usize) -> SchemaLine
     requires { ⌜ HasTree schemas (now s) at ⌝ }
     ensures { λ r. ⌜ readLine (now (s .entry)) at ≡ given r ⌝ }
 {
-    let format = columns::text_end(s, at);
-    let name = columns::text_end(s, format + 1);
+    let format = columns::any_end(s, at);
+    let name = columns::any_end(s, format + 1);
     let flags = columns::number_end(s, name + 1);
     let metadata = columns::text_end(s, flags + 1);
-    let children = columns::number_end(s, metadata + 1);
-    let dictionary = columns::number_end(s, children + 1);
+    let children = number::number_at(s, metadata + 1);
+    let dictionary = number::number_at(s, children.end + 1);
     SchemaLine {
         format: columns::between(at, format),
         name: columns::between(format + 1, name),
         flags: number::signed_at(s, name + 1, flags),
         metadata: columns::between(flags + 1, metadata),
-        children: number::number_at(s, metadata + 1, children),
-        dictionary: number::number_at(s, children + 1, dictionary),
-        end: dictionary + 1,
+        children: children.value,
+        dictionary: dictionary.value,
+        end: dictionary.end + 1,
     }
 }

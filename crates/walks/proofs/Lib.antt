@@ -3,3 +3,4 @@ pub mod RowLaws
 pub mod EndLaws
 pub mod HeadedLaws
 pub mod FirstLaws
+pub mod BothLaws

@@ -23,7 +23,7 @@ both-before : (a b : List Bytes) (m : Answer (List Bytes)) → ((m >>= λ ls. gi
 both-before a b (refused r) = refl
 both-before a b (given ls) = ap given (sym (append-assoc a b ls))
 
-tallest-cons : (inside : Bool) (x : Entry) (xs : List Entry) → tallest (entryLevels inside) (x ∷ xs) ≡ max (entryLevels inside x) (tallest (entryLevels inside) xs)
+pub tallest-cons : (inside : Bool) (x : Entry) (xs : List Entry) → tallest (entryLevels inside) (x ∷ xs) ≡ max (entryLevels inside x) (tallest (entryLevels inside) xs)
 unfolding tallest
 tallest-cons inside x xs = refl
 

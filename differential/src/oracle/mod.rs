@@ -38,19 +38,27 @@ impl Rust {
 
     /// Must not be asked for plain form, which the Rust does not have.
     pub fn answer(&self, request: Request, sheet: &[u8]) -> Answered {
-        let mut out = Vec::new();
-        match request.call {
-            Call::Import => self.import(sheet, &mut out)?,
-            Call::Export => self.export(sheet, &mut out)?,
-            Call::FromIntegerType => from_integer_type(request.argument, &mut out)?,
-            Call::FromPrimitiveType => from_primitive_type(request.argument, &mut out)?,
-            _ => return mapping(request, &field_sheet::read(sheet)?),
+        if !request.call.writes() {
+            return values(request.call, &field_sheet::read(sheet)?.dtype);
         }
+        let mut out = Vec::new();
+        self.write(request, sheet, &mut out)?;
         Ok(Answer::Sheet(out))
     }
 
+    /// A call that writes a sheet, from sheet to sheet.
+    pub fn write(&self, request: Request, sheet: &[u8], out: &mut Vec<u8>) -> Result<(), Number> {
+        match request.call {
+            Call::Import => self.import(sheet, out),
+            Call::Export => self.export(sheet, out),
+            Call::FromIntegerType => from_integer_type(request.argument, out),
+            Call::FromPrimitiveType => from_primitive_type(request.argument, out),
+            _ => mapped(request, &field_sheet::read(sheet)?, out),
+        }
+    }
+
     /// `import_field_from_c`, from sheet to sheet.
-    pub fn import(&self, sheet: &[u8], out: &mut Vec<u8>) -> Result<(), Number> {
+    fn import(&self, sheet: &[u8], out: &mut Vec<u8>) -> Result<(), Number> {
         let producer = Producer::of_sheet(sheet, &self.blocks)?;
         // SAFETY: the structs and their memory live in `producer`, and its blocks are whole.
         let field = told(|| unsafe { import_field_from_c(producer.root()) })?;
@@ -59,7 +67,7 @@ impl Rust {
     }
 
     /// `export_field_to_c`, from sheet to sheet.
-    pub fn export(&self, sheet: &[u8], out: &mut Vec<u8>) -> Result<(), Number> {
+    fn export(&self, sheet: &[u8], out: &mut Vec<u8>) -> Result<(), Number> {
         let field = field_sheet::read(sheet)?;
         let schema = told(|| Ok(export_field_to_c(&field)))?;
         schema_sheet::write(&schema, out);
@@ -67,35 +75,36 @@ impl Rust {
     }
 }
 
-fn mapping(request: Request, field: &Field) -> Answered {
+/// The calls that answer numbers.
+fn values(call: Call, dtype: &ArrowDataType) -> Answered {
+    let (first, second) = match call {
+        Call::ToPhysicalType => kinds::physical_places(told(|| Ok(dtype.to_physical_type()))?),
+        Call::IsNested => (told(|| Ok(dtype.is_nested()))? as u64, 0),
+        Call::ContainsDictionary => (told(|| Ok(dtype.contains_dictionary()))? as u64, 0),
+        other => panic!("{} does not answer numbers", other.name()),
+    };
+    Ok(Answer::Values(first, second))
+}
+
+/// The mappings that write a sheet.
+fn mapped(request: Request, field: &Field, out: &mut Vec<u8>) -> Result<(), Number> {
     let dtype = &field.dtype;
-    match request.call {
-        Call::ToPhysicalType => {
-            let (place, inner) = kinds::physical_places(told(|| Ok(dtype.to_physical_type()))?);
-            Ok(Answer::Values(place, inner))
-        }
-        Call::UnderlyingPhysicalType => replaced(field, told(|| Ok(dtype.underlying_physical_type()))?),
-        Call::ToStorage => replaced(field, told(|| Ok(dtype.to_storage().clone()))?),
-        Call::ToStorageRecursive => replaced(field, told(|| Ok(dtype.to_storage_recursive()))?),
-        Call::InnerDtype => bare(&told(|| Ok(dtype.inner_dtype().cloned()))?.ok_or(UNDEFINED)?),
-        Call::GetChild => bare(&told(|| mmap::get_child(dtype, request.argument as usize))?),
-        Call::IsNested => Ok(Answer::Values(told(|| Ok(dtype.is_nested()))? as u64, 0)),
-        Call::ContainsDictionary => Ok(Answer::Values(told(|| Ok(dtype.contains_dictionary()))? as u64, 0)),
+    let dtype = match request.call {
+        Call::UnderlyingPhysicalType => return replaced(field, told(|| Ok(dtype.underlying_physical_type()))?, out),
+        Call::ToStorage => return replaced(field, told(|| Ok(dtype.to_storage().clone()))?, out),
+        Call::ToStorageRecursive => return replaced(field, told(|| Ok(dtype.to_storage_recursive()))?, out),
+        Call::InnerDtype => told(|| Ok(dtype.inner_dtype().cloned()))?.ok_or(UNDEFINED)?,
+        Call::GetChild => told(|| mmap::get_child(dtype, request.argument as usize))?,
         other => panic!("the Rust does not answer {}", other.name()),
-    }
+    };
+    field_sheet::write_bare(&dtype, out);
+    Ok(())
 }
 
 /// The field with its type replaced, by `with_dtype`.
-fn replaced(field: &Field, dtype: ArrowDataType) -> Answered {
-    let mut out = Vec::new();
-    field_sheet::write(&told(|| Ok(field.with_dtype(dtype)))?, &mut out);
-    Ok(Answer::Sheet(out))
-}
-
-fn bare(dtype: &ArrowDataType) -> Answered {
-    let mut out = Vec::new();
-    field_sheet::write_bare(dtype, &mut out);
-    Ok(Answer::Sheet(out))
+fn replaced(field: &Field, dtype: ArrowDataType, out: &mut Vec<u8>) -> Result<(), Number> {
+    field_sheet::write(&told(|| Ok(field.with_dtype(dtype)))?, out);
+    Ok(())
 }
 
 fn from_integer_type(place: u64, out: &mut Vec<u8>) -> Result<(), Number> {

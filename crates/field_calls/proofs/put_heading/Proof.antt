@@ -21,11 +21,20 @@ put-at-requires c κs = search needs
 enum-told-2 : tie.Need-enum-told-2
 enum-told-2 c = search needs
 
-slice-aggregate-put-at-2 : tie.Need-slice-aggregate-put-at-2
-slice-aggregate-put-at-2 c = search needs
+put-heading-requires : tie.Need-put-heading-requires
+put-heading-requires c κs = search needs
 
-put-at-requires-2 : tie.Need-put-at-requires-2
-put-at-requires-2 c κs = search needs
+enum-told-3 : tie.Need-enum-told-3
+enum-told-3 c = search needs
+
+put-heading-requires-2 : tie.Need-put-heading-requires-2
+put-heading-requires-2 c κs = search needs
+
+enum-told-4 : tie.Need-enum-told-4
+enum-told-4 c = search needs
+
+put-heading-requires-3 : tie.Need-put-heading-requires-3
+put-heading-requires-3 c κs = search needs
 
 same-length : tie.Need-same-length
 same-length c = search needs
@@ -37,7 +46,19 @@ same-length-2 : tie.Need-same-length-2
 same-length-2 c = search needs
 
 returns-2 : tie.Need-returns-2
-returns-2 c = let a = c .before .before .before .before .before .before .before .before .args in let r = c .before .before .put-at2 in subst (λ (x : Call). PutAt 0 (headingLine (headingOf x)) (r .result) (now (a .out)) (r .last .0)) (sym (c .before .before .before .before .before .enum-told2 .given .1)) (r .ensures)
+returns-2 c = let a = c .before .before .before .before .before .before .before .args in let r = c .before .before .put-heading in subst (λ (x : Call). PutAt 0 (headingLine (headingOf x)) (r .result) (now (a .out)) (r .last .0)) (sym (c .before .before .before .before .enum-told2 .given .1)) (r .ensures)
+
+same-length-3 : tie.Need-same-length-3
+same-length-3 c = search needs
+
+returns-3 : tie.Need-returns-3
+returns-3 c = let a = c .before .before .before .before .before .before .before .args in let r = c .before .before .put-heading2 in subst (λ (x : Call). PutAt 0 (headingLine (headingOf x)) (r .result) (now (a .out)) (r .last .0)) (sym (c .before .before .before .before .enum-told3 .given .1)) (r .ensures)
+
+same-length-4 : tie.Need-same-length-4
+same-length-4 c = search needs
+
+returns-4 : tie.Need-returns-4
+returns-4 c = let a = c .before .before .before .before .before .before .before .args in let r = c .before .before .put-heading3 in subst (λ (x : Call). PutAt 0 (headingLine (headingOf x)) (r .result) (now (a .out)) (r .last .0)) (sym (c .before .before .before .before .enum-told4 .given .1)) (r .ensures)
 
 pub put-heading-spec : {M : Type 1} → statement M
 put-heading-spec =
@@ -47,9 +68,16 @@ put-heading-spec =
     slice-aggregate-put-at
     put-at-requires
     enum-told-2
-    slice-aggregate-put-at-2
-    put-at-requires-2
+    put-heading-requires
+    enum-told-3
+    put-heading-requires-2
+    enum-told-4
+    put-heading-requires-3
     same-length
     returns
     same-length-2
-    returns-2)
+    returns-2
+    same-length-3
+    returns-3
+    same-length-4
+    returns-4)

@@ -7,11 +7,8 @@ use borrow.Author.Needs.{needs}
 use Rattle.import_sheet.proofs.put_sheet.Statement.{statement}
 use Rattle.import_sheet.proofs.put_sheet.Tie as tie
 
-slice-aggregate-put-at : tie.Need-slice-aggregate-put-at
-slice-aggregate-put-at c = search needs
-
-put-at-requires : tie.Need-put-at-requires
-put-at-requires c κs = search needs
+put-heading-requires : tie.Need-put-heading-requires
+put-heading-requires c κs = search needs
 
 within-requires : tie.Need-within-requires
 within-requires c κs = search needs
@@ -34,11 +31,11 @@ enum-known-r c = search needs
 enum-known-next : tie.Need-enum-known-next
 enum-known-next c = search needs
 
-add-t27 : tie.Need-add-t27
-add-t27 c =
-    let h = c .before .before .before .before .before .before .before .before .before .before .before .before .before .before .before .before .before .before .before .before .before .before .before .pre .0 in
+add-t24 : tie.Need-add-t24
+add-t24 c =
+    let h = c .before .before .before .before .before .before .before .before .before .before .before .before .before .before .before .before .before .before .before .before .before .before .pre .0 in
     let r = c .before .before .before .before .before .before .before .before .before .to-first-field in
-    omega (arith, lines-long _ _ _ _ (h .2) _ (r .last .1 .1 .0) _ _ _ (c .before .next .given .1) (r .ensures), c .before .before .before .before .before .before .before .before .before .before .before .before .before .before .before .before .put-at .ensures .0)
+    omega (arith, lines-long _ _ _ _ (h .2) _ (r .last .1 .1 .0) _ _ _ (c .before .next .given .1) (r .ensures), c .before .before .before .before .before .before .before .before .before .before .before .before .before .before .before .before .put-heading .ensures .0)
 
 same-length : tie.Need-same-length
 same-length c = search needs
@@ -67,16 +64,15 @@ returns-2 : tie.Need-returns-2
 returns-2 c =
     let r = c .before .before .before .before .before .before .before .before .before .to-first-field in
     let w = c .before .before .before .before .before .before .before .before .before .before .before .before .before .within in
-    let h = c .before .before .before .before .before .before .before .before .before .before .before .before .before .before .before .before .put-at in
+    let h = c .before .before .before .before .before .before .before .before .before .before .before .before .before .before .before .before .put-heading in
     λ t ts f. sheet-done _ _ t ts f _ (r .last .1 .1 .0) _ _ _ (c .before .next .given .1) (r .ensures)
-    (now (c .before .before .before .before .before .before .before .before .before .before .before .before .before .before .before .before .before .before .before .before .before .before .before .args .out)) (h .last .0) (h .result) (w .result) (h .ensures) (w .ensures) refl
+    (now (c .before .before .before .before .before .before .before .before .before .before .before .before .before .before .before .before .before .before .before .before .before .before .args .out)) (h .last .0) (h .result) (w .result) (h .ensures) (w .ensures) refl
 
 pub put-sheet-spec : {M : Type 1} → statement M
 put-sheet-spec =
     tie.close
     (tie.spec
-    slice-aggregate-put-at
-    put-at-requires
+    put-heading-requires
     within-requires
     sub-to-first-field
     part-to-first-field-start
@@ -84,7 +80,7 @@ put-sheet-spec =
     to-first-field-requires
     enum-known-r
     enum-known-next
-    add-t27
+    add-t24
     same-length
     same-length-2
     same-length-3

@@ -14,25 +14,22 @@ known-type-requires : tie.Need-known-type-requires
 known-type-requires c κs = has-type (c .before .args .s .now) (c .before .args .at) (c .before .pre)
 
 add-known-own : tie.Need-add-known-own
-add-known-own c = omega (arith, c .before .known-type .ensures .moreAt .high)
+add-known-own c = search needs
 
 known-own-requires : tie.Need-known-own-requires
 known-own-requires c κs = has-own (c .before .before .before .args .s .now) (c .before .before .before .args .at) (c .before .before .before .pre) (c .before .known-type .ensures)
 
-add-start : tie.Need-add-start
-add-start c = omega (arith, c .before .known-own .ensures .pairsAt .high)
-
-number-end-requires : tie.Need-number-end-requires
-number-end-requires c κs = search needs
+add-number-at : tie.Need-add-number-at
+add-number-at c = search needs
 
 number-at-requires : tie.Need-number-at-requires
-number-at-requires c κs = children-number (c .before .before .before .before .before .before .before .before .before .before .args .s .now) (c .before .before .before .before .before .before .before .before .before .before .args .at) (c .before .before .before .before .before .before .before .before .before .before .pre) (c .before .before .before .before .before .before .before .before .known-type .ensures) (c .before .before .before .before .before .before .known-own .ensures) (c .before .before .before .before .number-end .ensures) (short (c .before .before .before .before .before .before .before .before .before .before))
+number-at-requires c κs = children-number (c .before .before .before .before .before .args .s .now) (c .before .before .before .before .before .args .at) (c .before .before .before .before .before .pre) (c .before .before .before .known-type .ensures) (c .before .known-own .ensures) (short (c .before .before .before .before .before))
 
-add-t11 : tie.Need-add-t11
-add-t11 c = omega (arith, children-known (c .before .before .before .before .before .before .before .before .before .before .before .args .s .now) (c .before .before .before .before .before .before .before .before .before .before .before .args .at) (c .before .before .before .before .before .before .before .before .before .before .before .pre) (c .before .before .before .before .before .before .before .before .before .known-type .ensures) (c .before .before .before .before .before .before .before .known-own .ensures) (c .before .before .before .before .before .number-end .ensures) .high)
+add-t10 : tie.Need-add-t10
+add-t10 c = omega (arith, children-known (c .before .before .before .before .before .before .before .before .before .before .before .args .s .now) (c .before .before .before .before .before .before .before .before .before .before .before .args .at) (c .before .before .before .before .before .before .before .before .before .before .before .pre) (c .before .before .before .before .before .before .before .before .before .known-type .ensures) (c .before .before .before .before .before .before .before .known-own .ensures) (c .before .before .before .before .before .number-at .ensures .0) .high, short (c .before .before .before .before .before .before .before .before .before .before .before))
 
 returns : tie.Need-returns
-returns c = line-known (c .before .before .before .before .before .before .before .before .before .before .before .args .s .now) (c .before .before .before .before .before .before .before .before .before .before .before .args .at) (c .before .before .before .before .before .before .before .before .before .before .before .pre) (c .before .before .before .before .before .before .before .before .before .known-type .ensures) (c .before .before .before .before .before .before .before .known-own .ensures) (c .before .before .before .before .before .number-end .ensures) (c .number-at .ensures)
+returns c = line-known (c .before .before .before .before .before .before .before .before .before .before .before .args .s .now) (c .before .before .before .before .before .before .before .before .before .before .before .args .at) (c .before .before .before .before .before .before .before .before .before .before .before .pre) (c .before .before .before .before .before .before .before .before .before .known-type .ensures) (c .before .before .before .before .before .before .before .known-own .ensures) (c .before .before .before .before .before .number-at .ensures .0) (c .before .before .before .before .before .number-at .ensures .1)
 
 pub field-line-at-spec : {M : Type 1} → statement M
 field-line-at-spec =
@@ -41,8 +38,7 @@ field-line-at-spec =
     known-type-requires
     add-known-own
     known-own-requires
-    add-start
-    number-end-requires
+    add-number-at
     number-at-requires
-    add-t11
+    add-t10
     returns)

@@ -1,69 +1,42 @@
--- `replay::replay` meets its contract: by the call's code. Assumes nothing.
-use mathlib.Core.Path.{_≡_, sym, ap, _∙_}
-use Prim.Native.Nat.{ℕ}
-use lib.ListN.{length}
-use borrow.Author.Tests.{ne-eqb}
-use denote.Ref.{now}
-use Rattle.sheets.specs.Bytes.{Bytes}
-use Rattle.recorded_list.specs.Codes.{importCall, exportCall, plainCall}
-use Rattle.recorded_list.specs.declared.records.Header.{Header}
-use Rattle.judge.specs.Judging.{filled, recorded, outcomeFor, toldOf}
+-- `replay::replay` meets its contract: by whether the call answers numbers. Assumes nothing.
+use mathlib.Core.Path.{sym, ap, _∙_}
 use borrow.Author.Needs.{needs}
+use Rattle.judge.specs.declared.Numbers.{Numbers}
+use Rattle.judge.specs.Judging.{recordedNumbers, numbersDifference}
 use Rattle.replay.proofs.replay.Statement.{statement}
 use Rattle.replay.proofs.replay.Tie as tie
 
--- what is told of a record goes by its call alone
-called : (h : Header) (input output : Bytes) (room : ℕ) {k : ℕ} → k ≡ h .call
-    → toldOf (outcomeFor k input (filled room)) (recorded h output room) ≡ toldOf (outcomeFor (h .call) input (filled room)) (recorded h output room)
-called h input output room e = ap (λ (k : ℕ). toldOf (outcomeFor k input (filled room)) (recorded h output room)) e
+answers-numbers-requires : tie.Need-answers-numbers-requires
+answers-numbers-requires c κs = search needs
 
-replay-import-requires : tie.Need-replay-import-requires
-replay-import-requires c κs = search needs
+ask-numbers-requires : tie.Need-ask-numbers-requires
+ask-numbers-requires c κs = search needs
 
-replay-export-requires : tie.Need-replay-export-requires
-replay-export-requires c κs = search needs
+judge-numbers-requires : tie.Need-judge-numbers-requires
+judge-numbers-requires c κs = search needs
 
-replay-plain-requires : tie.Need-replay-plain-requires
-replay-plain-requires c κs = search needs
+returns : tie.Need-returns
+returns c =
+    let told = recordedNumbers (c .before .before .before .before .before .before .before .args .h) in
+    c .judge-numbers .ensures ∙ ap (λ (n : Numbers). numbersDifference n told) (c .before .ask-numbers .ensures) ∙ sym (rw (sym (c .before .before .before .answers-numbers .ensures) ∙ c .before .before .if1 .taken))
+
+replay-sheet-requires : tie.Need-replay-sheet-requires
+replay-sheet-requires c κs = search needs
 
 same-length : tie.Need-same-length
 same-length c = search needs
 
-returns : tie.Need-returns
-returns c =
-    let a = c .before .before .before .before .before .before .before .before .args in
-    c .before .before .replay-import .ensures ∙ called (a .h) (now (a .input)) (now (a .output)) (length (now (a .lent))) (sym (c .before .before .before .before .match .keys1))
-
-same-length-2 : tie.Need-same-length-2
-same-length-2 c = search needs
-
 returns-2 : tie.Need-returns-2
-returns-2 c =
-    let a = c .before .before .before .before .before .before .before .before .args in
-    c .before .before .replay-export .ensures ∙ called (a .h) (now (a .input)) (now (a .output)) (length (now (a .lent))) (sym (c .before .before .before .before .match .keys2))
-
-same-length-3 : tie.Need-same-length-3
-same-length-3 c = search needs
-
-returns-3 : tie.Need-returns-3
-returns-3 c =
-    let a = c .before .before .before .before .before .before .before .before .args in
-    c .before .before .replay-plain .ensures ∙ called (a .h) (now (a .input)) (now (a .output)) (length (now (a .lent))) (sym (c .before .before .before .before .match .keys3))
-
-returns-4 : tie.Need-returns-4
-returns-4 c = let a = c .before .before .before .before .args in rw (ne-eqb (a .h .call) importCall (c .match .rest .0 .0 .1), ne-eqb (a .h .call) exportCall (c .match .rest .0 .1), ne-eqb (a .h .call) plainCall (c .match .rest .1))
+returns-2 c = c .before .before .replay-sheet .ensures ∙ sym (rw (sym (c .before .before .before .before .before .answers-numbers .ensures) ∙ c .before .before .before .before .if1 .left))
 
 pub replay-spec : {M : Type 1} → statement M
 replay-spec =
     tie.close
     (tie.spec
-    replay-import-requires
-    replay-export-requires
-    replay-plain-requires
-    same-length
+    answers-numbers-requires
+    ask-numbers-requires
+    judge-numbers-requires
     returns
-    same-length-2
-    returns-2
-    same-length-3
-    returns-3
-    returns-4)
+    replay-sheet-requires
+    same-length
+    returns-2)

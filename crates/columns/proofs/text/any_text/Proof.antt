@@ -9,11 +9,11 @@ use borrow.Author.Needs.{needs}
 use Rattle.columns.proofs.text.any_text.Statement.{statement}
 use Rattle.columns.proofs.text.any_text.Tie as tie
 
-text-end-requires : tie.Need-text-end-requires
-text-end-requires c κs = search needs
+any-end-requires : tie.Need-any-end-requires
+any-end-requires c κs = search needs
 
 column-requires : tie.Need-column-requires
-column-requires c κs = c .text-end .ensures
+column-requires c κs = c .any-end .ensures
 
 enum-known-e : tie.Need-enum-known-e
 enum-known-e c = search needs
@@ -61,7 +61,7 @@ pub any-text-spec : {M : Type 1} → statement M
 any-text-spec =
     tie.close
     (tie.spec
-    text-end-requires
+    any-end-requires
     column-requires
     enum-known-e
     enum-told

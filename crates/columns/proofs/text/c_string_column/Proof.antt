@@ -1,74 +1,33 @@
--- `text::c_string_column` meets its contract: by the column's end, and then by the test of the column. Assumes nothing.
+-- `text::c_string_column` meets its contract: a column of ASCII bytes is a C string, and any other is read as before. Assumes nothing.
 use mathlib.Core.Path.{sym, ap, _∙_}
-use native.Mathlib.Omega.{arith}
 use Rattle.columns.specs.Columns.{placeOption}
 use Rattle.columns.specs.TextColumns.{isCString}
-use Rattle.columns.proofs.ColumnLaws.{column-there}
-use Rattle.columns.proofs.FindLaws.{of-none, of-other, of-there}
+use Rattle.columns.proofs.PairsColumnLaws.{ascii-c-string, pairs-hold}
 use borrow.Author.Needs.{needs}
 use Rattle.columns.proofs.text.c_string_column.Statement.{statement}
 use Rattle.columns.proofs.text.c_string_column.Tie as tie
 
-text-end-requires : tie.Need-text-end-requires
-text-end-requires c κs = search needs
-
-column-requires : tie.Need-column-requires
-column-requires c κs = c .text-end .ensures
+pairs-column-requires : tie.Need-pairs-column-requires
+pairs-column-requires c κs = search needs
 
 enum-known-e : tie.Need-enum-known-e
 enum-known-e c = search needs
 
-enum-told : tie.Need-enum-told
-enum-told c = search needs
-
 returns : tie.Need-returns
 returns c =
     let a = c .before .before .before .before .before .args in
-    sym (of-none isCString 32 (a .s .now) (a .at) (sym (c .before .before .column .ensures) ∙ ap placeOption (c .enum-told .given .1)))
+    pairs-hold isCString (a .s .now) (a .at) _ ascii-c-string (sym (ap placeOption (c .before .e .given .1)) ∙ c .before .before .before .pairs-column .ensures)
 
-sub-is-c-string : tie.Need-sub-is-c-string
-sub-is-c-string c =
-    let a = c .before .before .before .before .before .before .args in
-    let k = column-there 32 (a .s .now) (a .at) _ (sym (c .before .before .before .column .ensures) ∙ ap placeOption (c .before .e .given .1)) in
-    omega (arith, k .low, k .high)
+enum-told : tie.Need-enum-told
+enum-told c = search needs
 
-part-is-c-string-start : tie.Need-part-is-c-string-start
-part-is-c-string-start c =
-    let a = c .before .before .before .before .before .before .args in
-    let k = column-there 32 (a .s .now) (a .at) _ (sym (c .before .before .before .column .ensures) ∙ ap placeOption (c .before .e .given .1)) in
-    omega (arith, k .low, k .high)
-
-part-is-c-string-end : tie.Need-part-is-c-string-end
-part-is-c-string-end c =
-    let a = c .before .before .before .before .before .before .args in
-    let k = column-there 32 (a .s .now) (a .at) _ (sym (c .before .before .before .column .ensures) ∙ ap placeOption (c .before .e .given .1)) in
-    omega (arith, k .low, k .high)
-
-is-c-string-requires : tie.Need-is-c-string-requires
-is-c-string-requires c κs = search needs
+any-c-string-requires : tie.Need-any-c-string-requires
+any-c-string-requires c κs = search needs
 
 returns-2 : tie.Need-returns-2
-returns-2 c =
-    let a = c .before .before .before .before .before .before .before .before .before .args in
-    sym (of-there isCString 32 (a .s .now) (a .at) _ (sym (c .before .before .before .before .before .before .column .ensures) ∙ ap placeOption (c .before .before .before .before .e .given .1)) (sym (c .before .is-c-string .ensures) ∙ c .if1 .taken))
-
-returns-3 : tie.Need-returns-3
-returns-3 c =
-    let a = c .before .before .before .before .before .before .before .before .before .args in
-    sym (of-other isCString 32 (a .s .now) (a .at) _ (sym (c .before .before .before .before .before .before .column .ensures) ∙ ap placeOption (c .before .before .before .before .e .given .1)) (sym (c .before .is-c-string .ensures) ∙ c .if1 .left))
+returns-2 c = search needs
 
 pub c-string-column-spec : {M : Type 1} → statement M
 c-string-column-spec =
     tie.close
-    (tie.spec
-    text-end-requires
-    column-requires
-    enum-known-e
-    enum-told
-    returns
-    sub-is-c-string
-    part-is-c-string-start
-    part-is-c-string-end
-    is-c-string-requires
-    returns-2
-    returns-3)
+    (tie.spec pairs-column-requires enum-known-e returns enum-told any-c-string-requires returns-2)

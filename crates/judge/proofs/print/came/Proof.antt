@@ -15,11 +15,11 @@ slice-aggregate-sheet c =
     let n = c .before .within .result in
     sym (length-take n (a .lent .now) ∙ omega (arith, c .before .within .ensures))
 
-slice-aggregate-answer : tie.Need-slice-aggregate-answer
-slice-aggregate-answer c = search needs
+slice-aggregate-sheet-answer : tie.Need-slice-aggregate-sheet-answer
+slice-aggregate-sheet-answer c = search needs
 
-answer-requires : tie.Need-answer-requires
-answer-requires c κs = search needs
+sheet-answer-requires : tie.Need-sheet-answer-requires
+sheet-answer-requires c κs = search needs
 
 same-requires : tie.Need-same-requires
 same-requires c κs = search needs
@@ -42,8 +42,8 @@ came-spec =
     (tie.spec
     within-requires
     slice-aggregate-sheet
-    slice-aggregate-answer
-    answer-requires
+    slice-aggregate-sheet-answer
+    sheet-answer-requires
     same-requires
     slice-aggregate-put
     put-requires

@@ -40,12 +40,6 @@ loop-less c = search needs
 loop-again : tie.Need-loop-again Inv-loop μ-loop
 loop-again c = search needs
 
-element-copy-out-passed-over : tie.Need-element-copy-out-passed-over Inv-loop μ-loop
-element-copy-out-passed-over c = search needs
-
-passed-over-requires : tie.Need-passed-over-requires Inv-loop μ-loop
-passed-over-requires c κs = search needs
-
 returns : tie.Need-returns Inv-loop μ-loop
 returns c = search needs
 
@@ -65,6 +59,4 @@ counts-spec =
     add-c
     loop-less
     loop-again
-    element-copy-out-passed-over
-    passed-over-requires
     returns)

@@ -1,57 +1,64 @@
--- `own::known_own` meets its contract: the columns that stand here have their ends where `text_end` and `number_end` find them. Assumes nothing.
+-- `own::known_own` meets its contract: `~` is all that a bare line says, and any other line has its columns' ends where they are found, `nullable`
+-- being one byte. Assumes nothing.
+use mathlib.Core.Path.{sym, subst}
 use native.Mathlib.Omega.{arith}
-use Rattle.read_field_line.proofs.KnownLaws.{name-known, name-some, flag-known, own-known}
+use borrow.Author.Tests.{eq-eqb, ne-eqb}
+use Rattle.read_field_line.specs.Stages.{OwnAt}
+use Rattle.read_field_line.specs.declared.own.OwnColumns.{OwnColumns}
+use Rattle.read_field_line.proofs.KnownLaws.{first-there, bare-there, flag-within, named-there}
 use borrow.Author.Needs.{needs}
 use Rattle.read_field_line.proofs.own.known_own.Statement.{statement}
 use Rattle.read_field_line.proofs.own.known_own.Tie as tie
 
-text-end-requires : tie.Need-text-end-requires
-text-end-requires c κs = search needs
+shared-slice-read-if1 : tie.Need-shared-slice-read-if1
+shared-slice-read-if1 c = first-there (c .before .before .pre .2)
+
+bare-own-requires : tie.Need-bare-own-requires
+bare-own-requires c κs = omega (arith, c .before .before .before .fits, bare-there (c .before .before .before .pre .2) (eq-eqb _ 126 (c .if1 .taken)) .pairsAt .high)
+
+returns : tie.Need-returns
+returns c =
+    let a = c .before .before .before .before .args in
+    subst (λ (o : OwnColumns). OwnAt (a .s .now) (a .at) o) (sym (c .bare-own .ensures)) (bare-there (c .before .before .before .before .pre .2) (eq-eqb _ 126 (c .before .if1 .taken)))
+
+any-end-requires : tie.Need-any-end-requires
+any-end-requires c κs = search needs
 
 add-start : tie.Need-add-start
-add-start c = omega (arith, name-known (c .before .before .pre .2) (c .text-end .ensures) .high)
+add-start c = omega (arith, c .before .before .before .before .fits, flag-within (c .before .before .before .before .pre .2) (ne-eqb _ 126 (c .before .if1 .left)) (c .any-end .ensures))
 
-number-end-requires : tie.Need-number-end-requires
-number-end-requires c κs = search needs
+add-pairs : tie.Need-add-pairs
+add-pairs c = omega (arith, c .before .before .before .before .fits, flag-within (c .before .before .before .before .pre .2) (ne-eqb _ 126 (c .before .if1 .left)) (c .any-end .ensures))
 
-add-text-end : tie.Need-add-text-end
-add-text-end c = omega (arith, flag-known (c .before .before .before .pre .2) (c .before .text-end .ensures) (c .number-end .ensures) .high)
-
-text-end-requires-2 : tie.Need-text-end-requires-2
-text-end-requires-2 c κs = search needs
+text-end-requires : tie.Need-text-end-requires
+text-end-requires c κs = search needs
 
 between-requires : tie.Need-between-requires
 between-requires c κs = search needs
 
-shared-slice-read-t10 : tie.Need-shared-slice-read-t10
-shared-slice-read-t10 c = omega (arith, name-some (c .before .before .before .before .before .before .pre .2) (c .before .before .before .before .text-end .ensures), name-known (c .before .before .before .before .before .before .pre .2) (c .before .before .before .before .text-end .ensures) .high)
-
-shared-slice-read-t13 : tie.Need-shared-slice-read-t13
-shared-slice-read-t13 c = omega (arith, flag-known (c .before .before .before .before .before .before .before .pre .2) (c .before .before .before .before .before .text-end .ensures) (c .before .before .before .before .number-end .ensures) .low, flag-known (c .before .before .before .before .before .before .before .pre .2) (c .before .before .before .before .before .text-end .ensures) (c .before .before .before .before .number-end .ensures) .high)
-
-add-between : tie.Need-add-between
-add-between c = search needs
+shared-slice-read-t8 : tie.Need-shared-slice-read-t8
+shared-slice-read-t8 c = omega (arith, flag-within (c .before .before .before .before .before .before .before .pre .2) (ne-eqb _ 126 (c .before .before .before .before .if1 .left)) (c .before .before .before .any-end .ensures))
 
 between-requires-2 : tie.Need-between-requires-2
 between-requires-2 c κs = search needs
 
-returns : tie.Need-returns
-returns c =
-    rw (c .before .before .before .between .ensures, c .between2 .ensures)
-    (own-known (c .before .before .before .before .before .before .before .before .pre .2) (c .before .before .before .before .before .before .text-end .ensures) (c .before .before .before .before .before .number-end .ensures) (c .before .before .before .before .text-end2 .ensures))
+returns-2 : tie.Need-returns-2
+returns-2 c =
+    rw (c .before .before .between .ensures, c .between2 .ensures)
+    (named-there (c .before .before .before .before .before .before .before .before .pre .2) (ne-eqb _ 126 (c .before .before .before .before .before .if1 .left)) (c .before .before .before .before .any-end .ensures) (c .before .before .before .text-end .ensures))
 
 pub known-own-spec : {M : Type 1} → statement M
 known-own-spec =
     tie.close
     (tie.spec
-    text-end-requires
+    shared-slice-read-if1
+    bare-own-requires
+    returns
+    any-end-requires
     add-start
-    number-end-requires
-    add-text-end
-    text-end-requires-2
+    add-pairs
+    text-end-requires
     between-requires
-    shared-slice-read-t10
-    shared-slice-read-t13
-    add-between
+    shared-slice-read-t8
     between-requires-2
-    returns)
+    returns-2)

@@ -1,60 +1,43 @@
--- `types::known_type` meets its contract: the columns that stand here have their ends where `text_end` and `number_end` find them. Assumes nothing.
+-- `types::known_type` meets its contract: the numbers that stand here are read up to their ends, and the texts end where `text_end` finds it. Assumes
+-- nothing.
 use native.Mathlib.Omega.{arith}
 use Rattle.read_field_line.proofs.KnownLaws.{kind-known, p-known, q-known, text-known, kind-number, p-number, q-number, type-known}
 use borrow.Author.Needs.{needs}
 use Rattle.read_field_line.proofs.types.known_type.Statement.{statement}
 use Rattle.read_field_line.proofs.types.known_type.Tie as tie
 
-number-end-requires : tie.Need-number-end-requires
-number-end-requires c κs = search needs
+number-at-requires : tie.Need-number-at-requires
+number-at-requires c κs = kind-number (c .before .pre .2)
 
-add-number-end : tie.Need-add-number-end
-add-number-end c = omega (arith, kind-known (c .before .before .pre .2) (c .number-end .ensures) .high)
+add-number-at : tie.Need-add-number-at
+add-number-at c = omega (arith, c .before .before .before .fits, kind-known (c .before .before .before .pre .2) (c .before .number-at .ensures .0) .high)
 
-number-end-requires-2 : tie.Need-number-end-requires-2
-number-end-requires-2 c κs = search needs
+number-at-requires-2 : tie.Need-number-at-requires-2
+number-at-requires-2 c κs = p-number (c .before .before .before .pre .2) (c .before .number-at .ensures .0)
 
-add-number-end-2 : tie.Need-add-number-end-2
-add-number-end-2 c = omega (arith, p-known (c .before .before .before .pre .2) (c .before .number-end .ensures) (c .number-end2 .ensures) .high)
+add-number-at-2 : tie.Need-add-number-at-2
+add-number-at-2 c = omega (arith, c .before .before .before .before .before .fits, p-known (c .before .before .before .before .before .pre .2) (c .before .before .before .number-at .ensures .0) (c .before .number-at2 .ensures .0) .high)
 
-number-end-requires-3 : tie.Need-number-end-requires-3
-number-end-requires-3 c κs = search needs
+number-at-requires-3 : tie.Need-number-at-requires-3
+number-at-requires-3 c κs = q-number (c .before .before .before .before .before .pre .2) (c .before .before .before .number-at .ensures .0) (c .before .number-at2 .ensures .0)
 
-add-text-end : tie.Need-add-text-end
-add-text-end c = omega (arith, q-known (c .before .before .before .before .pre .2) (c .before .before .number-end .ensures) (c .before .number-end2 .ensures) (c .number-end3 .ensures) .high)
+add-start : tie.Need-add-start
+add-start c = omega (arith, c .before .before .before .before .before .before .before .fits, q-known (c .before .before .before .before .before .before .before .pre .2) (c .before .before .before .before .before .number-at .ensures .0) (c .before .before .before .number-at2 .ensures .0) (c .before .number-at3 .ensures .0) .high)
 
 text-end-requires : tie.Need-text-end-requires
 text-end-requires c κs = search needs
 
-add-text-end-2 : tie.Need-add-text-end-2
-add-text-end-2 c = omega (arith, text-known (c .before .before .before .before .before .pre .2) (c .before .before .before .number-end .ensures) (c .before .before .number-end2 .ensures) (c .before .number-end3 .ensures) (c .text-end .ensures) .high)
+add-text-end : tie.Need-add-text-end
+add-text-end c = omega (arith, c .before .before .before .before .before .before .before .before .fits, text-known (c .before .before .before .before .before .before .before .before .pre .2) (c .before .before .before .before .before .before .number-at .ensures .0) (c .before .before .before .before .number-at2 .ensures .0) (c .before .before .number-at3 .ensures .0) (c .text-end .ensures) .high)
 
 text-end-requires-2 : tie.Need-text-end-requires-2
 text-end-requires-2 c κs = search needs
 
-number-at-requires : tie.Need-number-at-requires
-number-at-requires c κs = kind-number (c .before .before .before .before .before .before .pre .2) (c .before .before .before .before .number-end .ensures) (c .before .before .before .number-end2 .ensures) (c .before .before .number-end3 .ensures)
-
-add-number-at : tie.Need-add-number-at
-add-number-at c = search needs
-
-number-at-requires-2 : tie.Need-number-at-requires-2
-number-at-requires-2 c κs = p-number (c .before .before .before .before .before .before .before .pre .2) (c .before .before .before .before .before .number-end .ensures) (c .before .before .before .before .number-end2 .ensures) (c .before .before .before .number-end3 .ensures)
-
-add-number-at-2 : tie.Need-add-number-at-2
-add-number-at-2 c = search needs
-
-number-at-requires-3 : tie.Need-number-at-requires-3
-number-at-requires-3 c κs = q-number (c .before .before .before .before .before .before .before .before .pre .2) (c .before .before .before .before .before .before .number-end .ensures) (c .before .before .before .before .before .number-end2 .ensures) (c .before .before .before .before .number-end3 .ensures)
-
-add-between : tie.Need-add-between
-add-between c = search needs
-
 between-requires : tie.Need-between-requires
 between-requires c κs = search needs
 
-add-between-2 : tie.Need-add-between-2
-add-between-2 c = search needs
+add-between : tie.Need-add-between
+add-between c = search needs
 
 between-requires-2 : tie.Need-between-requires-2
 between-requires-2 c κs = search needs
@@ -62,28 +45,22 @@ between-requires-2 c κs = search needs
 returns : tie.Need-returns
 returns c =
     rw (c .before .between .ensures, c .between2 .ensures)
-    (type-known (c .before .before .before .before .before .before .before .before .before .before .before .pre .2) (c .before .before .before .before .before .before .before .before .before .number-end .ensures) (c .before .before .before .before .before .before .before .before .number-end2 .ensures) (c .before .before .before .before .before .before .before .number-end3 .ensures) (c .before .before .before .before .before .before .text-end .ensures) (c .before .before .before .before .before .text-end2 .ensures) (c .before .before .before .before .number-at .ensures) (c .before .before .before .number-at2 .ensures) (c .before .before .number-at3 .ensures))
+    (type-known (c .before .before .before .before .before .before .before .before .before .before .before .pre .2) (c .before .before .before .before .before .before .before .before .before .number-at .ensures .0) (c .before .before .before .before .before .before .before .number-at2 .ensures .0) (c .before .before .before .before .before .number-at3 .ensures .0) (c .before .before .before .text-end .ensures) (c .before .before .text-end2 .ensures) (c .before .before .before .before .before .before .before .before .before .number-at .ensures .1) (c .before .before .before .before .before .before .before .number-at2 .ensures .1) (c .before .before .before .before .before .number-at3 .ensures .1))
 
 pub known-type-spec : {M : Type 1} → statement M
 known-type-spec =
     tie.close
     (tie.spec
-    number-end-requires
-    add-number-end
-    number-end-requires-2
-    add-number-end-2
-    number-end-requires-3
-    add-text-end
-    text-end-requires
-    add-text-end-2
-    text-end-requires-2
     number-at-requires
     add-number-at
     number-at-requires-2
     add-number-at-2
     number-at-requires-3
-    add-between
+    add-start
+    text-end-requires
+    add-text-end
+    text-end-requires-2
     between-requires
-    add-between-2
+    add-between
     between-requires-2
     returns)

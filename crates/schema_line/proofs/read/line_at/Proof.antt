@@ -1,4 +1,4 @@
--- `read::line_at` meets its contract: the line that stands here has its columns' ends where `text_end` and `number_end` find them. Assumes nothing.
+-- `read::line_at` meets its contract: the line that stands here has its columns' ends where they are found. Assumes nothing.
 use Prim.Native.Nat.{_^_, _<_}
 use lib.ListN.{length}
 use native.Mathlib.Omega.{arith}
@@ -21,48 +21,52 @@ short c = omega arith
 the-line : (c : tie.Start) → (x : Line) × (rest : Bytes) × Stands (c .args .s .now) (c .args .at) x rest × Meets (lineRule x)
 the-line c = tree-stands (c .args .s .now) (c .args .at) (short c) (c .pre)
 
-text-end-requires : tie.Need-text-end-requires
-text-end-requires c κs = search needs
+any-end-requires : tie.Need-any-end-requires
+any-end-requires c κs = search needs
 
-add-text-end : tie.Need-add-text-end
-add-text-end c =
+add-any-end : tie.Need-add-any-end
+add-any-end c =
     let w = the-line (c .before .before) in
-    omega (arith, format-within (w .2) (w .3) (c .text-end .ensures))
+    omega (arith, format-within (w .2) (w .3) (c .any-end .ensures))
 
-text-end-requires-2 : tie.Need-text-end-requires-2
-text-end-requires-2 c κs = search needs
+any-end-requires-2 : tie.Need-any-end-requires-2
+any-end-requires-2 c κs = search needs
 
 add-number-end : tie.Need-add-number-end
 add-number-end c =
     let w = the-line (c .before .before .before) in
-    omega (arith, name-within (w .2) (w .3) (c .before .text-end .ensures) (c .text-end2 .ensures))
+    omega (arith, name-within (w .2) (w .3) (c .before .any-end .ensures) (c .any-end2 .ensures))
 
 number-end-requires : tie.Need-number-end-requires
 number-end-requires c κs = search needs
 
-add-text-end-2 : tie.Need-add-text-end-2
-add-text-end-2 c =
+add-text-end : tie.Need-add-text-end
+add-text-end c =
     let w = the-line (c .before .before .before .before) in
-    omega (arith, flags-within (w .2) (w .3) (c .before .before .text-end .ensures) (c .before .text-end2 .ensures) (c .number-end .ensures))
+    omega (arith, flags-within (w .2) (w .3) (c .before .before .any-end .ensures) (c .before .any-end2 .ensures) (c .number-end .ensures))
 
-text-end-requires-3 : tie.Need-text-end-requires-3
-text-end-requires-3 c κs = search needs
+text-end-requires : tie.Need-text-end-requires
+text-end-requires c κs = search needs
 
-add-number-end-2 : tie.Need-add-number-end-2
-add-number-end-2 c =
+add-number-at : tie.Need-add-number-at
+add-number-at c =
     let w = the-line (c .before .before .before .before .before) in
-    omega (arith, metadata-within (w .2) (w .3) (c .before .before .before .text-end .ensures) (c .before .before .text-end2 .ensures) (c .before .number-end .ensures) (c .text-end3 .ensures))
+    omega (arith, metadata-within (w .2) (w .3) (c .before .before .before .any-end .ensures) (c .before .before .any-end2 .ensures) (c .before .number-end .ensures) (c .text-end .ensures))
 
-number-end-requires-2 : tie.Need-number-end-requires-2
-number-end-requires-2 c κs = search needs
+number-at-requires : tie.Need-number-at-requires
+number-at-requires c κs =
+    let w = the-line (c .before .before .before .before .before) in
+    children-number (w .2) (w .3) (c .before .before .before .any-end .ensures) (c .before .before .any-end2 .ensures) (c .before .number-end .ensures) (c .text-end .ensures)
 
-add-number-end-3 : tie.Need-add-number-end-3
-add-number-end-3 c =
-    let w = the-line (c .before .before .before .before .before .before) in
-    omega (arith, children-within (w .2) (w .3) (c .before .before .before .before .text-end .ensures) (c .before .before .before .text-end2 .ensures) (c .before .before .number-end .ensures) (c .before .text-end3 .ensures) (c .number-end2 .ensures))
+add-number-at-2 : tie.Need-add-number-at-2
+add-number-at-2 c =
+    let w = the-line (c .before .before .before .before .before .before .before) in
+    omega (arith, children-within (w .2) (w .3) (c .before .before .before .before .before .any-end .ensures) (c .before .before .before .before .any-end2 .ensures) (c .before .before .before .number-end .ensures) (c .before .before .text-end .ensures) (c .before .number-at .ensures .0))
 
-number-end-requires-3 : tie.Need-number-end-requires-3
-number-end-requires-3 c κs = search needs
+number-at-requires-2 : tie.Need-number-at-requires-2
+number-at-requires-2 c κs =
+    let w = the-line (c .before .before .before .before .before .before .before) in
+    dictionary-number (w .2) (w .3) (c .before .before .before .before .before .any-end .ensures) (c .before .before .before .before .any-end2 .ensures) (c .before .before .before .number-end .ensures) (c .before .before .text-end .ensures) (c .before .number-at .ensures .0)
 
 between-requires : tie.Need-between-requires
 between-requires c κs = search needs
@@ -78,8 +82,8 @@ add-signed-at c = search needs
 
 signed-at-requires : tie.Need-signed-at-requires
 signed-at-requires c κs =
-    let w = the-line (c .before .before .before .before .before .before .before .before .before) in
-    flags-signed (w .2) (w .3) (c .before .before .before .before .before .before .before .text-end .ensures) (c .before .before .before .before .before .before .text-end2 .ensures) (c .before .before .before .before .before .number-end .ensures)
+    let w = the-line (c .before .before .before .before .before .before .before .before .before .before) in
+    flags-signed (w .2) (w .3) (c .before .before .before .before .before .before .before .before .any-end .ensures) (c .before .before .before .before .before .before .before .any-end2 .ensures) (c .before .before .before .before .before .before .number-end .ensures)
 
 add-between-2 : tie.Need-add-between-2
 add-between-2 c = search needs
@@ -87,49 +91,33 @@ add-between-2 c = search needs
 between-requires-3 : tie.Need-between-requires-3
 between-requires-3 c κs = search needs
 
-add-number-at : tie.Need-add-number-at
-add-number-at c = search needs
-
-number-at-requires : tie.Need-number-at-requires
-number-at-requires c κs =
-    let w = the-line (c .before .before .before .before .before .before .before .before .before .before .before) in
-    children-number (w .2) (w .3) (c .before .before .before .before .before .before .before .before .before .text-end .ensures) (c .before .before .before .before .before .before .before .before .text-end2 .ensures) (c .before .before .before .before .before .before .before .number-end .ensures) (c .before .before .before .before .before .before .text-end3 .ensures) (c .before .before .before .before .before .number-end2 .ensures)
-
-add-number-at-2 : tie.Need-add-number-at-2
-add-number-at-2 c = search needs
-
-number-at-requires-2 : tie.Need-number-at-requires-2
-number-at-requires-2 c κs =
-    let w = the-line (c .before .before .before .before .before .before .before .before .before .before .before .before) in
-    dictionary-number (w .2) (w .3) (c .before .before .before .before .before .before .before .before .before .before .text-end .ensures) (c .before .before .before .before .before .before .before .before .before .text-end2 .ensures) (c .before .before .before .before .before .before .before .before .number-end .ensures) (c .before .before .before .before .before .before .before .text-end3 .ensures) (c .before .before .before .before .before .before .number-end2 .ensures) (c .before .before .before .before .before .number-end3 .ensures)
-
-add-t20 : tie.Need-add-t20
-add-t20 c =
+add-t16 : tie.Need-add-t16
+add-t16 c =
     let w = the-line (c .before .before .before .before .before .before .before .before .before .before .before .before .before) in
-    omega (arith, dictionary-within (w .2) (w .3) (c .before .before .before .before .before .before .before .before .before .before .before .text-end .ensures) (c .before .before .before .before .before .before .before .before .before .before .text-end2 .ensures) (c .before .before .before .before .before .before .before .before .before .number-end .ensures) (c .before .before .before .before .before .before .before .before .text-end3 .ensures) (c .before .before .before .before .before .before .before .number-end2 .ensures) (c .before .before .before .before .before .before .number-end3 .ensures), short (c .before .before .before .before .before .before .before .before .before .before .before .before .before))
+    omega (arith, dictionary-within (w .2) (w .3) (c .before .before .before .before .before .before .before .before .before .before .before .any-end .ensures) (c .before .before .before .before .before .before .before .before .before .before .any-end2 .ensures) (c .before .before .before .before .before .before .before .before .before .number-end .ensures) (c .before .before .before .before .before .before .before .before .text-end .ensures) (c .before .before .before .before .before .before .before .number-at .ensures .0) (c .before .before .before .before .before .number-at2 .ensures .0), short (c .before .before .before .before .before .before .before .before .before .before .before .before .before))
 
 returns : tie.Need-returns
 returns c =
     let w = the-line (c .before .before .before .before .before .before .before .before .before .before .before .before .before) in
-    let f : SFits w64 (c .before .before .before .signed-at .result) = record { sfits = flags-fit (w .2) (w .3) (c .before .before .before .before .before .before .before .before .before .before .before .text-end .ensures) (c .before .before .before .before .before .before .before .before .before .before .text-end2 .ensures) (c .before .before .before .before .before .before .before .before .before .number-end .ensures) (c .before .before .before .signed-at .ensures) } in
-    rw (toZ-ofZ f, c .before .before .before .before .before .between .ensures, c .before .before .before .before .between2 .ensures, c .before .before .between3 .ensures)
-    (line-known (w .2) (w .3) (c .before .before .before .before .before .before .before .before .before .before .before .text-end .ensures) (c .before .before .before .before .before .before .before .before .before .before .text-end2 .ensures) (c .before .before .before .before .before .before .before .before .before .number-end .ensures) (c .before .before .before .before .before .before .before .before .text-end3 .ensures) (c .before .before .before .before .before .before .before .number-end2 .ensures) (c .before .before .before .before .before .before .number-end3 .ensures) (c .before .before .before .signed-at .ensures) (c .before .number-at .ensures) (c .number-at2 .ensures))
+    let f : SFits w64 (c .before .before .signed-at .result) = record { sfits = flags-fit (w .2) (w .3) (c .before .before .before .before .before .before .before .before .before .before .before .any-end .ensures) (c .before .before .before .before .before .before .before .before .before .before .any-end2 .ensures) (c .before .before .before .before .before .before .before .before .before .number-end .ensures) (c .before .before .signed-at .ensures) } in
+    rw (toZ-ofZ f, c .before .before .before .before .between .ensures, c .before .before .before .between2 .ensures, c .before .between3 .ensures)
+    (line-known (w .2) (w .3) (c .before .before .before .before .before .before .before .before .before .before .before .any-end .ensures) (c .before .before .before .before .before .before .before .before .before .before .any-end2 .ensures) (c .before .before .before .before .before .before .before .before .before .number-end .ensures) (c .before .before .before .before .before .before .before .before .text-end .ensures) (c .before .before .before .before .before .before .before .number-at .ensures .0) (c .before .before .before .before .before .number-at2 .ensures .0) (c .before .before .signed-at .ensures) (c .before .before .before .before .before .before .before .number-at .ensures .1) (c .before .before .before .before .before .number-at2 .ensures .1))
 
 pub line-at-spec : {M : Type 1} → statement M
 line-at-spec =
     tie.close
     (tie.spec
-    text-end-requires
-    add-text-end
-    text-end-requires-2
+    any-end-requires
+    add-any-end
+    any-end-requires-2
     add-number-end
     number-end-requires
-    add-text-end-2
-    text-end-requires-3
-    add-number-end-2
-    number-end-requires-2
-    add-number-end-3
-    number-end-requires-3
+    add-text-end
+    text-end-requires
+    add-number-at
+    number-at-requires
+    add-number-at-2
+    number-at-requires-2
     between-requires
     add-between
     between-requires-2
@@ -137,9 +125,5 @@ line-at-spec =
     signed-at-requires
     add-between-2
     between-requires-3
-    add-number-at
-    number-at-requires
-    add-number-at-2
-    number-at-requires-2
-    add-t20
+    add-t16
     returns)

@@ -1,0 +1,4 @@
+pub mod SearchLaws
+pub mod CallLaws
+pub mod PhysicalLaws
+pub mod ConversionLaws

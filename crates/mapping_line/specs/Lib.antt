@@ -1,0 +1,3 @@
+pub mod PutLines
+pub mod Changes
+pub mod Begins

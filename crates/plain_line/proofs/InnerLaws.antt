@@ -1,0 +1,43 @@
+-- An extension's line and that of its inner type begun at once (`both-begun` of walks, at the step of plain form). Assumes nothing.
+use mathlib.Core.Path.{_≡_, refl}
+use mathlib.Core.Bool.{true}
+use mathlib.Core.List.{_++_}
+use Prim.Native.Nat.{ℕ, _+_, _-_, _*_, _≤_, min}
+use lib.Dec.{eqb}
+use lib.ListN.{length, take, drop}
+use borrow.Author.Tests.{eqb-true}
+use Rattle.sheets.specs.Bytes.{Bytes}
+use Rattle.sheets.proofs.Tests.{and-right}
+use Rattle.refusal.specs.Refusals.{refusalOf}
+use Rattle.refusal.specs.declared.Refusal.{Refusal}
+use Rattle.walks.specs.Places.{ownLimit, HasType}
+use Rattle.walks.specs.declared.LineBegun.the-variants.{Below, Refused}
+use Rattle.walks.specs.declared.Pending.{Pending}
+use Rattle.walks.specs.declared.Pending.the-variants.{Nothing}
+use Rattle.walks.specs.declared.Subtree.{Subtree}
+use Rattle.walks.specs.declared.Subtrees.{Subtrees}
+use Rattle.walks.proofs.BothLaws.{inner-there, both-refused, both-short, both-begun}
+use Rattle.plain_line.specs.Begins.{isInner, PlainBegins}
+
+-- what is left, as a type
+abbrev pub innerOf : Subtrees → Subtree
+innerOf w = record { at = w .at; levels = w .levels; inside = w .inside }
+
+module _ (s : Bytes) (tree : Subtree) (out mid : Bytes) (row : Subtrees) (len : ℕ) (inner : isInner row ≡ true) (h : PlainBegins s tree out mid (Below row len Nothing)) where
+  one : row .count ≡ 1
+  one = eqb-true (row .count) 1 (and-right (row .inside) (eqb (row .count) 1) inner)
+
+  pub has-inner : HasType s (tree .at) (tree .levels) (tree .inside) → HasType s (row .at) (row .levels) (row .inside)
+  has-inner (i, t, es, f) = inner-there (h i t es f) one
+
+  module _ (lent part : Bytes) where
+    pub inner-refused : (r : Refusal) → PlainBegins s (innerOf row) lent part (Refused r) → (last : Bytes) → PlainBegins s tree out last (Refused r)
+    inner-refused r k last = λ i t es f. both-refused (h i t es f) one refl lent part (refusalOf r) k
+
+    module _ (next : Subtrees) (more : ℕ) (later : Pending) (k : PlainBegins s (innerOf row) lent part (Below next more later)) where
+      pub inner-short : HasType s (tree .at) (tree .levels) (tree .inside) → len + more ≤ ownLimit * 65535
+      inner-short (i, t, es, f) = both-short (h i t es f) one refl lent part _ k
+
+      pub inner-begun : (w : ℕ) → w ≡ min len (length mid) → lent ≡ take (length mid - w) (drop w mid)
+          → PlainBegins s tree out (take w mid ++ (part ++ drop (length mid - w) (drop w mid))) (Below next (len + more) later)
+      inner-begun w e₁ e₂ = λ i t es f. both-begun (h i t es f) one refl lent part _ k w e₁ e₂

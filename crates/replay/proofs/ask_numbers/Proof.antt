@@ -1,0 +1,64 @@
+-- `ask_numbers` meets its contract: by the call's code. Assumes nothing.
+use mathlib.Core.Path.{_≡_, sym, ap, _∙_}
+use Prim.Native.Nat.{ℕ}
+use borrow.Author.Tests.{ne-eqb}
+use borrow.Author.Needs.{needs}
+use denote.Ref.{now}
+use Rattle.sheets.specs.Bytes.{Bytes}
+use Rattle.recorded_list.specs.Codes.{toPhysicalTypeCall, isNestedCall}
+use Rattle.judge.specs.Judging.{placesNumbers, yesNoNumbers, numbersOutcome}
+use Rattle.replay.proofs.ask_numbers.Statement.{statement}
+use Rattle.replay.proofs.ask_numbers.Tie as tie
+
+-- the numbers go by the code alone
+called : (s : Bytes) {k code : ℕ} → k ≡ code → numbersOutcome k s ≡ numbersOutcome code s
+called s e = ap (λ (k : ℕ). numbersOutcome k s) e
+
+to-physical-type-requires : tie.Need-to-physical-type-requires
+to-physical-type-requires c κs = search needs
+
+places-requires : tie.Need-places-requires
+places-requires c κs = search needs
+
+physical-numbers-requires : tie.Need-physical-numbers-requires
+physical-numbers-requires c κs = search needs
+
+is-nested-requires : tie.Need-is-nested-requires
+is-nested-requires c κs = search needs
+
+yes-no-numbers-requires : tie.Need-yes-no-numbers-requires
+yes-no-numbers-requires c κs = search needs
+
+contains-dictionary-requires : tie.Need-contains-dictionary-requires
+contains-dictionary-requires c κs = search needs
+
+yes-no-numbers-requires-2 : tie.Need-yes-no-numbers-requires-2
+yes-no-numbers-requires-2 c κs = search needs
+
+returns : tie.Need-returns
+returns c =
+    c .physical-numbers .ensures ∙ ap placesNumbers (c .before .places .ensures ∙ c .before .before .to-physical-type .ensures) ∙ called (now (c .before .before .before .before .before .args .s)) (sym (c .before .before .before .match .keys1))
+
+returns-2 : tie.Need-returns-2
+returns-2 c = c .yes-no-numbers .ensures ∙ ap yesNoNumbers (c .before .is-nested .ensures) ∙ called (now (c .before .before .before .before .args .s)) (sym (c .before .before .match .keys2))
+
+returns-3 : tie.Need-returns-3
+returns-3 c =
+    let a = c .before .before .before .before .args in
+    let no = c .before .before .match .rest in
+    c .yes-no-numbers2 .ensures ∙ ap yesNoNumbers (c .before .contains-dictionary .ensures) ∙ sym (rw (ne-eqb (a .code) toPhysicalTypeCall (no .0 .1), ne-eqb (a .code) isNestedCall (no .1)))
+
+pub ask-numbers-spec : {M : Type 1} → statement M
+ask-numbers-spec =
+    tie.close
+    (tie.spec
+    to-physical-type-requires
+    places-requires
+    physical-numbers-requires
+    is-nested-requires
+    yes-no-numbers-requires
+    contains-dictionary-requires
+    yes-no-numbers-requires-2
+    returns
+    returns-2
+    returns-3)

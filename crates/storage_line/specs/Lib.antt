@@ -1,0 +1,2 @@
+pub mod StorageLines
+pub mod Below
