@@ -34,9 +34,6 @@ static void all(const uint8_t *from, const uint8_t *to, uint8_t byte) {
     for (; from < to; from++) require(*from == byte);
 }
 
-/* The index or place that a call with one is asked for. */
-static uint64_t place;
-
 /* One call with a buffer of `room` bytes: the answer, one of the call's numbers (a bit for each), held against the header. */
 static struct juzontefa_answer ask(call *call, uint32_t numbers, const uint8_t *sheet, size_t size, size_t room) {
     uint8_t *out = end[4] - room;
@@ -68,6 +65,9 @@ static void calls(const uint8_t *sheet, size_t size) {
 }
 
 #else
+
+/* The index or place that a call with one is asked for. */
+static uint64_t place;
 
 #define EXPORTS 0x1700f
 #define PLAINS 0x1000f
