@@ -8,19 +8,7 @@
  *
  * A schema sheet goes to import; all other calls read a field sheet, but for the two conversions, which take a place in an enumeration.
  *
- * The answer's number is 0 for success, or says who is turned back:
- *    1  over 65,535 bytes, wrong heading, or no byte 10 after it
- *    2  a line breaks its rules, or lines are missing or left over
- *    3  over 32 levels
- *    4  null format                      5  format, name or metadata text not UTF-8
- *    6  unsupported format               7  bad number in a format
- *    8  decimal not 2 or 3 parts         9  dictionary index format outside c C s S i I l L
- *   10  needed child absent             11  metadata cut short or a negative length
- *   12  no format (Time32 in micro- or nanoseconds, Time64 in seconds or milliseconds, MonthDayMillis, Unknown)
- *   13  union whose ids are `-`, or `~` over no fields
- *   14  byte 00 in a line's name or timezone
- *   15  a mapping is not defined for the type, there is no such child, or no such place to convert
- *   16  the answer is longer than the buffer
+ * The answer's number is 0 for success, or says why there is none and who is turned back (enum juzontefa_refusal).
  * Import gives 1 to 11 and 16; export 1, 2, 3, 12, 13, 14 and 16; plain form and `to_storage` 1, 2, 3 and 16; `underlying_physical_type`,
  * `to_storage_recursive`, `inner_dtype` and `get_child` 1, 2, 3, 15 and 16; `to_physical_type` 1, 2, 3 and 15; `is_nested` and
  * `contains_dictionary` 1, 2 and 3; the two conversions 15 and 16. 1, 2 and 3 are tried over the whole sheet, in that order, before all others; 16
@@ -37,6 +25,40 @@
 #ifdef __cplusplus
 extern "C" {
 #endif
+
+/* Why a call refuses, by the names of the definitions (crates/sheets/specs/Refusal.antt). */
+enum juzontefa_refusal {
+    JUZONTEFA_ANSWERED = 0,
+    /* the sheet's maker */
+    JUZONTEFA_NOT_SHEET = 1, /* over 65,535 bytes, wrong heading, or no byte 10 after it */
+    JUZONTEFA_BAD_LINES = 2, /* a line breaks its rules, or lines are missing or left over */
+    JUZONTEFA_TOO_DEEP = 3,  /* over 32 levels */
+    /* the schema's producer */
+    JUZONTEFA_NULL_FORMAT = 4,
+    JUZONTEFA_NOT_UTF8 = 5, /* format, name or metadata text not UTF-8 */
+    JUZONTEFA_UNSUPPORTED_FORMAT = 6,
+    JUZONTEFA_BAD_NUMBER = 7,   /* bad number in a format */
+    JUZONTEFA_BAD_DECIMAL = 8,  /* decimal not 2 or 3 parts */
+    JUZONTEFA_BAD_INDEX = 9,    /* dictionary index format outside `c C s S i I l L` */
+    JUZONTEFA_NO_CHILD = 10,    /* needed child absent */
+    JUZONTEFA_BAD_METADATA = 11, /* metadata cut short or a negative length */
+    /* the field's owner */
+    JUZONTEFA_NO_FORMAT = 12,    /* Time32 in micro- or nanoseconds, Time64 in seconds or milliseconds, MonthDayMillis, Unknown */
+    JUZONTEFA_NO_UNION_IDS = 13, /* union whose ids are `-`, or `~` over no fields */
+    JUZONTEFA_ZERO_BYTE = 14,    /* byte 00 in a line's name or timezone */
+    JUZONTEFA_UNDEFINED_MAPPING = 15, /* mapping undefined there, no such child, or no such place to convert */
+    /* the caller */
+    JUZONTEFA_NO_ROOM = 16 /* the answer is longer than the buffer */
+};
+
+/* How long a buffer holds every answer to a sheet of `n` bytes: with one so long 16 never comes (proved, crates/rooms). A sheet of over 65,535 bytes
+ * is refused, so that it needs none. */
+#define JUZONTEFA_SHEET(n) ((size_t)(n) < 65536 ? (size_t)(n) : (size_t)65535)
+#define JUZONTEFA_IMPORT_ROOM(n) (JUZONTEFA_SHEET(n) * 19 / 13)
+#define JUZONTEFA_EXPORT_ROOM(n) (JUZONTEFA_SHEET(n) * 178 / 37)
+#define JUZONTEFA_PLAIN_FORM_ROOM(n) (JUZONTEFA_SHEET(n) * 23 / 18)
+#define JUZONTEFA_MAPPING_ROOM(n) JUZONTEFA_SHEET(n) /* of the five mappings that answer a sheet */
+#define JUZONTEFA_CONVERTED 69                       /* of the two conversions */
 
 /* Bytes of stack to reserve for a call: what the greatest call used, a round trip's 60,136 bytes (measured by host/stack, x86-64; not proved), with
  * a margin of a third. Import's greatest was 59,992; of the others none used more than 37,752. */
