@@ -1,7 +1,7 @@
 //! A Rust host: links the static library and calls it on valid, broken, empty and oversized sheets, takes fields out and back, and tries the mappings
 //! on every kind. The status is 0 only if every answer was the expected one.
 
-#[path = "../include/juzontefa.rs"]
+#[path = "rust/src/raw.rs"]
 mod juzontefa;
 mod mappings;
 

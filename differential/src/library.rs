@@ -1,6 +1,6 @@
 //! Our own calls, from the static library that `differential/build --with LIBRARY` links; without it there are none.
 //!
-//! `include/juzontefa.rs` declares the library's functions, and this is the one place that asks them. `differential/build`
+//! `host/rust/src/raw.rs` declares the library's functions, and this is the one place that asks them. `differential/build`
 //! turns a feature on for each that the library has; a call whose feature is off is passed over by all commands.
 
 use std::ptr;

@@ -9,7 +9,7 @@ mod compare;
 mod demand3;
 mod failure;
 mod generator;
-#[path = "../../include/juzontefa.rs"]
+#[path = "../../host/rust/src/raw.rs"]
 mod juzontefa;
 mod library;
 mod model;

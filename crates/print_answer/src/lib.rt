@@ -1,4 +1,6 @@
-// What the programs print of an answer that is a sheet: the sheet, or `refused N`.
+// What the programs print of an answer that is a sheet: the sheet, or `refused N`, and then why on standard error.
+mod sentence;
+
 ghost use mathlib.Core.Path.{_≡_};
 use libc::STDOUT_FILENO;
 use outcome::Answered;
@@ -8,13 +10,14 @@ fn print_sheet(out: &[u8], length: usize) {
     io::write_all(STDOUT_FILENO, &out[..n]);
 }
 
-// A refusal's number and the line's end.
+// A refusal's number and the line's end; and its sentence on standard error.
 pub fn print_refused(number: u8) -> u8
     ensures { λ r. ⌜ r ≡ number ⌝ }
 {
     io::write_all(STDOUT_FILENO, b"refused ");
     io::print_decimal(STDOUT_FILENO, number as u64);
     io::write_all(STDOUT_FILENO, b"\n");
+    sentence::say(number);
     number
 }
 

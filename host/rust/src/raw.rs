@@ -1,7 +1,6 @@
-//! The calls of the library for a host in Rust, as `juzontefa.h` declares them for C; what a host must know of them stands there.
-//!
-//!     #[path = "../include/juzontefa.rs"]
-//!     mod juzontefa;
+//! The calls of the library over raw pointers, as `include/juzontefa.h` declares them for C; what a host must know of them stands
+//! there. The crate's own functions are these over slices. `host/host.rs` and the driver in `differential/` take this file as a
+//! module of theirs.
 
 // A host need not use all of them: one that is not called is not asked of the library.
 #![allow(dead_code)]

@@ -1,0 +1,158 @@
+//! The recorded answers put to every call, and every recorded field sheet taken out and back.
+
+mod list;
+
+use juzontefa::*;
+use list::{records, Record};
+
+/// How many records there are.
+const RECORDS: usize = 3261;
+/// What a lent buffer holds before a call.
+const FILLER: u8 = 0xa5;
+
+/// The refusal's number or 0, the length or first value, the second value.
+type Numbers = [u64; 3];
+
+fn of_sheet(answer: Result<usize, Refusal>) -> Numbers {
+    answer.map_or_else(refused, |length| [0, length as u64, 0])
+}
+
+fn of_yes_no(answer: Result<bool, Refusal>) -> Numbers {
+    answer.map_or_else(refused, |yes| [0, yes as u64, 0])
+}
+
+fn of_places(answer: Result<Places, Refusal>) -> Numbers {
+    answer.map_or_else(refused, |places| [0, places.place, places.inner])
+}
+
+fn refused(refusal: Refusal) -> Numbers {
+    [refusal.number(), 0, 0]
+}
+
+/// What the call of a code answers; `out` is lent to those that write a sheet.
+fn ask(record: &Record, out: &mut [u8]) -> Numbers {
+    let (sheet, argument) = (&record.input[..], record.argument);
+    match record.call {
+        0 => of_sheet(import(sheet, out)),
+        1 => of_sheet(export(sheet, out)),
+        2 => of_sheet(plain_form(sheet, out)),
+        3 => of_places(to_physical_type(sheet)),
+        4 => of_sheet(underlying_physical_type(sheet, out)),
+        5 => of_sheet(to_storage(sheet, out)),
+        6 => of_sheet(to_storage_recursive(sheet, out)),
+        7 => of_sheet(inner_dtype(sheet, out)),
+        8 => of_sheet(get_child(sheet, argument, out)),
+        9 => of_yes_no(is_nested(sheet)),
+        10 => of_yes_no(contains_dictionary(sheet)),
+        11 => of_sheet(from_integer_type(argument, out)),
+        12 => of_sheet(from_primitive_type(argument, out)),
+        code => panic!("no call has the code {code}"),
+    }
+}
+
+/// A buffer that is long enough, whatever the sheet is; none for the calls that write no sheet.
+fn ample(record: &Record) -> Option<usize> {
+    let n = record.input.len();
+    match record.call {
+        0 => Some(import_room(n)),
+        1 => Some(export_room(n)),
+        2 => Some(plain_form_room(n)),
+        4..=8 => Some(mapping_room(n)),
+        11 | 12 => Some(CONVERTED_ROOM),
+        _ => None,
+    }
+}
+
+/// Numbers, every byte of the buffer and the input are as recorded.
+fn is_right(record: &Record) -> bool {
+    let writes = ample(record).is_some();
+    let mut out = vec![FILLER; if writes { record.room } else { 0 }];
+    let input = record.input.clone();
+    let told = ask(record, &mut out);
+    let held = match record.number {
+        0 => out.starts_with(&record.output) && out[record.output.len()..].iter().all(|byte| *byte == FILLER),
+        _ => out.iter().all(|byte| *byte == 0),
+    };
+    told == [record.number, record.first, record.second] && held && record.input == input
+}
+
+#[test]
+fn all_records() {
+    let records = records();
+    let wrong: Vec<usize> = (0..records.len()).filter(|place| !is_right(&records[*place])).collect();
+    assert!(wrong.is_empty(), "these records differ: {wrong:?}");
+    assert_eq!(records.len(), RECORDS);
+    println!("recorded answers: {} judged, {} wrong", records.len(), wrong.len());
+}
+
+/// With the room that the crate says is enough no call is refused for want of it; a record that says 16 gets an answer.
+#[test]
+fn rooms_are_enough() {
+    let (mut tried, mut answered) = (0, 0);
+    for record in records() {
+        let Some(room) = ample(&record) else { continue };
+        let told = ask(&record, &mut vec![FILLER; room]);
+        match record.number {
+            16 => assert_eq!(told[0], 0),
+            number => assert_eq!(told[0], number),
+        }
+        tried += 1;
+        answered += (told[0] == 0) as usize;
+    }
+    println!("rooms: {tried} tried, {answered} answered");
+    assert!(answered > 0);
+}
+
+/// The round trip by the single calls.
+fn steps(sheet: &[u8], buffers: &mut [Vec<u8>; 4]) -> Trip {
+    let [exported, imported, plain, again] = buffers;
+    let first = match export(sheet, exported) {
+        Ok(length) => &exported[..length],
+        Err(refusal) => return Trip::ExportRefused(refusal),
+    };
+    let back = match import(first, imported) {
+        Ok(length) => &imported[..length],
+        Err(refusal) => return Trip::ImportRefused(refusal),
+    };
+    let form = match plain_form(sheet, plain) {
+        Ok(length) => &plain[..length],
+        Err(refusal) => return Trip::PlainRefused(refusal),
+    };
+    let second = match export(form, again) {
+        Ok(length) => &again[..length],
+        Err(refusal) => return Trip::AgainRefused(refusal),
+    };
+    match (back == form, second == first) {
+        (true, true) => Trip::AllSame,
+        (false, _) => Trip::ImportDiffers,
+        (true, false) => Trip::AgainDiffers,
+    }
+}
+
+#[test]
+fn trips_are_their_steps() {
+    let mut sheets: Vec<Vec<u8>> =
+        records().into_iter().filter(|record| (1..=10).contains(&record.call)).map(|record| record.input).collect();
+    sheets.sort();
+    sheets.dedup();
+    let (mut same, mut differ, mut refused) = (0, 0, 0);
+    for sheet in &sheets {
+        let n = sheet.len();
+        let rooms = [export_room(n), import_room(export_room(n)), plain_form_room(n), export_room(n)];
+        let (mut at_once, mut by_steps) = (rooms.map(|room| vec![FILLER; room]), rooms.map(|room| vec![FILLER; room]));
+        let [exported, imported, plain, again] = &mut at_once;
+        let trip = round_trip(sheet, exported, imported, plain, again);
+        assert_eq!(trip, steps(sheet, &mut by_steps));
+        match trip {
+            Trip::AllSame => same += 1,
+            Trip::ImportDiffers | Trip::AgainDiffers => differ += 1,
+            _ => {
+                refused += 1;
+                by_steps = rooms.map(|room| vec![0; room]);
+            }
+        }
+        assert!(at_once == by_steps, "the buffers of a trip are not its steps': {}", sheet.escape_ascii());
+    }
+    println!("round trips: {} tried, {same} the same, {differ} differ, {refused} refused", sheets.len());
+    assert!(same > 0 && differ > 0 && refused > 0);
+}
