@@ -60,8 +60,7 @@ static struct juzontefa_answer ask_all(call *call, uint32_t numbers, const uint8
 #ifndef READS_field
 
 static void calls(const uint8_t *sheet, size_t size) {
-    /* An answer is never twice as long as its sheet. */
-    ask_all(juzontefa_import, 0x10fff, sheet, size, 2 * size + 256);
+    ask_all(juzontefa_import, 0x10fff, sheet, size, JUZONTEFA_IMPORT_ROOM(size));
 }
 
 #else
@@ -103,7 +102,7 @@ static int is_apart(const uint8_t *sheet, size_t size) {
 
 static void trips(const uint8_t *sheet, size_t size, struct juzontefa_answer exported, struct juzontefa_answer plain) {
     size_t x = exported.length, p = plain.length;
-    size_t room[4] = { x + 16, 2 * size + 256, p + 16, x + 16 };
+    size_t room[4] = { x + 16, JUZONTEFA_IMPORT_ROOM(x), p + 16, x + 16 };
     struct juzontefa_trip trip = travel(sheet, size, room);
     if (exported.number != 0) {
         require(trip.answer == JUZONTEFA_EXPORT_REFUSED && trip.number == exported.number);
@@ -188,14 +187,13 @@ static void mappings(const uint8_t *sheet, size_t size, uint64_t form) {
     require(nested.number == form && nested.answer <= (form == 0));
     require(dictionary.number == form && dictionary.answer <= nested.answer);
     place = size % 3 == 0 ? UINT64_MAX - size : size % 32;
-    require((ask_all(integer, CONVERSIONS, sheet, size, 100).number == 0) == (place < 10));
-    require((ask_all(primitive, CONVERSIONS, sheet, size, JUZONTEFA_CONVERTED).number == 0) == (place < 17));
+    require((ask_all(integer, CONVERSIONS, sheet, size, JUZONTEFA_CONVERTED_ROOM).number == 0) == (place < 10));
+    require((ask_all(primitive, CONVERSIONS, sheet, size, JUZONTEFA_CONVERTED_ROOM).number == 0) == (place < 17));
 }
 
 static void calls(const uint8_t *sheet, size_t size) {
-    /* An export is never eight times as long as its sheet, a plain form never twice. */
-    struct juzontefa_answer exported = ask_all(juzontefa_export, EXPORTS, sheet, size, 8 * size + 256);
-    struct juzontefa_answer plain = ask_all(juzontefa_plain_form, PLAINS, sheet, size, 2 * size + 256);
+    struct juzontefa_answer exported = ask_all(juzontefa_export, EXPORTS, sheet, size, JUZONTEFA_EXPORT_ROOM(size));
+    struct juzontefa_answer plain = ask_all(juzontefa_plain_form, PLAINS, sheet, size, JUZONTEFA_PLAIN_FORM_ROOM(size));
     if (exported.number <= 3) require(exported.number == plain.number);
     else require(plain.number == 0);
     trips(sheet, size, exported, plain);

@@ -263,7 +263,7 @@ static void conversions(void)
         int size = place == 5 ? 32 : place < 14 ? 0 : place - 13;
         sprintf(wanted, FIELD "%d %d %d ~ ~ ~ ~ ~ 0\n", kind_of, size, place == 5 ? 32 : 0);
         gives(primitive, "from_primitive_type", 1);
-        count(strlen(wanted) <= JUZONTEFA_CONVERTED, "a conversion longer than the longest", strlen(wanted), 0);
+        count(strlen(wanted) <= JUZONTEFA_CONVERTED_ROOM, "a conversion longer than the longest", strlen(wanted), 0);
     }
     for (; argument < 40; argument++)
         gives(primitive, "from_primitive_type past the last", 0);

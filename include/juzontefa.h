@@ -51,14 +51,15 @@ enum juzontefa_refusal {
     JUZONTEFA_NO_ROOM = 16 /* the answer is longer than the buffer */
 };
 
-/* How long a buffer holds every answer to a sheet of `n` bytes: with one so long 16 never comes (proved, crates/rooms). A sheet of over 65,535 bytes
- * is refused, so that it needs none. */
-#define JUZONTEFA_SHEET(n) ((size_t)(n) < 65536 ? (size_t)(n) : (size_t)65535)
+/* How long a buffer must be to hold every answer to a sheet of `n` bytes: with one so long 16 never comes, and no answer is longer (proved,
+ * crates/rooms). A sheet of over 65,535 bytes is refused, so that it needs no more than one of 65,535. */
+#define JUZONTEFA_LONGEST_SHEET 65535
+#define JUZONTEFA_SHEET(n) ((size_t)(n) < JUZONTEFA_LONGEST_SHEET ? (size_t)(n) : (size_t)JUZONTEFA_LONGEST_SHEET)
 #define JUZONTEFA_IMPORT_ROOM(n) (JUZONTEFA_SHEET(n) * 19 / 13)
 #define JUZONTEFA_EXPORT_ROOM(n) (JUZONTEFA_SHEET(n) * 178 / 37)
 #define JUZONTEFA_PLAIN_FORM_ROOM(n) (JUZONTEFA_SHEET(n) * 23 / 18)
 #define JUZONTEFA_MAPPING_ROOM(n) JUZONTEFA_SHEET(n) /* of the five mappings that answer a sheet */
-#define JUZONTEFA_CONVERTED 69                       /* of the two conversions */
+#define JUZONTEFA_CONVERTED_ROOM 69 /* of the two conversions: heading and line of Decimal256, `36 32 32 ~ ~ ~ ~ ~ 0` */
 
 /* Bytes of stack to reserve for a call: what the greatest call used, a round trip's 60,136 bytes (measured by host/stack, x86-64; not proved), with
  * a margin of a third. Import's greatest was 59,992; of the others none used more than 37,752. */
@@ -70,26 +71,21 @@ struct juzontefa_answer {
     uint64_t length;
 };
 
-/* The field sheet of a schema sheet. An answer can be longer than its sheet: the longest that was found has 95,756 bytes,
- * for a struct of 5,036 leaves. */
+/* The field sheet of a schema sheet. The longest answer that was found has 95,756 bytes, for a struct of 5,036 leaves; the room for the longest sheet is
+ * 95,781. */
 struct juzontefa_answer juzontefa_import(const uint8_t *sheet, size_t sheet_len, uint8_t *out, size_t out_len);
 
-/* The schema sheet of a field sheet. An answer can be over four times as long as its sheet: the longest that was found has 312,783 bytes, for a
- * union without ids of 1,769 extensions. What is longer than 65,535 bytes import refuses with 1. */
+/* The schema sheet of a field sheet. The longest answer that was found has 312,783 bytes, for a union without ids of 1,769 extensions; the room for the
+ * longest sheet is 315,276. What is longer than 65,535 bytes import refuses with 1. */
 struct juzontefa_answer juzontefa_export(const uint8_t *sheet, size_t sheet_len, uint8_t *out, size_t out_len);
 
 /* The plain form of a field sheet, a field sheet again: what import of its export gives, where the field can be exported and has no reserved key
- * and no dictionary index of 128 bits. The longest answer that was found has 82,603 bytes, for a union without ids of 3,636 leaves. */
+ * and no dictionary index of 128 bits. The longest answer that was found has 82,603 bytes, for a union without ids of 3,636 leaves; the room for the
+ * longest sheet is 83,739. */
 struct juzontefa_answer juzontefa_plain_form(const uint8_t *sheet, size_t sheet_len, uint8_t *out, size_t out_len);
 
-/* ── The mappings of a field's type, and the two conversions, by the names of the Rust.
- *
- * An answer of the five that read a field sheet and give one is never longer than the sheet: a line that stays is copied, and one that changes
- * loses text and gains none (its kind becomes that of a leaf, with `p` and `q` 0 and no text; or it takes over the name, `nullable` and pairs of the
- * extension that it stood in, whose line vanishes; or they become `~`). That is not proved; host/fuzz and host/host.c try it. So a buffer of
- * `sheet_len` bytes never gets 16. The longest answer of a conversion has JUZONTEFA_CONVERTED bytes. */
-
-#define JUZONTEFA_CONVERTED 69 /* heading and line of Decimal256, `36 32 32 ~ ~ ~ ~ ~ 0` */
+/* ── The mappings of a field's type, and the two conversions, by the names of the Rust. No answer of the five that read a field sheet and give one is
+ * longer than the sheet. */
 
 /* The field with its type replaced, its name, `nullable` and pairs as they were. Dates, times, timestamps, durations and decimals become the integers
  * that they are kept as, in lists and structs too; a dictionary becomes its index type, whatever its values are; an extension what its inner type

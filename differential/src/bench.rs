@@ -165,7 +165,18 @@ pub fn bench(rust: &Rust, rounds: u64, only: Option<Call>, out: &mut dyn Write) 
     if rows.iter().any(|row| row.whole.request.call == Call::Plain) {
         writeln!(out, "plain: not in the Rust; ns/call, MB/s and growth are of our own export of the sheet")?;
     }
+    let ratios: Vec<String> = CALLS.into_iter().filter_map(|call| greatest_ratio(&rows, call)).collect();
+    if !ratios.is_empty() {
+        writeln!(out, "greatest ratio: {}", ratios.join(", "))?;
+    }
     Ok(())
+}
+
+/// The greatest ratio of our time to what stands beside it, over a call's workloads; nothing where our library is not linked.
+fn greatest_ratio(rows: &[Row], call: Call) -> Option<String> {
+    let of_call = rows.iter().map(|row| &row.whole).filter(|trial| trial.request.call == call);
+    let ratios = of_call.filter_map(|trial| trial.timed.ours.map(|ours| ours / trial.timed.beside));
+    ratios.reduce(f64::max).map(|ratio| format!("{} {ratio:.2}", call.name()))
 }
 
 /// Writes the sheet of each workload that the call reads into the folder, as a file with the workload's place, from 0, and

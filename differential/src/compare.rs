@@ -141,8 +141,9 @@ pub fn compare(rust: &Rust, sheets: u64, seed: u64, scope: Scope, out: &mut dyn 
     comparison.compare_long_answers(&mut generator.random).map_err(Failure::Found)?;
     comparison.compare_conversions().map_err(Failure::Found)?;
     let counts = comparison.counts;
-    writeln!(out, "{sheets} sheets from seed {seed}, {} answers, no difference; numbers by call:", counts.total())?;
+    writeln!(out, "numbers by call:")?;
     write!(out, "{counts}")?;
+    writeln!(out, "{sheets} sheets from seed {seed}, {} answers, no difference", counts.total())?;
     Ok(())
 }
 

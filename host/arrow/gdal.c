@@ -57,10 +57,11 @@ static int is_key(const struct pair *p, const char *key)
 /* The pairs of a block, each key once with its last value; the extension's metadata only beside its name. How many there are. */
 static int pairs_of(const char *block, struct pair *pairs, int room)
 {
-    int32_t left = 0;
+    int32_t left;
     int count = 0, named = 0;
-    if (block)
-        memcpy(&left, block, 4);
+    if (!block)
+        return 0;
+    memcpy(&left, block, 4);
     for (const char *at = block + 4; left > 0; left--) {
         struct pair p;
         at = text_at(at, &p.key, &p.key_length);
@@ -185,7 +186,9 @@ static void out_and_back(const char *layer, const struct ArrowSchema *schema)
 
 static void layers(const char *path)
 {
-    GDALDatasetH data = GDALOpenEx(path, GDAL_OF_VECTOR | GDAL_OF_READONLY, NULL, NULL, NULL);
+    static const char *const options[] = { "AUTODETECT_TYPE=YES", NULL }; /* of a CSV file, whose fields are texts otherwise */
+    int csv = strstr(path, ".csv") != NULL;
+    GDALDatasetH data = GDALOpenEx(path, GDAL_OF_VECTOR | GDAL_OF_READONLY, NULL, csv ? options : NULL, NULL);
     int count = data ? GDALDatasetGetLayerCount(data) : 0;
     if (count == 0)
         fail(path, "no layer");
