@@ -1,0 +1,11 @@
+pub mod RoomLaws
+pub mod Sizes
+pub mod ImportRoomFormat
+pub mod ImportRoomMetadata
+pub mod ImportRoom
+pub mod ExportRoomFormat
+pub mod ExportRoomMetadata
+pub mod ExportRoom
+pub mod PlainRoom
+pub mod MappingRoom
+pub mod RoomExamples
