@@ -73,6 +73,7 @@ module _ (column more : Bytes) (w : Walk) (h : CanPutMore column w more) where
       let n : length value ≤ length more = omega (arith, ap length e, text-shorter more) in
       record {
         walk = record { stands = h .walk .stands; room = omega (arith, h .walk .room, n); few = omega (arith, h .walk .few, n) };
+        someKey = omega arith;
         shortKey = omega arith;
         shortValue = omega (arith, n, h .text .short);
       }
@@ -234,6 +235,7 @@ module _ (pairs name more : Bytes) (at : ℕ) (h : CanPutMetadata pairs name mor
       can-name =
           record {
             walk = record { stands = m .stands; room = omega (arith, m .room, h .low, h .short, h .metadata .short, h .named .short, value-short); few = omega (arith, m .few, h .short, h .metadata .short, h .named .short, value-short) };
+            someKey = omega arith;
             shortKey = omega arith;
             shortValue = omega (arith, value-short, h .named .short);
           }

@@ -7,10 +7,10 @@ use mathlib.Core.Option.{Option, none, some}
 use Prim.Native.Nat.{ℕ, zero, suc, _+_, _-_, _≤_, _<_, min}
 use native.Mathlib.Numerals.{add-one}
 use native.Mathlib.Omega.{arith}
-use lib.Dec.{eqb}
+use lib.Dec.{eqb, ltb}
 use lib.ListN.{length, getD, take, drop, length-append, length-take, length-drop, drop-of-length-le}
 use lib.Seq.{drop-cons, drop-drop, drop-append-seam, take-append-seam}
-use borrow.Author.Tests.{eq-eqb, ne-eqb, not-true}
+use borrow.Author.Tests.{le-ltb, eq-eqb, ne-eqb, not-true}
 use Rattle.sheets.specs.Rule.{is, each, Meets}
 use Rattle.sheets.specs.Utf8.{isUtf8}
 use Rattle.sheets.specs.Bytes.{Bytes, comma, equals, isByte, all, lacks, join}
@@ -26,6 +26,7 @@ use Rattle.hex.specs.Hex.{isDigit, isHex, givenOr}
 use Rattle.hex.proofs.HexLaws.{first-digit, second-digit, hex-after, hex-one}
 use Rattle.columns.specs.Columns.{part}
 use Rattle.put_metadata.specs.Pairs.{reach, pairsIn, pairsOf, PairsColumn, firstPlace, afterCommas, pairsText, Pairs, PairsFrom, PairAt}
+use Rattle.put_metadata.specs.Block.{laterText}
 
 -- ── the first byte that is s
 
@@ -150,6 +151,10 @@ value-reach : (v : Bytes) (ps : List Pair) → Meets (lacks 44 (hex v)) → reac
 value-reach v [] h = ap (reach 44) (append-nil (hex v)) ∙ reach-all 44 (hex v) h
 value-reach v (q ∷ ps) h = reach-over 44 (hex v) (pairText q ++ afterCommas ps) h
 
+-- whether a pair that begins with the byte b has a first digit greater than n; the sign is no digit: the key is empty
+abbrev pub told : ℕ → ℕ → Bool
+told n b = cond (eqb b 61) false (ltb n b)
+
 module _ (column : Bytes) (at : ℕ) (short : length column < 65536) (h : at ≤ length column) (p : Pair) (ps : List Pair) (e : drop at column ≡ pairsText (p ∷ ps)) (k : Meets (pairsRule (p ∷ ps))) where
   from-key : drop at column ≡ hex (p .0) ++ (equals ∷ (hex (p .1) ++ afterCommas ps))
   from-key = e ∙ append-assoc (hex (p .0)) (equals ∷ hex (p .1)) (afterCommas ps)
@@ -165,6 +170,19 @@ module _ (column : Bytes) (at : ℕ) (short : length column < 65536) (h : at ≤
 
   key-length : length column ≡ at + length (hex (p .0)) + suc (length (hex (p .1) ++ afterCommas ps))
   key-length = ended column at (hex (p .0)) (equals ∷ (hex (p .1) ++ afterCommas ps)) h from-key
+
+  -- the byte at the place is the key's first digit, or the sign after an empty key
+  first-told : (n : ℕ) → ltb n (getD (hex (p .0)) 0 0) ≡ told n (getD column at 0)
+  first-told n =
+      go (p .0) (hex-lacks 61 refl (p .0) key-bytes)
+      ∙ ap (told n) (ap (λ (t : Bytes). getD t 0 0) (sym from-key ∙ drop-cons column at 0 (omega (arith, key-length))))
+    where
+      first : Bytes → ℕ
+      first key = getD (hex key ++ (equals ∷ (hex (p .1) ++ afterCommas ps))) 0 0
+
+      go : (key : Bytes) → Meets (lacks 61 (hex key)) → ltb n (getD (hex key) 0 0) ≡ told n (first key)
+      go [] l = le-ltb n 0 (omega arith)
+      go (x ∷ key) l = rw (not-true (eqb (getD (hex (x ∷ key)) 0 0) 61) (l .0))
 
   pub from-value : drop (at + length (hex (p .0)) + 1) column ≡ hex (p .1) ++ afterCommas ps
   from-value = dropped column (at + length (hex (p .0))) (equals ∷ []) (hex (p .1) ++ afterCommas ps) (dropped column at (hex (p .0)) (equals ∷ (hex (p .1) ++ afterCommas ps)) from-key)
@@ -224,6 +242,14 @@ module _ (column : Bytes) (at : ℕ) (short : length column < 65536) (h : at ≤
 module _ (column : Bytes) (at : ℕ) (h : PairsFrom column at) where
   is-one : (l : List Pair) → drop at column ≡ pairsText l → l ≡ [] → ⊥
   is-one l e f = omega (arith, h .1, sym (length-drop at column) ∙ ap length (e ∙ ap pairsText f))
+
+  pub later-told : (key : Bytes) → laterText key (pairsOf (drop at column)) ≡ told (getD key 0 0) (getD column at 0)
+  unfolding laterText
+  later-told key = go (h .0 .text .pairs) (h .0 .text .is) (h .0 .text .rule)
+    where
+      go : (l : List Pair) → drop at column ≡ pairsText l → Meets (pairsRule l) → laterText key (pairsOf (drop at column)) ≡ told (getD key 0 0) (getD column at 0)
+      go [] e k = absurd (is-one [] e refl)
+      go (p ∷ ps) e k = ap (laterText key) (ap pairsOf e ∙ pairs-of (p ∷ ps) k) ∙ first-told column at (h .0 .short) (h .0 .within) p ps e k (getD key 0 0)
 
   module _ (sign : ℕ) (x : sign ≡ at + reach 61 (drop at column)) where
     pub sign-inside : sign + 1 ≤ length column

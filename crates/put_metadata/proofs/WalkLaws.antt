@@ -1,20 +1,22 @@
 -- The walk over a column's pairs: steps one after the other, a pair, the pairs before a key. Assumes nothing.
 use mathlib.Core.Path.{_≡_, refl, sym, ap, ap₂, _∙_}
-use mathlib.Core.Bool.{true, false}
+use mathlib.Core.Bool.{true, false, true≢false}
 use mathlib.Core.List.{List, [], _∷_, _++_, append-assoc, append-nil}
-use Prim.Native.Nat.{ℕ, _+_, _-_, _≤_}
+use Prim.Native.Nat.{ℕ, _+_, _-_, _≤_, _<_}
 use native.Mathlib.Omega.{arith}
-use lib.ListN.{length, drop, length-append, length-take, length-drop}
+use lib.ListN.{length, getD, drop, length-append, length-take, length-drop}
+use borrow.Author.Tests.{lt-ltb, ltb-true}
 use Rattle.sheets.specs.Bytes.{Bytes, same}
 use Rattle.sheets.specs.Text.{hex}
 use Rattle.sheets.specs.Field.{Pair, before}
+use Rattle.sheets.proofs.OrderLaws.{not-back, not-same, same-back}
 use Rattle.buffer.specs.Over.{overAt}
 use Rattle.buffer.proofs.OverLaws.{Written, and-then, overAt-nothing}
 use Rattle.columns.specs.Columns.{part}
 use Rattle.put_metadata.specs.Pairs.{Pairs, pairsOf, PairAt}
 use Rattle.put_metadata.specs.declared.pairs.PairPlace.{PairPlace}
 use Rattle.put_metadata.proofs.PairsLaws.{pairs-end}
-use Rattle.put_metadata.specs.Block.{pairPieces, blockText, beforeText, fromText, afterText}
+use Rattle.put_metadata.specs.Block.{pairPieces, blockText, beforeText, fromText, afterText, laterText}
 use Rattle.put_metadata.specs.Walks.{Moves, leftOf, PutsFound, PutsUntil, IsAfter, CanWalk}
 use Rattle.put_metadata.specs.declared.Walk.{Walk}
 use Rattle.put_metadata.proofs.BlockLaws.{pieces-length, pair-block, block-append, block-none}
@@ -142,6 +144,21 @@ after-none : (key : Bytes) → afterText key [] ≡ []
 unfolding afterText
 after-none key = refl
 
+-- a text whose first byte is greater stands after
+first-later : (a key : Bytes) → getD key 0 0 < getD a 0 0 → before key a ≡ true
+first-later [] key h = absurd (omega arith)
+first-later (x ∷ a) [] h = refl
+first-later (x ∷ a) (y ∷ key) h = rw (lt-ltb y x h)
+
+-- a first pair that comes later is not before the key and does not have it
+later-pairs : (key : Bytes) (ps : List Pair) → laterText key ps ≡ true → (beforeText key ps ≡ []) × (fromText key ps ≡ ps) × (afterText key ps ≡ ps)
+unfolding laterText
+later-pairs key [] e = absurd (true≢false (sym e))
+later-pairs key (p ∷ ps) e =
+    let k = hex (p .0) in
+    let b : before key k ≡ true = first-later k key (ltb-true (getD key 0 0) (getD k 0 0) e) in
+    (before-stop key p ps (not-back key k b), from-stop key p ps (not-back key k b), after-no key p ps (same-back key k (not-same key k b)))
+
 -- from walk w on, pairs before the key were written
 pub record Until (column key : Bytes) (w : Walk) (old out : Bytes) (r : Walk) : Type 0 where
   pub done : List Pair
@@ -169,6 +186,11 @@ module _ (column key : Bytes) (w : Walk) (old out : Bytes) (r : Walk) (u : Until
   until-end h =
       let e = pairs-end column (r .place) h in
       finished (ap (beforeText key) e ∙ before-none key) (ap (fromText key) e ∙ from-none key ∙ sym e)
+
+  pub until-later : laterText key (leftOf column r) ≡ true → PutsUntil column key w r old out
+  until-later e =
+      let l = later-pairs key (leftOf column r) e in
+      finished (l .0) (l .1)
 
   module _ (p : PairPlace) (k : PairAt column (r .place) p) where
     pub until-stop : before (part column (r .place) (p .equals)) key ≡ false → PutsUntil column key w r old out
@@ -203,6 +225,9 @@ module _ (column key : Bytes) (place : ℕ) (h : Pairs column place) where
   after-end l =
       let e = pairs-end column place l in
       (omega arith, h, e ∙ sym (after-none key) ∙ ap (afterText key) (sym e))
+
+  pub after-later : laterText key (pairsOf (drop place column)) ≡ true → IsAfter column key place place
+  after-later e = (omega arith, h, sym (later-pairs key (pairsOf (drop place column)) e .2))
 
   module _ (p : PairPlace) (k : PairAt column place p) where
     pub after-same : same (part column place (p .equals)) key ≡ true → IsAfter column key place (p .next)

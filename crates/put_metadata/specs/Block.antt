@@ -1,9 +1,10 @@
 -- The metadata column of a schema line from columns of a field line, and the pieces that it is written in. Assumes nothing.
-use mathlib.Core.Bool.{cond}
+use mathlib.Core.Bool.{Bool, false, cond}
 use mathlib.Core.List.{List, [], _∷_, _++_}
 use mathlib.Core.Option.{Option, none, some}
 use Prim.Native.Nat.{_/_}
-use lib.ListN.{length}
+use lib.Dec.{ltb}
+use lib.ListN.{length, getD}
 use Rattle.sheets.specs.Bytes.{Bytes, same}
 use Rattle.sheets.specs.Text.{hex, writeText}
 use Rattle.sheets.specs.Field.{Pair, before}
@@ -47,6 +48,11 @@ fromText key (p ∷ ps) = cond (before (hex (p .0)) key) (fromText key ps) (p �
 unfoldable pub afterText : Bytes → List Pair → List Pair
 afterText key [] = []
 afterText key (p ∷ ps) = cond (same (hex (p .0)) key) ps (p ∷ ps)
+
+-- whether the first digits tell that the first pair's key stands after the key; 0, where there is no digit, stands before every digit
+unfoldable pub laterText : Bytes → List Pair → Bool
+laterText key [] = false
+laterText key (p ∷ ps) = ltb (getD key 0 0) (getD (hex (p .0)) 0 0)
 
 -- the pairs up to the extension's metadata, and that
 unfoldable pub moreDone : Option Bytes → List Pair → List Pair

@@ -89,6 +89,7 @@ pub record CanWalk (column : Bytes) (w : Walk) (extra : ℕ) : Type 0 where
 
 pub record CanPutReserved (column : Bytes) (w : Walk) (key value : Bytes) : Type 0 where
   pub walk : CanWalk column w (16 + length key + length value)
+  pub someKey : 0 < length key
   pub shortKey : length key < 65536
   pub shortValue : length value < 65536
 

@@ -2,9 +2,12 @@
 // columns of its extension. The pairs stand in the order of their keys, so that the reserved keys are merged in on one walk.
 pub mod pairs;
 
+ghost use mathlib.Core.Path.{_≡_};
+ghost use Prim.Native.Nat.{_<_};
+ghost use lib.ListN.{length, drop};
 ghost use Rattle.buffer.specs.Over.{PutAt};
-ghost use Rattle.put_metadata.specs.Pairs.{Pairs, PairAt};
-ghost use Rattle.put_metadata.specs.Block.{sizedText, pairPieces, metadataColumn};
+ghost use Rattle.put_metadata.specs.Pairs.{Pairs, PairsFrom, pairsOf, PairAt};
+ghost use Rattle.put_metadata.specs.Block.{sizedText, pairPieces, laterText, metadataColumn};
 ghost use Rattle.put_metadata.specs.Walks.{PutsFound, PutsUntil, PutsReserved, PutsMore, IsAfter, PutsLeft, CanPutText, CanPutPair, CanWalk, CanPutReserved, CanPutMore, CanPutLeft, CanPutMetadata};
 use crate::pairs::PairPlace;
 
@@ -50,14 +53,29 @@ fn put_found(out: &mut [u8], w: Walk, pairs: &[u8], p: PairPlace) -> Walk
     }
 }
 
+// Whether the first digit tells that the pair at `place` has a key that stands after `key`. An empty key has no digit: it stands before every other.
+fn comes_later(pairs: &[u8], place: usize, key: &[u8]) -> bool
+    requires { ⌜ PairsFrom (now pairs) place × (0 < length (now key)) ⌝ }
+    ensures { λ r. ⌜ r ≡ laterText (now (key .entry)) (pairsOf (drop place (now (pairs .entry)))) ⌝ }
+{
+    let b = pairs[place];
+    if b == b'=' {
+        return false;
+    }
+    key[0] < b
+}
+
 // The pairs whose keys stand before `key`. Hexadecimal text keeps the order of bytes, so that nothing is decoded.
 fn put_until(out: &mut [u8], w: Walk, pairs: &[u8], key: &[u8]) -> Walk
-    requires { ⌜ CanWalk (now pairs) w 0 ⌝ }
+    requires { ⌜ CanWalk (now pairs) w 0 × (0 < length (now key)) ⌝ }
     ensures { λ r. ⌜ PutsUntil (now (pairs .entry)) (now (key .entry)) w r (now (out .entry)) (now (out .exit)) ⌝ }
 {
     let mut walk = w;
     while walk.place < pairs.len() {
         let place = walk.place;
+        if comes_later(pairs, place, key) {
+            return walk;
+        }
         let p = crate::pairs::pair_at(pairs, place);
         let equals = p.equals;
         if !byte_order::is_before(&pairs[place..equals], key) {
@@ -70,10 +88,13 @@ fn put_until(out: &mut [u8], w: Walk, pairs: &[u8], key: &[u8]) -> Walk
 
 // The place after the pair at `place` if its key is `key`: another value is written for it.
 fn after_same(pairs: &[u8], place: usize, key: &[u8]) -> usize
-    requires { ⌜ Pairs (now pairs) place ⌝ }
+    requires { ⌜ Pairs (now pairs) place × (0 < length (now key)) ⌝ }
     ensures { λ r. ⌜ IsAfter (now (pairs .entry)) (now (key .entry)) place r ⌝ }
 {
     if pairs.len() <= place {
+        return place;
+    }
+    if comes_later(pairs, place, key) {
         return place;
     }
     let p = crate::pairs::pair_at(pairs, place);
