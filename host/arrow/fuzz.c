@@ -1,0 +1,204 @@
+/* A fuzzer's entry for juzontefa_arrow.c: any bytes as a sheet, and as the recipe of a struct. Memory is exact, so that the address sanitizer sees a read or
+ * write past it. `host/fuzz` links it with libFuzzer's main, the sanitizers and the library. */
+#include <stdint.h>
+#include <stdlib.h>
+#include <string.h>
+
+#include "juzontefa_arrow.h"
+
+#define LIMIT JUZONTEFA_LONGEST_SHEET
+
+static void require(int holds)
+{
+    if (!holds)
+        abort();
+}
+
+static void *copy_of(const void *bytes, size_t size)
+{
+    void *copy = malloc(size ? size : 1);
+    if (!copy)
+        exit(EXIT_FAILURE);
+    if (size)
+        memcpy(copy, bytes, size);
+    return copy;
+}
+
+/* ── a sheet: 1, 2 and 3 as import says; else the struct walked back imports to the same bytes */
+
+static void as_sheet(const uint8_t *data, size_t size)
+{
+    static uint8_t back[LIMIT], field[JUZONTEFA_IMPORT_ROOM(LIMIT)], again[JUZONTEFA_IMPORT_ROOM(LIMIT)];
+    uint8_t *sheet = copy_of(data, size);
+    struct ArrowSchema schema;
+    uint64_t number = juzontefa_sheet_to_schema(sheet, size, &schema);
+    struct juzontefa_answer answer = juzontefa_import(sheet, size, field, sizeof field);
+    require(memcmp(sheet, data, size) == 0);
+    free(sheet);
+    if (number != 0) {
+        require(!schema.release);
+        if (number <= 3)
+            require(answer.number == number);
+        else
+            require((number == 4 || number == 11) && answer.number != 1 && answer.number != 2 && answer.number != 3);
+        return;
+    }
+    struct juzontefa_walked walked = juzontefa_schema_to_sheet(&schema, back, sizeof back);
+    require(walked.number == 0 && walked.length <= size);
+    struct juzontefa_answer other = juzontefa_import(back, walked.length, again, sizeof again);
+    require(other.number == answer.number && other.length == answer.length && memcmp(field, again, answer.length) == 0);
+    schema.release(&schema);
+    require(!schema.release);
+}
+
+/* ── a struct by a recipe */
+
+struct recipe {
+    const uint8_t *at, *end;
+    int nodes; /* that may still be made */
+};
+
+static uint8_t next(struct recipe *r)
+{
+    return r->at < r->end ? *r->at++ : 0;
+}
+
+/* A text of up to 15 bytes of the recipe, or null. */
+static char *next_text(struct recipe *r)
+{
+    uint8_t size = next(r);
+    char text[16] = { 0 };
+    if (size == 255)
+        return NULL;
+    for (int i = 0; i < size % 16; i++)
+        text[i] = (char)next(r);
+    return copy_of(text, strlen(text) + 1);
+}
+
+/* A block whose words are the recipe's: exactly the bytes that it announces, up to a negative length or one that no sheet holds. */
+static char *next_block(struct recipe *r)
+{
+    static char block[2 * LIMIT];
+    static const int32_t odd[] = { -1, INT32_MIN, INT32_MAX, 32768, 65536, 4096 };
+    uint8_t kind = next(r);
+    if (kind % 4 == 0)
+        return NULL;
+    int32_t count = kind % 4 == 1 ? odd[next(r) % 5] : next(r) % 4;
+    size_t size = 4;
+    memcpy(block, &count, 4);
+    for (int texts = count > 0 && count < 16 ? 2 * count : 0; texts > 0; texts--) {
+        int32_t length = next(r);
+        if (length >= 250)
+            length = odd[length - 250];
+        memcpy(block + size, &length, 4);
+        size += 4;
+        if (length < 0 || length > 32767)
+            break;
+        memset(block + size, next(r), (size_t)length);
+        size += (size_t)length;
+    }
+    return copy_of(block, size);
+}
+
+/* Releases what a recipe made; the structs that are released already were not to be touched. */
+static void release_made(struct ArrowSchema *s)
+{
+    struct ArrowSchema **children = s->private_data;
+    for (size_t i = 0; children && children[i] != s; i++)
+        if (children[i]->private_data)
+            release_made(children[i]);
+    for (size_t i = 0; children && children[i] != s; i++)
+        free(children[i]);
+    free(children);
+    free((void *)s->format);
+    free((void *)s->name);
+    free((void *)s->metadata);
+    free(s->children);
+    s->release = NULL;
+}
+
+static void make(struct recipe *r, struct ArrowSchema *s, int levels)
+{
+    static const int64_t odd[] = { -1, INT64_MIN, INT64_MAX, LIMIT / 12 + 1 };
+    memset(s, 0, sizeof *s);
+    s->format = next_text(r);
+    s->name = next_text(r);
+    s->metadata = next_block(r);
+    s->flags = (int64_t)((uint64_t)next(r) << 56 | next(r));
+    s->release = release_made;
+    size_t count = next(r) % 8, made = 0;
+    /* what is made is kept here, ended by the struct itself, whatever the struct says */
+    struct ArrowSchema **kept = copy_of(&s, sizeof s);
+    s->private_data = kept;
+    if (levels > 0 && r->nodes > 0 && count > 0) {
+        s->children = malloc(count * sizeof *s->children);
+        for (; made < count; made++) {
+            kept = realloc(kept, (made + 3) * sizeof *kept);
+            if (!kept || !s->children)
+                exit(EXIT_FAILURE);
+            kept[made] = malloc(sizeof **kept);
+            if (!kept[made])
+                exit(EXIT_FAILURE);
+            r->nodes--;
+            make(r, kept[made], r->nodes > 0 ? levels - 1 : 0);
+            kept[made + 1] = s;
+            s->children[made] = kept[made];
+        }
+        s->private_data = kept;
+        s->n_children = (int64_t)made;
+        uint8_t twist = next(r);
+        if (twist == 250)
+            s->children[0] = NULL;
+        if (twist == 251)
+            s->children[made - 1]->release = NULL;
+        if (twist == 252) {
+            free(s->children);
+            s->children = NULL;
+        }
+        if (twist == 253)
+            s->n_children = odd[next(r) % 4];
+        if (twist == 254)
+            s->children[0] = s; /* its own child */
+        if (twist >= 128 && twist < 192 && made > 1) {
+            s->dictionary = s->children[made - 1];
+            s->n_children--;
+        }
+    }
+}
+
+static void as_struct(const uint8_t *data, size_t size)
+{
+    struct recipe r = { data, data + size, 40 };
+    struct ArrowSchema *made = malloc(sizeof *made), back;
+    if (!made)
+        exit(EXIT_FAILURE);
+    make(&r, made, 36);
+    struct juzontefa_walked walked = juzontefa_schema_to_sheet(made, NULL, 0);
+    require(walked.length == 0 && (walked.number == 1 || walked.number == 2 || walked.number == 3 || walked.number == 16));
+    require((walked.number == 16) == (walked.needed != 0) && walked.needed <= LIMIT);
+    if (walked.number == 16) {
+        uint8_t *sheet = malloc(walked.needed), *again = malloc(walked.needed);
+        if (!sheet || !again)
+            exit(EXIT_FAILURE);
+        struct juzontefa_walked whole = juzontefa_schema_to_sheet(made, sheet, walked.needed);
+        require(whole.number == 0 && whole.length == walked.needed && whole.needed == walked.needed);
+        uint64_t number = juzontefa_sheet_to_schema(sheet, whole.length, &back);
+        require(number == 0 || number == 4 || number == 11);
+        if (number == 0) {
+            whole = juzontefa_schema_to_sheet(&back, again, walked.needed);
+            require(whole.number == 0 && whole.length == walked.needed && memcmp(sheet, again, whole.length) == 0);
+            back.release(&back);
+        }
+        free(sheet);
+        free(again);
+    }
+    release_made(made);
+    free(made);
+}
+
+int LLVMFuzzerTestOneInput(const uint8_t *data, size_t size)
+{
+    as_sheet(data, size);
+    as_struct(data, size);
+    return 0;
+}
