@@ -4,7 +4,7 @@ use mathlib.Core.Path.{_≡_, refl, sym, ap, ap₂, subst, _∙_}
 use mathlib.Core.Bool.{Bool, true, false, _&&_, _||_, not, cond, and-true, and-assoc}
 use mathlib.Core.List.{[], _∷_, _++_}
 use mathlib.Core.Option.{none, some}
-use Prim.Native.Nat.{ℕ, zero, suc, _+_, _-_, _≤_, _<_}
+use Prim.Native.Nat.{ℕ, zero, suc, _+_, _-_, _≤_, _<_, min}
 use native.Mathlib.Numerals.{add-one}
 use native.Mathlib.Omega.{arith}
 use lib.Dec.{eqb, ltb}
@@ -79,43 +79,46 @@ past-pass (x ∷ c) h =
     let on : isStop x ≡ false = other-goes-on x (λ e. omega arith) (λ e. omega arith) in
     rw (on, past-pass c (h .1))
 
--- a look at the first n bytes finds the end, or passes them
-cut-near : (n : ℕ) (b : Bytes) → columnLength (take n b) < n → n ≤ length b → columnLength b ≡ columnLength (take n b)
+-- the first n bytes hold the end, or have none
+cut-take : (n : ℕ) (b : Bytes) → columnLength (take n b) ≡ min n (columnLength b)
 unfolding columnLength
-cut-near zero b h l = absurd (omega arith)
-cut-near (suc n) [] h l = absurd (omega arith)
-cut-near (suc n) (x ∷ b) h l = pick (isStop x) h (λ k. cut-near n b k (omega arith))
+cut-take zero b = omega arith
+cut-take (suc n) [] = omega arith
+cut-take (suc n) (x ∷ b) = pick (isStop x) (cut-take n b)
   where
-    pick : (t : Bool) → cond t 0 (suc (columnLength (take n b))) < suc n → (columnLength (take n b) < n → columnLength b ≡ columnLength (take n b))
-        → cond t 0 (suc (columnLength b)) ≡ cond t 0 (suc (columnLength (take n b)))
-    pick true h i = refl
-    pick false h i = ap suc (i (omega arith))
+    pick : (t : Bool) → columnLength (take n b) ≡ min n (columnLength b) → cond t 0 (suc (columnLength (take n b))) ≡ min (suc n) (cond t 0 (suc (columnLength b)))
+    pick true h = omega arith
+    pick false h = omega arith
 
-cut-past : (n : ℕ) (b : Bytes) → n ≤ columnLength (take n b) → n ≤ length b → columnLength b ≡ n + columnLength (drop n b)
+-- from a byte before the end on, the end is the same
+cut-on : (n : ℕ) (b : Bytes) → n ≤ columnLength b → columnLength b ≡ n + columnLength (drop n b)
 unfolding columnLength
-cut-past zero b h l = omega arith
-cut-past (suc n) [] h l = absurd (omega arith)
-cut-past (suc n) (x ∷ b) h l = pick (isStop x) h (λ k. cut-past n b k (omega arith))
+cut-on zero b h = omega arith
+cut-on (suc n) [] h = absurd (omega arith)
+cut-on (suc n) (x ∷ b) h = pick (isStop x) h (cut-on n b)
   where
-    pick : (t : Bool) → suc n ≤ cond t 0 (suc (columnLength (take n b))) → (n ≤ columnLength (take n b) → columnLength b ≡ n + columnLength (drop n b))
+    pick : (t : Bool) → suc n ≤ cond t 0 (suc (columnLength b)) → (n ≤ columnLength b → columnLength b ≡ n + columnLength (drop n b))
         → cond t 0 (suc (columnLength b)) ≡ suc n + columnLength (drop n b)
     pick true h i = absurd (omega arith)
     pick false h i = omega (arith, i (omega arith))
+
+pub stop-on : (s : Bytes) (a i : ℕ) → a ≤ i → i ≤ stopFrom s a → stopFrom s i ≡ stopFrom s a
+stop-on s a i low h =
+    let n : a + (i - a) ≡ i = omega arith in
+    omega (arith, cut-on (i - a) (drop a s) (omega arith), ap columnLength (drop-drop (i - a) a s ∙ ap (λ (m : ℕ). drop m s) n))
 
 module _ (s : Bytes) (a e : ℕ) (below : a ≤ e) (high : e ≤ length s) where
   near-size : length (part s a e) ≡ e - a
   near-size = length-take (e - a) (drop a s) ∙ omega (arith, length-drop a s)
 
   pub near-short : columnLength (part s a e) ≤ e - a
-  near-short = omega (arith, cut-short (part s a e), near-size)
+  near-short = omega (arith, cut-take (e - a) (drop a s))
 
   pub near-end : columnLength (part s a e) < e - a → columnLength (drop a s) ≡ columnLength (part s a e)
-  near-end h = cut-near (e - a) (drop a s) h (omega (arith, length-drop a s))
+  near-end h = omega (arith, cut-take (e - a) (drop a s))
 
   pub near-passed : e - a ≤ columnLength (part s a e) → stopFrom s a ≡ stopFrom s e
-  near-passed h =
-      let n : a + (e - a) ≡ e = omega arith in
-      omega (arith, cut-past (e - a) (drop a s) h (omega (arith, length-drop a s)), ap columnLength (drop-drop (e - a) a s ∙ ap (λ (m : ℕ). drop m s) n))
+  near-passed h = sym (stop-on s a e below (omega (arith, cut-take (e - a) (drop a s))))
 
   pub past-passed : passes (all pastSpace (part s a e)) ≡ true → stopFrom s a ≡ stopFrom s e
   past-passed h = near-passed (omega (arith, past-pass (part s a e) (meets (all pastSpace (part s a e)) h), near-size))

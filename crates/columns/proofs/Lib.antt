@@ -2,6 +2,7 @@ pub mod ColumnLaws
 pub mod OneByteLaws
 pub mod FindLaws
 pub mod TextLaws
+pub mod KnownTextLaws
 pub mod NumberAtLaws
 pub mod NumberFindLaws
 pub mod OneDigitLaws

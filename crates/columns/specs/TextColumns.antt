@@ -1,15 +1,17 @@
 -- What a text's column is. Assumes nothing.
+use mathlib.Core.Path.{_≡_}
 use mathlib.Core.Bool.{Bool, true, false, _&&_, _||_, not}
 use mathlib.Core.List.{[], _∷_}
 use mathlib.Core.Option.{Option}
 use Prim.Native.Nat.{ℕ}
 use lib.Dec.{eqb}
 use Rattle.sheets.specs.Rule.{passes}
-use Rattle.sheets.specs.Bytes.{Bytes}
+use Rattle.sheets.specs.Bytes.{Bytes, space}
 use Rattle.sheets.specs.Answer.{Answer, refused, given}
 use Rattle.sheets.specs.Text.{readText}
 use Rattle.sheets.specs.Schema.{lacksZero}
 use Rattle.hex.specs.Hex.{gives}
+use Rattle.columns.specs.Columns.{part, ColumnAt}
 
 -- a text of one byte: `~`, a null pointer, or `-`, an empty text
 abbrev pub isMark : ℕ → Bool
@@ -36,3 +38,9 @@ lacksZeroIn (given t) = passes (lacksZero t)
 -- a text's column without byte 00, as the format and the name are C strings
 unfoldable pub isCString : Bytes → Bool
 isCString c = lacksZeroIn (readText c)
+
+-- ── texts that are known to stand
+
+-- the column from a on is a text, and a space ends it
+abbrev pub HasText : Bytes → ℕ → Type 0
+HasText s a = (e : ℕ) × ColumnAt s a e space × (isText (part s a e) ≡ true)

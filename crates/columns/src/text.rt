@@ -1,12 +1,13 @@
-// The texts in the columns of a line: found and tested.
+// The texts in the columns of a line: found and tested, or found where they are known to stand.
 ghost use mathlib.Core.Path.{_≡_};
 ghost use mathlib.Core.Bool.{true};
 ghost use lib.ListN.{drop};
 ghost use Rattle.sheets.specs.Rule.{passes};
 ghost use Rattle.sheets.specs.Bytes.{lacks, space};
 ghost use Rattle.hex.specs.Hex.{isHex, bytesOf};
-ghost use Rattle.columns.specs.Columns.{columnOf, oneOf, placeOption};
-ghost use Rattle.columns.specs.TextColumns.{isMark, isText, isZero, zerosApart, isCString};
+ghost use Rattle.columns.specs.Columns.{stopFrom, columnOf, oneOf, placeOption};
+ghost use Rattle.columns.specs.TextColumns.{isMark, isText, isZero, zerosApart, isCString, HasText};
+use crate::BLOCK;
 use crate::Place;
 use crate::ascii_pairs;
 
@@ -142,4 +143,22 @@ pub fn c_string_column(s: &[u8], at: usize) -> Place
         return Place::At(e);
     }
     any_c_string(s, at)
+}
+
+// The end of the text that is known to stand from place at on. It is `~`, `-` or pairs of digits, so that every second byte is looked at; most are short.
+pub fn known_text_end(s: &[u8], at: usize) -> usize
+    requires { ⌜ HasText (now s) at ⌝ }
+    ensures { λ r. ⌜ r ≡ stopFrom (now (s .entry)) at ⌝ }
+{
+    if s[at + 1] == b' ' {
+        return at + 1;
+    }
+    let mut i = at + 2;
+    while i - at < BLOCK {
+        if s[i] == b' ' {
+            return i;
+        }
+        i += 2;
+    }
+    crate::any_end(s, i)
 }

@@ -10,7 +10,7 @@ use lib.Dec.{eqb}
 use lib.ListN.{length, getD}
 use borrow.Author.Tests.{eqb-true, eqb-false}
 use Rattle.sheets.specs.Refusal.{badLines}
-use Rattle.sheets.specs.Rule.{is}
+use Rattle.sheets.specs.Rule.{Rule, is}
 use Rattle.sheets.specs.Bytes.{Bytes, same}
 use Rattle.sheets.specs.Answer.{Answer, refused, given, _>>=_}
 use Rattle.sheets.specs.Number.{decimal, readNumber}
@@ -24,6 +24,7 @@ use Rattle.sheets.proofs.HeadingLaws.{turned}
 use Rattle.sheets.proofs.InverseLaws.{number-read, text-read}
 use Rattle.hex.specs.Hex.{gives, isHex, bytesOf}
 use Rattle.hex.proofs.HexLaws.{unhex-is, unhex-not}
+use Rattle.columns.specs.TextColumns.{isText}
 use Rattle.field_columns.specs.Lists.{keeps}
 use Rattle.field_columns.specs.FieldColumns.{isNothing, isSomeText, isOptionalText, isFlag}
 
@@ -88,6 +89,28 @@ optional-some c h = pick (readText c) refl
     pick (refused r) e = refl
     pick (given none) e = absurd (true≢false (sym (ap (same noText) (sym (text-read c none e)) ∙ same-refl noText) ∙ h))
     pick (given (some b)) e = refl
+
+-- ── they are texts' columns
+
+keeps-gives : {A : Type 0} (rule : A → Rule) (a : Answer A) → keeps rule a ≡ true → gives a ≡ true
+keeps-gives rule (refused r) h = h
+keeps-gives rule (given x) h = refl
+
+then-gives : (a : Answer (Option Bytes)) → gives (a >>= readSome) ≡ true → gives a ≡ true
+then-gives (refused r) h = h
+then-gives (given t) h = refl
+
+module _ (c : Bytes) where
+  pub optional-text : isOptionalText c ≡ true → isText c ≡ true
+  unfolding isOptionalText isText
+  optional-text h = keeps-gives textRule (readText c) h
+
+  pub some-text : isSomeText c ≡ true → isText c ≡ true
+  unfolding isSomeText isText
+  some-text h = then-gives (readText c) (keeps-gives (λ (b : Bytes). is (isUtf8 b)) (readText c >>= readSome) h)
+
+  pub nothing-text : isNothing c ≡ true → isText c ≡ true
+  nothing-text h = optional-text (optional-none c h)
 
 -- ── 0 or 1
 

@@ -1,5 +1,5 @@
--- A line that is known to stand, walked from column to column: each end that `text_end` or `number_end` finds is the column's, so that all that the line says
--- is where it is read. Assumes nothing.
+-- A line that is known to stand, walked from column to column: each end that is looked for is the column's, so that all that the line says is where it
+-- is read. Of the texts it is known that they are texts, but for a union's ids. Assumes nothing.
 use mathlib.Core.Path.{_≡_, refl, sym, _∙_, ap, ap₂, subst}
 use mathlib.Core.Bool.{Bool, true, false, cond, and-false, true≢false}
 use mathlib.Core.List.{[], _∷_}
@@ -17,6 +17,7 @@ use Rattle.sheets.specs.Answer.{given}
 use Rattle.sheets.specs.Codec.{number, raw, done, _▸_}
 use Rattle.sheets.specs.Number.{readNumber}
 use Rattle.sheets.specs.Text.{hexDigit, writeText}
+use Rattle.sheets.specs.Kind
 use Rattle.sheets.specs.Field.{textRule}
 use Rattle.sheets.specs.FieldSheet.{Line, noText, columnsOf, childrenOf}
 use Rattle.sheets.specs.FieldTrees.{fields}
@@ -27,14 +28,15 @@ use Rattle.sheets.proofs.Utf8Laws.{utf8-bytes}
 use Rattle.columns.specs.Columns.{part, stopFrom, ColumnAt}
 use Rattle.columns.specs.Tails.{Tail}
 use Rattle.columns.specs.NumberColumns.{HasNumber}
+use Rattle.columns.specs.TextColumns.{isText, HasText}
 use Rattle.columns.proofs.ColumnLaws.{column-size}
 use Rattle.columns.proofs.TailLaws.{tail-next, tail-last, found, last-found}
 use Rattle.field_columns.specs.FieldColumns.{isNothing, isOptionalText, isContent}
 use Rattle.field_columns.specs.declared.Content.the-variants as C
-use Rattle.field_columns.proofs.ContentLaws.{flag-long}
-use Rattle.field_kinds.specs.FieldKinds.{flagContent, pairsContent, childrenFit, Fits, OwnFits}
+use Rattle.field_columns.proofs.ContentLaws.{optional-text, some-text, nothing-text, flag-long}
+use Rattle.field_kinds.specs.FieldKinds.{textContent, moreContent, flagContent, pairsContent, childrenFit, Fits, OwnFits}
 use Rattle.field_kinds.proofs.ShapeLaws.{text-is}
-use Rattle.read_field_line.specs.Stages.{OwnLine, ownRow, TypeStands, OwnStands, TypeAt, OwnAt, HasTypeColumns, HasOwnColumns, bareOwn}
+use Rattle.read_field_line.specs.Stages.{OwnLine, ownRow, TypeStands, OwnStands, TypeAt, OwnAt, HasTypeText, HasTypeColumns, HasOwnColumns, bareOwn}
 use Rattle.read_field_line.specs.FieldLines.{FieldLineAt}
 use Rattle.read_field_line.specs.declared.types.TypeColumns.{TypeColumns}
 use Rattle.read_field_line.specs.declared.own.OwnColumns.{OwnColumns}
@@ -111,6 +113,35 @@ module _ {s : Bytes} {at : ℕ} {x : Line} {rest : Bytes} (w : TypeStands s at x
 
     pub q-number : {g : ℕ} → g ≡ stopFrom s (f + 1) → HasNumber s (g + 1)
     q-number eg = let q = q-known w ef eg refl in (_, 32, q, refl, x .1 .1 .0, q-reads w (kind-known w ef) (p-known w ef eg) q, small w .qSmall)
+
+-- the texts that stand there
+kind-text : (k : ℕ) (c : Bytes) → eqb k Kind.Union ≡ false → isContent (textContent k) c ≡ true → isText c ≡ true
+kind-text k c e h = pick (eqb k Kind.Timestamp) (eqb k Kind.Extension) (eqb k Kind.Union) e h
+  where
+    pick : (t u v : Bool) → v ≡ false → isContent (cond t C.OptionalText (cond u C.Text (cond v C.Ids C.Nothing))) c ≡ true → isText c ≡ true
+    pick true u v e h = optional-text c h
+    pick false true v e h = some-text c h
+    pick false false true e h = absurd (true≢false e)
+    pick false false false e h = nothing-text c h
+
+kind-more : (k : ℕ) (c : Bytes) → isContent (moreContent k) c ≡ true → isText c ≡ true
+kind-more k c h = pick (eqb k Kind.Extension) h
+  where
+    pick : (t : Bool) → isContent (cond t C.OptionalText C.Nothing) c ≡ true → isText c ≡ true
+    pick true h = optional-text c h
+    pick false h = nothing-text c h
+
+pub other-text : {s : Bytes} {at : ℕ} (k : ℕ) → eqb k Kind.Union ≡ false → HasTypeText s at k → HasText s at
+other-text {s} {at} k e h = (h .0, h .1, kind-text k (part s at (h .0)) e (h .2))
+
+module _ {s : Bytes} {at : ℕ} {x : Line} {rest : Bytes} (w : TypeStands s at x rest) {f g h : ℕ} (ef : f ≡ stopFrom s at) (eg : g ≡ stopFrom s (f + 1)) (eh : h ≡ stopFrom s (g + 1)) where
+  pub text-there : {k p q : ℕ} → readNumber (part s at f) ≡ given k → readNumber (part s (f + 1) g) ≡ given p → readNumber (part s (g + 1) h) ≡ given q → HasTypeText s (h + 1) k
+  text-there {k} {p} {q} rk rp rq =
+      let ek : x .0 ≡ k = kind-is w (kind-known w ef) (p-known w ef eg) (q-known w ef eg eh) rk rp rq in
+      (_, text-known w ef eg eh refl, ap₂ (λ (j : ℕ) (c : Bytes). isContent (textContent j) c) (sym ek) (text-next w ef eg eh refl .0) ∙ stood w .textFit)
+
+  pub more-there : {i : ℕ} → i ≡ stopFrom s (h + 1) → HasText s (i + 1)
+  more-there ei = (_, more-known w ef eg eh ei refl, ap isText (more-is w ef eg eh ei refl) ∙ kind-more (x .0) (x .1 .1 .1 .1 .0) (stood w .moreFit))
 
 -- ── name nullable pairs
 
@@ -240,6 +271,9 @@ module _ {s : Bytes} {at : ℕ} {y : OwnLine} {rest : Bytes} (w : OwnStands s at
 module _ {s : Bytes} {at : ℕ} {y : OwnLine} {rest : Bytes} (w : OwnStands s at y rest) where
   pub first-there : at < length s
   first-there = omega (arith, name-some w refl, name-known w refl .high)
+
+  pub name-there : HasText s at
+  name-there = (_, name-known w refl, optional-text (part s at (stopFrom s at)) (name-fits w refl))
 
   pub bare-there : eqb (getD s at 0) 126 ≡ true → OwnAt s at (bareOwn at)
   bare-there h = bare-known-there w refl refl refl h

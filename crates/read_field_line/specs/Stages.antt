@@ -17,8 +17,8 @@ use Rattle.sheets.specs.FieldSheet.{Shape, Line, columnsOf, readShape, readInfo
 use Rattle.sheets.specs.FieldTrees.{shapeRule, ownRule}
 use Rattle.columns.specs.Columns.{part, partOf, oneOf, ColumnAt}
 use Rattle.columns.specs.Tails.{Tail}
-use Rattle.field_columns.specs.FieldColumns.{isNothing}
-use Rattle.field_kinds.specs.FieldKinds.{pFits, qFits, Fits, OwnFits}
+use Rattle.field_columns.specs.FieldColumns.{isNothing, isContent}
+use Rattle.field_kinds.specs.FieldKinds.{pFits, qFits, textContent, Fits, OwnFits}
 use Rattle.read_field_line.specs.declared.types.Numbers.{Numbers}
 use Rattle.read_field_line.specs.declared.types.NumbersRead.{NumbersRead}
 use Rattle.read_field_line.specs.declared.types.NumbersRead.the-variants as N
@@ -117,6 +117,10 @@ ReadsOwn s at (given o) = OwnAt s at o
 ReadsOwn s at (refused r) = (r ≡ badLines) × ((y : OwnLine) (rest : Bytes) → OwnStands s at y rest → ⊥)
 
 -- ── columns that are known to stand
+
+-- the column `text` of a line of the kind k
+abbrev pub HasTypeText : Bytes → ℕ → ℕ → Type 0
+HasTypeText s a k = (e : ℕ) × ColumnAt s a e space × (isContent (textContent k) (part s a e) ≡ true)
 
 abbrev pub HasTypeColumns : Bytes → ℕ → Type 0
 HasTypeColumns s at = (x : Line) × (rest : Bytes) × TypeStands s at x rest

@@ -9,6 +9,7 @@ ghost use Rattle.field_kinds.specs.FieldKinds.{flagContent, pairsContent};
 ghost use Rattle.read_field_line.specs.Stages.{isNone, bareAt, bareOwn, ownAnswer, ReadsOwn, HasOwnColumns, OwnAt};
 use columns::Part;
 use columns::Place;
+use columns::text;
 use field_columns::Content;
 
 // `end` is the place after `pairs`; `nullable` is false on a bare line.
@@ -123,7 +124,7 @@ pub fn known_own(s: &[u8], at: usize) -> OwnColumns
     if s[at] == b'~' {
         return bare_own(at);
     }
-    let name = columns::any_end(s, at);
+    let name = text::known_text_end(s, at);
     let start = name + 1;
     let pairs = start + 2;
     let end = columns::text_end(s, pairs);

@@ -1,9 +1,13 @@
 // The columns `kind p q text more` of a field line: what it says of its type.
-ghost use Rattle.read_field_line.specs.Stages.{numbersAnswer, ReadsNumbers, typeAnswer, ReadsType, HasTypeColumns, TypeAt};
+ghost use mathlib.Core.Path.{_≡_};
+ghost use Rattle.columns.specs.Columns.{stopFrom};
+ghost use Rattle.read_field_line.specs.Stages.{numbersAnswer, ReadsNumbers, typeAnswer, ReadsType, HasTypeText, HasTypeColumns, TypeAt};
 use columns::Part;
 use columns::Place;
 use columns::number;
 use columns::number::NumberColumn;
+use columns::text;
+use datatypes::kind;
 
 // The columns `kind p q`; `end` is the place after q.
 pub struct Numbers {
@@ -82,6 +86,17 @@ pub fn read_type(s: &[u8], at: usize) -> TypeRead
     })
 }
 
+// The end of the column `text` that is known to stand from place at on. A union's ids are no pairs of digits.
+fn known_text(s: &[u8], at: usize, kind: u64) -> usize
+    requires { ⌜ HasTypeText (now s) at kind ⌝ }
+    ensures { λ r. ⌜ r ≡ stopFrom (now (s .entry)) at ⌝ }
+{
+    if kind == kind::UNION {
+        return columns::text_end(s, at);
+    }
+    text::known_text_end(s, at)
+}
+
 // The same where they are known to stand: no text is tested.
 pub fn known_type(s: &[u8], at: usize) -> TypeColumns
     requires { ⌜ HasTypeColumns (now s) at ⌝ }
@@ -91,8 +106,8 @@ pub fn known_type(s: &[u8], at: usize) -> TypeColumns
     let p = number::number_at(s, kind.end + 1);
     let q = number::number_at(s, p.end + 1);
     let start = q.end + 1;
-    let text = columns::text_end(s, start);
-    let more = columns::text_end(s, text + 1);
+    let text = known_text(s, start, kind.value);
+    let more = text::known_text_end(s, text + 1);
     TypeColumns {
         kind: kind.value,
         p: p.value,
