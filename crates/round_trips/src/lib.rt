@@ -1,7 +1,7 @@
 // Demand 3 as two calls: a field sheet goes out and back over four lent buffers, and what stands in them is compared; and two field sheets are
 // compared by their exports and their plain forms. The first step that is refused is the answer, and then every lent byte is zero.
 ghost use mathlib.Core.Path.{_≡_};
-ghost use lib.ListN.{take};
+ghost use lib.ListN.{length, replicate, take};
 ghost use Rattle.sheets.specs.Bytes.{same};
 ghost use Rattle.sheets.specs.Outcome.{importOutcome, exportOutcome, plainOutcome};
 ghost use Rattle.sheets.specs.Demand3.{written};
@@ -47,6 +47,14 @@ fn same_within(a: &[u8], n: usize, b: &[u8], m: usize) -> bool
     let i = buffer::within(n, a.len());
     let j = buffer::within(m, b.len());
     buffer::same(&a[..i], &b[..j])
+}
+
+// Every byte of both 0.
+fn clear_both(a: &mut [u8], b: &mut [u8])
+    ensures { λ _. ⌜ (now (a .exit) ≡ replicate (length (now (a .entry))) 0) × (now (b .exit) ≡ replicate (length (now (b .entry))) 0) ⌝ }
+{
+    buffer::clear(a);
+    buffer::clear(b);
 }
 
 // The export of the sheet, and the import of what that wrote.
@@ -97,24 +105,20 @@ pub fn round_trip(
 {
     match out_and_back(sheet, first, second) {
         TwoSteps::FirstRefused(number) => {
-            buffer::clear(third);
-            buffer::clear(fourth);
+            clear_both(third, fourth);
             RoundTrip::ExportRefused(number)
         }
         TwoSteps::SecondRefused(number) => {
-            buffer::clear(third);
-            buffer::clear(fourth);
+            clear_both(third, fourth);
             RoundTrip::ImportRefused(number)
         }
         TwoSteps::Written(x, y) => match plain_and_out(sheet, third, fourth) {
             TwoSteps::FirstRefused(number) => {
-                buffer::clear(first);
-                buffer::clear(second);
+                clear_both(first, second);
                 RoundTrip::PlainRefused(number)
             }
             TwoSteps::SecondRefused(number) => {
-                buffer::clear(first);
-                buffer::clear(second);
+                clear_both(first, second);
                 RoundTrip::AgainRefused(number)
             }
             TwoSteps::Written(p, z) => {
@@ -177,24 +181,20 @@ pub fn same_exports(
 {
     match exports(one, other, first, second) {
         TwoSteps::FirstRefused(number) => {
-            buffer::clear(third);
-            buffer::clear(fourth);
+            clear_both(third, fourth);
             SameExports::OneExportRefused(number)
         }
         TwoSteps::SecondRefused(number) => {
-            buffer::clear(third);
-            buffer::clear(fourth);
+            clear_both(third, fourth);
             SameExports::OtherExportRefused(number)
         }
         TwoSteps::Written(x, y) => match plains(one, other, third, fourth) {
             TwoSteps::FirstRefused(number) => {
-                buffer::clear(first);
-                buffer::clear(second);
+                clear_both(first, second);
                 SameExports::OnePlainRefused(number)
             }
             TwoSteps::SecondRefused(number) => {
-                buffer::clear(first);
-                buffer::clear(second);
+                clear_both(first, second);
                 SameExports::OtherPlainRefused(number)
             }
             TwoSteps::Written(p, z) => {

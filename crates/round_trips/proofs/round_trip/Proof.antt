@@ -13,20 +13,14 @@ out-and-back-requires c κs = search needs
 enum-known-number : tie.Need-enum-known-number
 enum-known-number c = search needs
 
-clear-requires : tie.Need-clear-requires
-clear-requires c κs = search needs
-
-clear-requires-2 : tie.Need-clear-requires-2
-clear-requires-2 c κs = search needs
+clear-both-requires : tie.Need-clear-both-requires
+clear-both-requires c κs = search needs
 
 enum-known-number-2 : tie.Need-enum-known-number-2
 enum-known-number-2 c = search needs
 
-clear-requires-3 : tie.Need-clear-requires-3
-clear-requires-3 c κs = search needs
-
-clear-requires-4 : tie.Need-clear-requires-4
-clear-requires-4 c κs = search needs
+clear-both-requires-2 : tie.Need-clear-both-requires-2
+clear-both-requires-2 c κs = search needs
 
 enum-known-x : tie.Need-enum-known-x
 enum-known-x c = search needs
@@ -37,20 +31,14 @@ plain-and-out-requires c κs = search needs
 enum-known-number-3 : tie.Need-enum-known-number-3
 enum-known-number-3 c = search needs
 
-clear-requires-5 : tie.Need-clear-requires-5
-clear-requires-5 c κs = search needs
-
-clear-requires-6 : tie.Need-clear-requires-6
-clear-requires-6 c κs = search needs
+clear-both-requires-3 : tie.Need-clear-both-requires-3
+clear-both-requires-3 c κs = search needs
 
 enum-known-number-4 : tie.Need-enum-known-number-4
 enum-known-number-4 c = search needs
 
-clear-requires-7 : tie.Need-clear-requires-7
-clear-requires-7 c κs = search needs
-
-clear-requires-8 : tie.Need-clear-requires-8
-clear-requires-8 c κs = search needs
+clear-both-requires-4 : tie.Need-clear-both-requires-4
+clear-both-requires-4 c κs = search needs
 
 enum-known-p : tie.Need-enum-known-p
 enum-known-p c = search needs
@@ -113,9 +101,10 @@ same-length-12 c = search needs
 
 returns-3 : tie.Need-returns-3
 returns-3 c =
-    let a = c .before .before .before .before .before .before .before .before .before .before .before .before .before .before .before .before .before .before .before .before .before .before .before .args in
-    let x = c .before .before .before .before .before .before .before .before .before .before .before .before .before .before .before .out-and-back in
-    export-out (now (a .sheet)) (now (a .first)) (now (a .second)) (now (a .third)) (now (a .fourth)) (x .last .1 .0) (x .last .1 .1 .0) (x .result) (x .ensures) _ (c .before .before .before .before .before .before .before .before .before .number .given .1) (c .before .before .before .before .before .before .clear .last .0) (c .before .before .clear2 .last .0) (c .before .before .before .before .before .before .clear .ensures) (c .before .before .clear2 .ensures)
+    let a = c .before .before .before .before .before .before .before .before .before .before .before .before .before .before .before .before .before .before .before .before .before .before .args in
+    let x = c .before .before .before .before .before .before .before .before .before .before .before .before .before .before .out-and-back in
+    let z = c .before .before .before .before .clear-both in
+    export-out (now (a .sheet)) (now (a .first)) (now (a .second)) (now (a .third)) (now (a .fourth)) (x .last .1 .0) (x .last .1 .1 .0) (x .result) (x .ensures) _ (c .before .before .before .before .before .before .before .before .number .given .1) (z .last .0) (z .last .1 .0) (z .ensures .0) (z .ensures .1)
 
 same-length-13 : tie.Need-same-length-13
 same-length-13 c = search needs
@@ -131,9 +120,10 @@ same-length-16 c = search needs
 
 returns-4 : tie.Need-returns-4
 returns-4 c =
-    let a = c .before .before .before .before .before .before .before .before .before .before .before .before .before .before .before .before .before .before .before .before .before .before .before .args in
-    let x = c .before .before .before .before .before .before .before .before .before .before .before .before .before .before .before .out-and-back in
-    import-out (now (a .sheet)) (now (a .first)) (now (a .second)) (now (a .third)) (now (a .fourth)) (x .last .1 .0) (x .last .1 .1 .0) (x .result) (x .ensures) _ (c .before .before .before .before .before .before .before .before .before .number2 .given .1) (c .before .before .before .before .before .before .clear3 .last .0) (c .before .before .clear4 .last .0) (c .before .before .before .before .before .before .clear3 .ensures) (c .before .before .clear4 .ensures)
+    let a = c .before .before .before .before .before .before .before .before .before .before .before .before .before .before .before .before .before .before .before .before .before .before .args in
+    let x = c .before .before .before .before .before .before .before .before .before .before .before .before .before .before .out-and-back in
+    let z = c .before .before .before .before .clear-both2 in
+    import-out (now (a .sheet)) (now (a .first)) (now (a .second)) (now (a .third)) (now (a .fourth)) (x .last .1 .0) (x .last .1 .1 .0) (x .result) (x .ensures) _ (c .before .before .before .before .before .before .before .before .number2 .given .1) (z .last .0) (z .last .1 .0) (z .ensures .0) (z .ensures .1)
 
 same-length-17 : tie.Need-same-length-17
 same-length-17 c = search needs
@@ -149,10 +139,11 @@ same-length-20 c = search needs
 
 returns-5 : tie.Need-returns-5
 returns-5 c =
-    let a = c .before .before .before .before .before .before .before .before .before .before .before .before .before .before .before .before .before .before .before .before .before .before .before .before .before .before .before .before .before .before .before .before .before .args in
-    let x = c .before .before .before .before .before .before .before .before .before .before .before .before .before .before .before .before .before .before .before .before .before .before .before .before .before .out-and-back in
-    let y = c .before .before .before .before .before .before .before .before .before .before .before .before .before .before .before .plain-and-out in
-    plain-out (now (a .sheet)) (now (a .first)) (now (a .second)) (now (a .third)) (now (a .fourth)) (x .last .1 .0) (x .last .1 .1 .0) (x .result) (x .ensures) _ _ (c .before .before .before .before .before .before .before .before .before .before .before .before .before .before .before .before .before .before .before .x .given .1) (y .last .1 .0) (y .last .1 .1 .0) (c .before .before .before .before .before .before .clear5 .last .0) (c .before .before .clear6 .last .0) (c .before .before .before .before .before .before .clear5 .ensures) (c .before .before .clear6 .ensures) (y .result) (y .ensures) _ (c .before .before .before .before .before .before .before .before .before .number3 .given .1)
+    let a = c .before .before .before .before .before .before .before .before .before .before .before .before .before .before .before .before .before .before .before .before .before .before .before .before .before .before .before .before .before .before .before .before .args in
+    let x = c .before .before .before .before .before .before .before .before .before .before .before .before .before .before .before .before .before .before .before .before .before .before .before .before .out-and-back in
+    let y = c .before .before .before .before .before .before .before .before .before .before .before .before .before .before .plain-and-out in
+    let z = c .before .before .before .before .clear-both3 in
+    plain-out (now (a .sheet)) (now (a .first)) (now (a .second)) (now (a .third)) (now (a .fourth)) (x .last .1 .0) (x .last .1 .1 .0) (x .result) (x .ensures) _ _ (c .before .before .before .before .before .before .before .before .before .before .before .before .before .before .before .before .before .before .x .given .1) (y .last .1 .0) (y .last .1 .1 .0) (z .last .0) (z .last .1 .0) (z .ensures .0) (z .ensures .1) (y .result) (y .ensures) _ (c .before .before .before .before .before .before .before .before .number3 .given .1)
 
 same-length-21 : tie.Need-same-length-21
 same-length-21 c = search needs
@@ -168,10 +159,11 @@ same-length-24 c = search needs
 
 returns-6 : tie.Need-returns-6
 returns-6 c =
-    let a = c .before .before .before .before .before .before .before .before .before .before .before .before .before .before .before .before .before .before .before .before .before .before .before .before .before .before .before .before .before .before .before .before .before .args in
-    let x = c .before .before .before .before .before .before .before .before .before .before .before .before .before .before .before .before .before .before .before .before .before .before .before .before .before .out-and-back in
-    let y = c .before .before .before .before .before .before .before .before .before .before .before .before .before .before .before .plain-and-out in
-    again-out (now (a .sheet)) (now (a .first)) (now (a .second)) (now (a .third)) (now (a .fourth)) (x .last .1 .0) (x .last .1 .1 .0) (x .result) (x .ensures) _ _ (c .before .before .before .before .before .before .before .before .before .before .before .before .before .before .before .before .before .before .before .x .given .1) (y .last .1 .0) (y .last .1 .1 .0) (c .before .before .before .before .before .before .clear7 .last .0) (c .before .before .clear8 .last .0) (c .before .before .before .before .before .before .clear7 .ensures) (c .before .before .clear8 .ensures) (y .result) (y .ensures) _ (c .before .before .before .before .before .before .before .before .before .number4 .given .1)
+    let a = c .before .before .before .before .before .before .before .before .before .before .before .before .before .before .before .before .before .before .before .before .before .before .before .before .before .before .before .before .before .before .before .before .args in
+    let x = c .before .before .before .before .before .before .before .before .before .before .before .before .before .before .before .before .before .before .before .before .before .before .before .before .out-and-back in
+    let y = c .before .before .before .before .before .before .before .before .before .before .before .before .before .before .plain-and-out in
+    let z = c .before .before .before .before .clear-both4 in
+    again-out (now (a .sheet)) (now (a .first)) (now (a .second)) (now (a .third)) (now (a .fourth)) (x .last .1 .0) (x .last .1 .1 .0) (x .result) (x .ensures) _ _ (c .before .before .before .before .before .before .before .before .before .before .before .before .before .before .before .before .before .before .x .given .1) (y .last .1 .0) (y .last .1 .1 .0) (z .last .0) (z .last .1 .0) (z .ensures .0) (z .ensures .1) (y .result) (y .ensures) _ (c .before .before .before .before .before .before .before .before .number4 .given .1)
 
 same-length-25 : tie.Need-same-length-25
 same-length-25 c = search needs
@@ -198,19 +190,15 @@ round-trip-spec =
     (tie.spec
     out-and-back-requires
     enum-known-number
-    clear-requires
-    clear-requires-2
+    clear-both-requires
     enum-known-number-2
-    clear-requires-3
-    clear-requires-4
+    clear-both-requires-2
     enum-known-x
     plain-and-out-requires
     enum-known-number-3
-    clear-requires-5
-    clear-requires-6
+    clear-both-requires-3
     enum-known-number-4
-    clear-requires-7
-    clear-requires-8
+    clear-both-requires-4
     enum-known-p
     same-within-requires
     same-length
