@@ -24,6 +24,10 @@ pub record PairsLeft (s : Bytes) (at i : ℕ) : Type 0 where
 pub left-on : {s : Bytes} {at i : ℕ} → PairsLeft s at i → stopFrom s i ≡ stopFrom s at
 left-on {s} {at} {i} p = stop-on s at i (p .low) (omega (arith, p .is))
 
+-- a space before which no column ends is the end
+pub space-ends : (s : Bytes) (at i : ℕ) → at ≤ i → i ≤ stopFrom s at → stopFrom s at < length s → getD s i 0 ≡ 32 → i ≡ stopFrom s at
+space-ends s at i low high within e = omega (arith, length-stop s i (omega (arith, within)) (space-stops (getD s i 0) e), stop-on s at i low high)
+
 module _ {s : Bytes} {at : ℕ} (h : HasText s at) where
   end-is : h .0 ≡ stopFrom s at
   end-is = column-end (h .1) refl
@@ -39,7 +43,7 @@ module _ {s : Bytes} {at : ℕ} (h : HasText s at) where
 
   module _ (i : ℕ) (low : at ≤ i) (high : i ≤ stopFrom s at) where
     pub space-is : getD s i 0 ≡ 32 → i ≡ stopFrom s at
-    space-is e = omega (arith, length-stop s i (omega (arith, end-within)) (space-stops (getD s i 0) e), stop-on s at i low high)
+    space-is e = space-ends s at i low high end-within e
 
     pub other-before : (getD s i 0 ≡ 32 → ⊥) → i < stopFrom s at
     other-before other = pick (ltb i (stopFrom s at)) refl

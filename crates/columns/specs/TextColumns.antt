@@ -3,8 +3,9 @@ use mathlib.Core.Path.{_≡_}
 use mathlib.Core.Bool.{Bool, true, false, _&&_, _||_, not}
 use mathlib.Core.List.{[], _∷_}
 use mathlib.Core.Option.{Option}
-use Prim.Native.Nat.{ℕ}
+use Prim.Native.Nat.{ℕ, _+_}
 use lib.Dec.{eqb}
+use lib.ListN.{getD}
 use Rattle.sheets.specs.Rule.{passes}
 use Rattle.sheets.specs.Bytes.{Bytes, space}
 use Rattle.sheets.specs.Answer.{Answer, refused, given}
@@ -44,3 +45,7 @@ isCString c = lacksZeroIn (readText c)
 -- the column from a on is a text, and a space ends it
 abbrev pub HasText : Bytes → ℕ → Type 0
 HasText s a = (e : ℕ) × ColumnAt s a e space × (isText (part s a e) ≡ true)
+
+-- it is more than one byte, and so pairs of digits
+abbrev pub HasPairs : Bytes → ℕ → Type 0
+HasPairs s a = HasText s a × (getD s (a + 1) 0 ≡ space → ⊥)

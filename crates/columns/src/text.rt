@@ -6,7 +6,7 @@ ghost use Rattle.sheets.specs.Rule.{passes};
 ghost use Rattle.sheets.specs.Bytes.{lacks, space};
 ghost use Rattle.hex.specs.Hex.{isHex, bytesOf};
 ghost use Rattle.columns.specs.Columns.{stopFrom, columnOf, oneOf, placeOption};
-ghost use Rattle.columns.specs.TextColumns.{isMark, isText, isZero, zerosApart, isCString, HasText};
+ghost use Rattle.columns.specs.TextColumns.{isMark, isText, isZero, zerosApart, isCString, HasText, HasPairs};
 use crate::BLOCK;
 use crate::Place;
 use crate::ascii_pairs;
@@ -145,14 +145,11 @@ pub fn c_string_column(s: &[u8], at: usize) -> Place
     any_c_string(s, at)
 }
 
-// The end of the text that is known to stand from place at on. It is `~`, `-` or pairs of digits, so that every second byte is looked at; most are short.
-pub fn known_text_end(s: &[u8], at: usize) -> usize
-    requires { ⌜ HasText (now s) at ⌝ }
+// The same as `known_text_end`, for more than one byte: pairs of digits, of which every second byte is looked at; most are short.
+pub fn known_pairs_end(s: &[u8], at: usize) -> usize
+    requires { ⌜ HasPairs (now s) at ⌝ }
     ensures { λ r. ⌜ r ≡ stopFrom (now (s .entry)) at ⌝ }
 {
-    if s[at + 1] == b' ' {
-        return at + 1;
-    }
     let mut i = at + 2;
     while i - at < BLOCK {
         if s[i] == b' ' {
@@ -161,4 +158,15 @@ pub fn known_text_end(s: &[u8], at: usize) -> usize
         i += 2;
     }
     crate::any_end(s, i)
+}
+
+// The end of the text that is known to stand from place at on: `~`, `-` or pairs of digits.
+pub fn known_text_end(s: &[u8], at: usize) -> usize
+    requires { ⌜ HasText (now s) at ⌝ }
+    ensures { λ r. ⌜ r ≡ stopFrom (now (s .entry)) at ⌝ }
+{
+    if s[at + 1] == b' ' {
+        return at + 1;
+    }
+    known_pairs_end(s, at)
 }

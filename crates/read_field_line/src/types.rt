@@ -86,7 +86,7 @@ pub fn read_type(s: &[u8], at: usize) -> TypeRead
     })
 }
 
-// The end of the column `text` that is known to stand from place at on. A union's ids are no pairs of digits.
+// The end of the column `text` that is known to stand from place at on. A union's ids are no pairs of digits; most other texts are `~`.
 fn known_text(s: &[u8], at: usize, kind: u64) -> usize
     requires { ⌜ HasTypeText (now s) at kind ⌝ }
     ensures { λ r. ⌜ r ≡ stopFrom (now (s .entry)) at ⌝ }
@@ -94,7 +94,10 @@ fn known_text(s: &[u8], at: usize, kind: u64) -> usize
     if kind == kind::UNION {
         return columns::text_end(s, at);
     }
-    text::known_text_end(s, at)
+    if s[at + 1] == b' ' {
+        return at + 1;
+    }
+    text::known_pairs_end(s, at)
 }
 
 // The same where they are known to stand: no text is tested.
