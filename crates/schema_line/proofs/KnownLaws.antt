@@ -1,4 +1,4 @@
--- A line that is known to stand, walked from column to column: each end that `known_text_end` or `number_end` finds is the column's (`Ends`). So what `readLine`
+-- A line that is known to stand, walked from column to column: each end that `text_end` or `number_end` finds is the column's (`Ends`). So what `readLine`
 -- gives is found by looking at one column after the other, and where that fails there is no line (`walk-refused`). For callers: `line-told` and
 -- `line-refused`. Assumes nothing.
 use mathlib.Core.Path.{_≡_, refl, sym, ap, subst, _∙_}
@@ -20,10 +20,8 @@ use Rattle.sheets.specs.TreeWalks.{HasTree}
 use Rattle.sheets.specs.SchemaTrees.{Row, schemas}
 use Rattle.sheets.proofs.Tests.{not-given, same-given}
 use Rattle.sheets.proofs.FormLaws.{row-begins, standing-row}
-use Rattle.hex.specs.Hex.{gives}
 use Rattle.columns.specs.Columns.{part, stopFrom, ColumnAt}
 use Rattle.columns.specs.NumberColumns.{HasNumber, HasSigned}
-use Rattle.columns.specs.TextColumns.{isText, HasText}
 use Rattle.columns.proofs.TailLaws.{Found, found, last-found, tail-last}
 use Rattle.schema_line.specs.declared.SchemaLine.{SchemaLine}
 use Rattle.schema_line.specs.Lines.{lineRule, readLine, shownAt, Stands, LineAt}
@@ -106,20 +104,6 @@ module _ {s : Bytes} {at : ℕ} {x : Line} {rest : Bytes} (b : Stands s at x res
                 let pc : childrenOf x ≡ c = same-given (sym (k .isChildren) ∙ rc) in
                 let pd : dictionaryOf x ≡ d = same-given (sym (k .isDictionary) ∙ rd) in
                 ends-read k rule ∙ (λ i. given (shown at f n g m e (pz i) (pc i) (pd i)))
-
--- the texts that stand there
-module _ {s : Bytes} {at : ℕ} {x : Line} {rest : Bytes} (b : Stands s at x rest) (rule : Meets (lineRule x)) where
-  pub format-text : HasText s at
-  unfolding isText
-  format-text = let k = format-found b rule refl in (_, k .column, ap gives (k .reads))
-
-  pub name-text : {f : ℕ} → f ≡ stopFrom s at → HasText s (f + 1)
-  unfolding isText
-  name-text ef = let k = name-found b rule ef refl in (_, k .column, ap gives (k .reads))
-
-  pub metadata-text : {f n g : ℕ} → f ≡ stopFrom s at → n ≡ stopFrom s (f + 1) → g ≡ stopFrom s (n + 1) → HasText s (g + 1)
-  unfolding isText
-  metadata-text ef en eg = let k = metadata-found b rule ef en eg refl in (_, k .column, ap gives (k .reads))
 
 -- the numbers that stand there
 module _ {s : Bytes} {at : ℕ} {x : Line} {rest : Bytes} (b : Stands s at x rest) (rule : Meets (lineRule x)) {f n g m : ℕ} (ef : f ≡ stopFrom s at) (en : n ≡ stopFrom s (f + 1)) (eg : g ≡ stopFrom s (n + 1)) (em : m ≡ stopFrom s (g + 1)) where

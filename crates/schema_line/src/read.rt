@@ -58,10 +58,10 @@ pub fn line_at(s: &[u8], at: usize) -> SchemaLine
     requires { ⌜ HasTree schemas (now s) at ⌝ }
     ensures { λ r. ⌜ readLine (now (s .entry)) at ≡ given r ⌝ }
 {
-    let format = text::known_text_end(s, at);
-    let name = text::known_text_end(s, format + 1);
+    let format = columns::any_end(s, at);
+    let name = columns::any_end(s, format + 1);
     let flags = columns::number_end(s, name + 1);
-    let metadata = text::known_text_end(s, flags + 1);
+    let metadata = columns::text_end(s, flags + 1);
     let children = number::number_at(s, metadata + 1);
     let dictionary = number::number_at(s, children.end + 1);
     SchemaLine {

@@ -9,7 +9,7 @@ use Rattle.sheets.specs.Bytes.{Bytes}
 use Rattle.sheets.specs.Rule.{Meets}
 use Rattle.sheets.specs.Schema.{Line}
 use Rattle.schema_line.specs.Lines.{lineRule, Stands}
-use Rattle.schema_line.proofs.KnownLaws.{tree-stands, format-text, format-within, name-text, name-within, flags-within, flags-signed, flags-fit, metadata-text, metadata-within, children-within, children-number, dictionary-within, dictionary-number, line-known}
+use Rattle.schema_line.proofs.KnownLaws.{tree-stands, format-within, name-within, flags-within, flags-signed, flags-fit, metadata-within, children-within, children-number, dictionary-within, dictionary-number, line-known}
 use borrow.Author.Needs.{needs}
 use Rattle.schema_line.proofs.read.line_at.Statement.{statement}
 use Rattle.schema_line.proofs.read.line_at.Tie as tie
@@ -21,58 +21,52 @@ short c = omega arith
 the-line : (c : tie.Start) → (x : Line) × (rest : Bytes) × Stands (c .args .s .now) (c .args .at) x rest × Meets (lineRule x)
 the-line c = tree-stands (c .args .s .now) (c .args .at) (short c) (c .pre)
 
-known-text-end-requires : tie.Need-known-text-end-requires
-known-text-end-requires c κs =
-    let w = the-line (c .before) in
-    format-text (w .2) (w .3)
+any-end-requires : tie.Need-any-end-requires
+any-end-requires c κs = search needs
 
-add-known-text-end : tie.Need-add-known-text-end
-add-known-text-end c =
+add-any-end : tie.Need-add-any-end
+add-any-end c =
     let w = the-line (c .before .before) in
-    omega (arith, format-within (w .2) (w .3) (c .known-text-end .ensures))
+    omega (arith, format-within (w .2) (w .3) (c .any-end .ensures))
 
-known-text-end-requires-2 : tie.Need-known-text-end-requires-2
-known-text-end-requires-2 c κs =
-    let w = the-line (c .before .before) in
-    name-text (w .2) (w .3) (c .known-text-end .ensures)
+any-end-requires-2 : tie.Need-any-end-requires-2
+any-end-requires-2 c κs = search needs
 
 add-number-end : tie.Need-add-number-end
 add-number-end c =
     let w = the-line (c .before .before .before) in
-    omega (arith, name-within (w .2) (w .3) (c .before .known-text-end .ensures) (c .known-text-end2 .ensures))
+    omega (arith, name-within (w .2) (w .3) (c .before .any-end .ensures) (c .any-end2 .ensures))
 
 number-end-requires : tie.Need-number-end-requires
 number-end-requires c κs = search needs
 
-add-known-text-end-2 : tie.Need-add-known-text-end-2
-add-known-text-end-2 c =
+add-text-end : tie.Need-add-text-end
+add-text-end c =
     let w = the-line (c .before .before .before .before) in
-    omega (arith, flags-within (w .2) (w .3) (c .before .before .known-text-end .ensures) (c .before .known-text-end2 .ensures) (c .number-end .ensures))
+    omega (arith, flags-within (w .2) (w .3) (c .before .before .any-end .ensures) (c .before .any-end2 .ensures) (c .number-end .ensures))
 
-known-text-end-requires-3 : tie.Need-known-text-end-requires-3
-known-text-end-requires-3 c κs =
-    let w = the-line (c .before .before .before .before) in
-    metadata-text (w .2) (w .3) (c .before .before .known-text-end .ensures) (c .before .known-text-end2 .ensures) (c .number-end .ensures)
+text-end-requires : tie.Need-text-end-requires
+text-end-requires c κs = search needs
 
 add-number-at : tie.Need-add-number-at
 add-number-at c =
     let w = the-line (c .before .before .before .before .before) in
-    omega (arith, metadata-within (w .2) (w .3) (c .before .before .before .known-text-end .ensures) (c .before .before .known-text-end2 .ensures) (c .before .number-end .ensures) (c .known-text-end3 .ensures))
+    omega (arith, metadata-within (w .2) (w .3) (c .before .before .before .any-end .ensures) (c .before .before .any-end2 .ensures) (c .before .number-end .ensures) (c .text-end .ensures))
 
 number-at-requires : tie.Need-number-at-requires
 number-at-requires c κs =
     let w = the-line (c .before .before .before .before .before) in
-    children-number (w .2) (w .3) (c .before .before .before .known-text-end .ensures) (c .before .before .known-text-end2 .ensures) (c .before .number-end .ensures) (c .known-text-end3 .ensures)
+    children-number (w .2) (w .3) (c .before .before .before .any-end .ensures) (c .before .before .any-end2 .ensures) (c .before .number-end .ensures) (c .text-end .ensures)
 
 add-number-at-2 : tie.Need-add-number-at-2
 add-number-at-2 c =
     let w = the-line (c .before .before .before .before .before .before .before) in
-    omega (arith, children-within (w .2) (w .3) (c .before .before .before .before .before .known-text-end .ensures) (c .before .before .before .before .known-text-end2 .ensures) (c .before .before .before .number-end .ensures) (c .before .before .known-text-end3 .ensures) (c .before .number-at .ensures .0))
+    omega (arith, children-within (w .2) (w .3) (c .before .before .before .before .before .any-end .ensures) (c .before .before .before .before .any-end2 .ensures) (c .before .before .before .number-end .ensures) (c .before .before .text-end .ensures) (c .before .number-at .ensures .0))
 
 number-at-requires-2 : tie.Need-number-at-requires-2
 number-at-requires-2 c κs =
     let w = the-line (c .before .before .before .before .before .before .before) in
-    dictionary-number (w .2) (w .3) (c .before .before .before .before .before .known-text-end .ensures) (c .before .before .before .before .known-text-end2 .ensures) (c .before .before .before .number-end .ensures) (c .before .before .known-text-end3 .ensures) (c .before .number-at .ensures .0)
+    dictionary-number (w .2) (w .3) (c .before .before .before .before .before .any-end .ensures) (c .before .before .before .before .any-end2 .ensures) (c .before .before .before .number-end .ensures) (c .before .before .text-end .ensures) (c .before .number-at .ensures .0)
 
 between-requires : tie.Need-between-requires
 between-requires c κs = search needs
@@ -89,7 +83,7 @@ add-signed-at c = search needs
 signed-at-requires : tie.Need-signed-at-requires
 signed-at-requires c κs =
     let w = the-line (c .before .before .before .before .before .before .before .before .before .before) in
-    flags-signed (w .2) (w .3) (c .before .before .before .before .before .before .before .before .known-text-end .ensures) (c .before .before .before .before .before .before .before .known-text-end2 .ensures) (c .before .before .before .before .before .before .number-end .ensures)
+    flags-signed (w .2) (w .3) (c .before .before .before .before .before .before .before .before .any-end .ensures) (c .before .before .before .before .before .before .before .any-end2 .ensures) (c .before .before .before .before .before .before .number-end .ensures)
 
 add-between-2 : tie.Need-add-between-2
 add-between-2 c = search needs
@@ -100,26 +94,26 @@ between-requires-3 c κs = search needs
 add-t16 : tie.Need-add-t16
 add-t16 c =
     let w = the-line (c .before .before .before .before .before .before .before .before .before .before .before .before .before) in
-    omega (arith, dictionary-within (w .2) (w .3) (c .before .before .before .before .before .before .before .before .before .before .before .known-text-end .ensures) (c .before .before .before .before .before .before .before .before .before .before .known-text-end2 .ensures) (c .before .before .before .before .before .before .before .before .before .number-end .ensures) (c .before .before .before .before .before .before .before .before .known-text-end3 .ensures) (c .before .before .before .before .before .before .before .number-at .ensures .0) (c .before .before .before .before .before .number-at2 .ensures .0), short (c .before .before .before .before .before .before .before .before .before .before .before .before .before))
+    omega (arith, dictionary-within (w .2) (w .3) (c .before .before .before .before .before .before .before .before .before .before .before .any-end .ensures) (c .before .before .before .before .before .before .before .before .before .before .any-end2 .ensures) (c .before .before .before .before .before .before .before .before .before .number-end .ensures) (c .before .before .before .before .before .before .before .before .text-end .ensures) (c .before .before .before .before .before .before .before .number-at .ensures .0) (c .before .before .before .before .before .number-at2 .ensures .0), short (c .before .before .before .before .before .before .before .before .before .before .before .before .before))
 
 returns : tie.Need-returns
 returns c =
     let w = the-line (c .before .before .before .before .before .before .before .before .before .before .before .before .before) in
-    let f : SFits w64 (c .before .before .signed-at .result) = record { sfits = flags-fit (w .2) (w .3) (c .before .before .before .before .before .before .before .before .before .before .before .known-text-end .ensures) (c .before .before .before .before .before .before .before .before .before .before .known-text-end2 .ensures) (c .before .before .before .before .before .before .before .before .before .number-end .ensures) (c .before .before .signed-at .ensures) } in
+    let f : SFits w64 (c .before .before .signed-at .result) = record { sfits = flags-fit (w .2) (w .3) (c .before .before .before .before .before .before .before .before .before .before .before .any-end .ensures) (c .before .before .before .before .before .before .before .before .before .before .any-end2 .ensures) (c .before .before .before .before .before .before .before .before .before .number-end .ensures) (c .before .before .signed-at .ensures) } in
     rw (toZ-ofZ f, c .before .before .before .before .between .ensures, c .before .before .before .between2 .ensures, c .before .between3 .ensures)
-    (line-known (w .2) (w .3) (c .before .before .before .before .before .before .before .before .before .before .before .known-text-end .ensures) (c .before .before .before .before .before .before .before .before .before .before .known-text-end2 .ensures) (c .before .before .before .before .before .before .before .before .before .number-end .ensures) (c .before .before .before .before .before .before .before .before .known-text-end3 .ensures) (c .before .before .before .before .before .before .before .number-at .ensures .0) (c .before .before .before .before .before .number-at2 .ensures .0) (c .before .before .signed-at .ensures) (c .before .before .before .before .before .before .before .number-at .ensures .1) (c .before .before .before .before .before .number-at2 .ensures .1))
+    (line-known (w .2) (w .3) (c .before .before .before .before .before .before .before .before .before .before .before .any-end .ensures) (c .before .before .before .before .before .before .before .before .before .before .any-end2 .ensures) (c .before .before .before .before .before .before .before .before .before .number-end .ensures) (c .before .before .before .before .before .before .before .before .text-end .ensures) (c .before .before .before .before .before .before .before .number-at .ensures .0) (c .before .before .before .before .before .number-at2 .ensures .0) (c .before .before .signed-at .ensures) (c .before .before .before .before .before .before .before .number-at .ensures .1) (c .before .before .before .before .before .number-at2 .ensures .1))
 
 pub line-at-spec : {M : Type 1} → statement M
 line-at-spec =
     tie.close
     (tie.spec
-    known-text-end-requires
-    add-known-text-end
-    known-text-end-requires-2
+    any-end-requires
+    add-any-end
+    any-end-requires-2
     add-number-end
     number-end-requires
-    add-known-text-end-2
-    known-text-end-requires-3
+    add-text-end
+    text-end-requires
     add-number-at
     number-at-requires
     add-number-at-2
