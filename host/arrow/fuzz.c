@@ -37,10 +37,10 @@ static void as_sheet(const uint8_t *data, size_t size)
     free(sheet);
     if (number != 0) {
         require(!schema.release);
-        if (number <= 3)
+        if (number <= JUZONTEFA_TOO_DEEP)
             require(answer.number == number);
         else
-            require((number == 4 || number == 11) && answer.number != 1 && answer.number != 2 && answer.number != 3);
+            require((number == JUZONTEFA_NULL_FORMAT || number == JUZONTEFA_BAD_METADATA) && (answer.number == 0 || answer.number > JUZONTEFA_TOO_DEEP));
         return;
     }
     struct juzontefa_walked walked = juzontefa_schema_to_sheet(&schema, back, sizeof back);
@@ -174,16 +174,16 @@ static void as_struct(const uint8_t *data, size_t size)
         exit(EXIT_FAILURE);
     make(&r, made, 36);
     struct juzontefa_walked walked = juzontefa_schema_to_sheet(made, NULL, 0);
-    require(walked.length == 0 && (walked.number == 1 || walked.number == 2 || walked.number == 3 || walked.number == 16));
-    require((walked.number == 16) == (walked.needed != 0) && walked.needed <= LIMIT);
-    if (walked.number == 16) {
+    require(walked.length == 0 && ((walked.number != 0 && walked.number <= JUZONTEFA_TOO_DEEP) || walked.number == JUZONTEFA_NO_ROOM));
+    require((walked.number == JUZONTEFA_NO_ROOM) == (walked.needed != 0) && walked.needed <= LIMIT);
+    if (walked.number == JUZONTEFA_NO_ROOM) {
         uint8_t *sheet = malloc(walked.needed), *again = malloc(walked.needed);
         if (!sheet || !again)
             exit(EXIT_FAILURE);
         struct juzontefa_walked whole = juzontefa_schema_to_sheet(made, sheet, walked.needed);
         require(whole.number == 0 && whole.length == walked.needed && whole.needed == walked.needed);
         uint64_t number = juzontefa_sheet_to_schema(sheet, whole.length, &back);
-        require(number == 0 || number == 4 || number == 11);
+        require(number == 0 || number == JUZONTEFA_NULL_FORMAT || number == JUZONTEFA_BAD_METADATA);
         if (number == 0) {
             whole = juzontefa_schema_to_sheet(&back, again, walked.needed);
             require(whole.number == 0 && whole.length == walked.needed && memcmp(sheet, again, whole.length) == 0);
