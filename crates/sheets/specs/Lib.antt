@@ -11,6 +11,7 @@ pub mod Sheet
 pub mod Codec
 pub mod Schema
 pub mod Kind
+pub mod KindNames
 pub mod IntegerType
 pub mod PrimitiveType
 pub mod PhysicalType
@@ -33,6 +34,8 @@ pub mod Walk
 pub mod ExportSteps
 pub mod PlainSteps
 pub mod MappingSteps
+pub mod Page
+pub mod PageSteps
 pub mod Outcome
 pub mod Demand3
 pub mod RoundTrip

@@ -16,6 +16,7 @@ use Rattle.sheets.specs.FieldSheet.{readFieldSheet, writeFieldSheet, wri
 use Rattle.sheets.specs.Import.{toField}
 use Rattle.sheets.specs.Export.{schemaNew}
 use Rattle.sheets.specs.Plain.{plain}
+use Rattle.sheets.specs.Page.{page}
 use Rattle.sheets.specs.Mappings.{PhysicalType, withDtype, toPhysicalType, underlyingPhysicalType, toStorage, toStorageRecursive, innerDtype, getChild, isNested, containsDictionary, fromIntegerType, fromPrimitiveType}
 
 -- ── the sheet that is answered, or the refusal
@@ -58,6 +59,11 @@ picked pick b = do
 abbrev pub converted : Answer ArrowDataType → Answer Bytes
 converted a = a >>= λ t. given (writeBareSheet t)
 
+-- document 02, #101: the page of a field sheet, which has no heading; "a buffer one byte too small gets 16"
+unfoldable pub paged : Bytes → Answer Bytes
+unfolding decimal
+paged b = readFieldSheet b >>= λ f. given (page f)
+
 -- ── calls that answer a sheet
 
 pub record Outcome : Type 0 where
@@ -87,6 +93,9 @@ exportOutcome b out = outcome (exported b) out
 
 abbrev pub plainOutcome : Bytes → Bytes → Outcome
 plainOutcome b out = outcome (plained b) out
+
+abbrev pub pageOutcome : Bytes → Bytes → Outcome
+pageOutcome b out = outcome (paged b) out
 
 abbrev pub underlyingPhysicalTypeOutcome : Bytes → Bytes → Outcome
 underlyingPhysicalTypeOutcome b out = outcome (mapped underlyingPhysicalType b) out
