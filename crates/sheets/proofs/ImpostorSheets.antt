@@ -1,5 +1,5 @@
--- The sheets that tell each public call from the impostors (`ImpostorLaws`): import, export, plain form, each mapping that answers a sheet, and the two
--- conversions. Each by computation from its definition. Assumes nothing.
+-- The sheets that tell each public call from the impostors (`ImpostorLaws`): import, export, plain form, the page, each mapping that answers a sheet, and the
+-- two conversions. Each by computation from its definition. Assumes nothing.
 use mathlib.Core.Path.{_≡_, refl}
 use Prim.Native.Nat.{ℕ, _+_}
 use native.Mathlib.Omega.{arith}
@@ -12,7 +12,8 @@ use Rattle.sheets.specs.Answer.{Answer, refused, given}
 use Rattle.sheets.specs.IntegerType
 use Rattle.sheets.specs.PrimitiveType
 use Rattle.sheets.specs.Mappings.{leafRows, underlyingPhysicalType, toStorage, toStorageRecursive, innerDtype, getChild, fromIntegerType, fromPrimitiveType}
-use Rattle.sheets.specs.Outcome.{imported, exported, plained, mapped, picked, converted}
+use Rattle.sheets.specs.KindNames.{kindRows}
+use Rattle.sheets.specs.Outcome.{imported, exported, plained, paged, mapped, picked, converted}
 use Rattle.sheets.specs.Bench.{schemaSheet, fieldSheet}
 use Rattle.sheets.specs.Impostors.{Call, Defined, ShutOut, ShutOutOfLines}
 use Rattle.sheets.proofs.ImpostorLaws.{Telling, TellingLines, shut-out, lines-shut-out}
@@ -90,6 +91,29 @@ plainTelling =
 
 pub plain-shuts-out : (f : Call Bytes) → Defined plained f → ShutOutOfLines fieldSheet length f
 plain-shuts-out f defined = lines-shut-out plained fieldSheet length plainTelling f defined
+
+-- a struct of one null, and a null whose name makes its one line as long: a page's length goes by the lines alone, so the two differ in these. That no line of
+-- a page is stock is `lines-shown` (`PageLaws`).
+pageTelling : Telling paged length
+unfolding decimal kindRows paged
+pageTelling =
+    record {
+      one = fieldSheet (ascii "30 0 0 ~ ~ - 0 ~ 1\n0 0 0 ~ ~ - 0 ~ 0\n");
+      other = fieldSheet (ascii "0 0 0 ~ ~ 61616161616161616161 0 ~ 0\n");
+      alike = refl;
+      oneSheet = ascii "  1 Struct           n                                                  \n  2 Null             n                                                  \n";
+      otherSheet = ascii "  1 Null             n 61616161616161616161                             \n";
+      oneAnswer = refl;
+      otherAnswer = refl;
+      shorter = omega arith;
+      few = omega arith;
+      wrong = ascii "";
+      reason = notSheet;
+      wrongAnswer = refl;
+    }
+
+pub page-shuts-out : (f : Call Bytes) → Defined paged f → ShutOut length f
+page-shuts-out f defined = shut-out paged f defined length pageTelling
 
 -- ── the three mappings that change a type
 
