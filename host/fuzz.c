@@ -70,6 +70,7 @@ static uint64_t place;
 
 #define EXPORTS 0x1700f
 #define PLAINS 0x1000f
+#define LINE 73u
 
 /* A round trip with these rooms; on refusal all four buffers are zeros. */
 static struct juzontefa_trip travel(const uint8_t *sheet, size_t size, const size_t room[4]) {
@@ -126,6 +127,23 @@ static void trips(const uint8_t *sheet, size_t size, struct juzontefa_answer exp
     exact[step]--;
     trip = travel(sheet, size, exact);
     require(trip.answer == JUZONTEFA_EXPORT_REFUSED + step && trip.number == 16);
+}
+
+/* A page is refused exactly where plain form is, with `form`; else it has one line for each of the sheet's below the heading. */
+static void pages(const uint8_t *sheet, size_t size, uint64_t form) {
+    struct juzontefa_answer page = ask_all(juzontefa_page, PLAINS, sheet, size, JUZONTEFA_PAGE_ROOM(size));
+    require(page.number == form);
+    if (form != 0) return;
+    size_t lines = 0;
+    for (size_t i = 0; i < size; i++) lines += sheet[i] == '\n';
+    require(page.length == (lines - 1) * LINE);
+    ask(juzontefa_page, 1, sheet, size, page.length);
+    for (const uint8_t *line = end[4] - page.length; line < end[4]; line += LINE) {
+        require(line[3] == ' ' && line[20] == ' ' && line[22] == ' ' && line[LINE - 1] == '\n');
+        require(line[21] == 'y' || line[21] == 'n' || (line[21] == '.' && line[71] == ' '));
+        require(line[71] == ' ' || (line[71] == '+' && line[70] != ' '));
+        require(memchr(line, '\n', LINE) == line + LINE - 1);
+    }
 }
 
 /* ── mappings */
@@ -197,6 +215,7 @@ static void calls(const uint8_t *sheet, size_t size) {
     if (exported.number <= 3) require(exported.number == plain.number);
     else require(plain.number == 0);
     trips(sheet, size, exported, plain);
+    pages(sheet, size, plain.number);
     mappings(sheet, size, plain.number);
 }
 

@@ -1,6 +1,6 @@
-/* A C host: walks ArrowSchema structs into schema sheets, imports them and exports what comes; makes field sheets plain, takes them out and back;
- * tries the mappings on every kind; and tries broken, empty and oversized input on every call. Prints the field sheets and a count; the status is 0
- * only if every answer was the expected one.
+/* A C host: walks ArrowSchema structs into schema sheets, imports them and exports what comes; makes field sheets plain, takes them out and back, and
+ * into pages; tries pages and mappings on every kind; and tries broken, empty and oversized input on every call. Prints the field sheets and a count;
+ * the status is 0 only if every answer was the expected one.
  *
  *   c KINDS    the table of kinds, host/kinds */
 #include <stdio.h>
@@ -177,6 +177,78 @@ static void other_trips(void)
     expect_trip("a reserved key", FIELD "4 0 0 ~ ~ 70 1 " KEY " 0\n", wide, JUZONTEFA_IMPORT_DIFFERS, 0, kept);
 }
 
+/* ── pages */
+
+/* A line of a page as printf justifies it; its end. */
+static char *page_line(char *to, int level, const char *kind, char mark, const char *name)
+{
+    return to + sprintf(to, "%3d %-16s %c %-48.48s%c\n", level, kind, mark, name, strlen(name) > 48 ? '+' : ' ');
+}
+
+/* names of 8 and 23 bytes */
+#define N8 "6e6e6e6e6e6e6e6e"
+#define N23 N8 N8 "6e6e6e6e6e6e6e"
+
+/* The lines of a page end where the level is 0. */
+static const struct {
+    const char *what, *field;
+    struct {
+        int level;
+        const char *kind;
+        char mark;
+        const char *name;
+    } lines[6];
+} pages[] = {
+    { "a page of one leaf", FIELD "14 0 0 ~ ~ 7065616b 1 ~ 0\n", { { 1, "Float64", 'y', "7065616b" } } },
+    { "a page of a dictionary", FIELD "32 2 1 ~ ~ 7472616365 0 6d=32 1\n25 0 0 ~ ~ ~ ~ ~ 0\n",
+      { { 1, "Dictionary", 'n', "7472616365" }, { 2, "Utf8", '.', "" } } },
+    { "a page of nested extensions", FIELD "37 0 0 78 ~ 70 1 - 1\n37 0 0 79 7a ~ ~ ~ 1\n27 0 0 ~ ~ ~ ~ ~ 1\n14 0 0 ~ ~ 69 0 ~ 0\n",
+      { { 1, "Extension", 'y', "70" }, { 2, "Extension", '.', "" }, { 2, "List", '.', "" }, { 3, "Float64", 'n', "69" } } },
+    { "a page of a union", FIELD "41 0 0 - ~ 75 0 ~ 2\n37 0 0 78 ~ - 1 - 1\n15 0 0 - ~ ~ ~ ~ 0\n18 3 0 ~ ~ 62 0 ~ 0\n",
+      { { 1, "Union", 'n', "75" }, { 2, "Extension", 'y', "" }, { 2, "Timestamp", '.', "" }, { 2, "Time32", 'n', "62" } } },
+    { "names of 23 to 26 bytes",
+      FIELD "30 0 0 ~ ~ " N23 " 0 ~ 3\n0 0 0 ~ ~ " N23 "6e 0 ~ 0\n40 0 0 ~ ~ " N23 "6e00 1 ~ 0\n1 0 0 ~ ~ " N23 "6e6e6e 0 ~ 0\n",
+      { { 1, "Struct", 'n', N23 }, { 2, "Null", 'n', N23 "6e" }, { 2, "Unknown", 'y', N23 "6e00" }, { 2, "Boolean", 'n', N23 "6e6e6e" } } },
+    { "a name cut in a character", FIELD "0 0 0 ~ ~ " N23 "c3a9 0 ~ 0\n", { { 1, "Null", 'n', N23 "c3a9" } } },
+};
+
+/* In the order of the kinds. */
+static const char *const kinds[42] = {
+    "Null", "Boolean", "Int8", "Int16", "Int32", "Int64", "Int128", "UInt8", "UInt16", "UInt32", "UInt64", "UInt128", "Float16", "Float32", "Float64",
+    "Timestamp", "Date32", "Date64", "Time32", "Time64", "Duration", "Interval", "Binary", "FixedSizeBinary", "LargeBinary", "Utf8", "LargeUtf8", "List",
+    "FixedSizeList", "LargeList", "Struct", "Map", "Dictionary", "Decimal", "Decimal32", "Decimal64", "Decimal256", "Extension", "BinaryView", "Utf8View",
+    "Unknown", "Union"
+};
+
+/* Each kind alone, or over one leaf where it must have one. */
+static void page_of_each_kind(void)
+{
+    for (int kind = 0; kind < 42; kind++) {
+        int is_list = (kind >= 27 && kind <= 29) || kind == 31, is_over_bare = kind == 32 || kind == 37;
+        char *s = (char *)sheet + sprintf((char *)sheet, FIELD "%d 0 0 %s ~ 70 1 ~ %d\n", kind, kind == 37 ? "78" : "~", is_list || is_over_bare);
+        char *to = page_line(expected, 1, kinds[kind], 'y', "70");
+        if (is_list) {
+            s += sprintf(s, "14 0 0 ~ ~ 69 0 ~ 0\n");
+            page_line(to, 2, "Float64", 'n', "69");
+        } else if (is_over_bare) {
+            s += sprintf(s, "14 0 0 ~ ~ ~ ~ ~ 0\n");
+            page_line(to, kind == 37 ? 1 : 2, "Float64", '.', "");
+        }
+        answered(juzontefa_page, kinds[kind], sheet, (size_t)(s - (char *)sheet), expected);
+    }
+}
+
+static void field_pages(void)
+{
+    for (size_t i = 0; i < sizeof pages / sizeof *pages; i++) {
+        char *to = expected;
+        for (int line = 0; pages[i].lines[line].level; line++)
+            to = page_line(to, pages[i].lines[line].level, pages[i].lines[line].kind, pages[i].lines[line].mark, pages[i].lines[line].name);
+        answered(juzontefa_page, pages[i].what, (const uint8_t *)pages[i].field, strlen(pages[i].field), expected);
+    }
+    page_of_each_kind();
+}
+
 /* ── the longest answers that were found, for 65,535 bytes each */
 
 /* `room` is what the header says to reserve for such a sheet. */
@@ -220,6 +292,12 @@ static void longest_answers(void)
     to += ids(expected + to, 3636, "%c");
     to += many(expected + to, " ~ 6c6f6e67207965732e 0 ~ 3636\n", 3636, "0 0 0 ~ ~ - 0 ~ 0\n");
     longest(juzontefa_plain_form, "the longest answer of plain form", in, to, 82603, JUZONTEFA_PLAIN_FORM_ROOM(LONGEST));
+
+    char leaf[74];
+    page_line(leaf, 2, "Null", 'n', "");
+    to = (size_t)(page_line(expected, 1, "Union", 'n', "6c6f6e67207965732e") - expected);
+    to += many(expected + to, "", 3636, leaf);
+    longest(juzontefa_page, "the longest page", in, to, 265501, JUZONTEFA_PAGE_ROOM(LONGEST));
 }
 
 int main(int count, char **words)
@@ -229,8 +307,10 @@ int main(int count, char **words)
     broken_sheets(juzontefa_import, SCHEMA, "2b6c 70 2 ~ 1 0\n", "67 69 0 ~ 0 0\n");
     broken_sheets(juzontefa_export, FIELD, "27 0 0 ~ ~ 70 1 ~ 1\n", "14 0 0 ~ ~ 69 0 ~ 0\n");
     broken_sheets(juzontefa_plain_form, FIELD, "27 0 0 ~ ~ 70 1 ~ 1\n", "14 0 0 ~ ~ 69 0 ~ 0\n");
+    broken_sheets(juzontefa_page, FIELD, "27 0 0 ~ ~ 70 1 ~ 1\n", "14 0 0 ~ ~ 69 0 ~ 0\n");
     field_sheets();
     other_trips();
+    field_pages();
     longest_answers();
     mappings(count == 2 ? words[1] : "");
     printf("C host: %d tried, %d wrong\n", tried, wrong);

@@ -1,5 +1,5 @@
-//! A Rust host: links the static library and calls it on valid, broken, empty and oversized sheets, takes fields out and back, and tries the mappings
-//! on every kind. The status is 0 only if every answer was the expected one.
+//! A Rust host: links the static library and calls it on valid, broken, empty and oversized sheets, takes fields out and back and into pages, and tries
+//! the mappings on every kind. The status is 0 only if every answer was the expected one.
 
 #[path = "rust/src/raw.rs"]
 mod juzontefa;
@@ -140,7 +140,7 @@ fn imports(tries: &mut Tries) {
 }
 
 fn fields(tries: &mut Tries) {
-    for call in [juzontefa_export as ToSheet, juzontefa_plain_form as ToSheet] {
+    for call in [juzontefa_export as ToSheet, juzontefa_plain_form as ToSheet, juzontefa_page as ToSheet] {
         tries.broken(&of(call), FIELD, "27 0 0 ~ ~ 70 1 ~ 1\n", "14 0 0 ~ ~ 69 0 ~ 0\n");
     }
     let named = "01000000140000004152524f573a657874656e73696f6e3a6e616d650100000078"; // ARROW:extension:name = x
@@ -190,10 +190,36 @@ fn fields(tries: &mut Tries) {
     tries.trip("a reserved key", &own, [ROOM; 4], Trip { answer: IMPORT_DIFFERS, number: 0 }, Some([&exported, &imported, &own, &exported]));
 }
 
+/// A line of a page, as the standard library justifies it.
+fn page_line((level, kind, mark, name): (usize, &str, char, &str)) -> String {
+    let (shown, cut) = if name.len() > 48 { (&name[..48], '+') } else { (name, ' ') };
+    format!("{level:>3} {kind:<16} {mark} {shown:<48}{cut}\n")
+}
+
+fn pages(tries: &mut Tries) {
+    let [n23, n24, n25] = [23, 24, 25].map(|count| "6e".repeat(count));
+    let names = format!("30 0 0 ~ ~ {n23} 0 ~ 3\n23 16 0 ~ ~ {n24} 1 ~ 0\n40 0 0 ~ ~ {n25} 0 ~ 0\n41 0 0 - ~ {n23}c3a9 1 ~ 0\n");
+    let parted = format!("{n23}c3a9");
+    let named = [(1, "Struct", 'n', &n23[..]), (2, "FixedSizeBinary", 'y', &n24), (2, "Unknown", 'n', &n25), (2, "Union", 'y', &parted)];
+    let listed = [(1, "List", 'n', "70"), (2, "Extension", 'y', "69"), (2, "UInt128", '.', "")];
+    let extended = [(1, "Extension", 'y', ""), (2, "Extension", '.', ""), (2, "Dictionary", '.', ""), (3, "Timestamp", '.', "")];
+    let tables: [(&str, &str, &[_]); 4] = [
+        ("a page of one leaf", "14 0 0 ~ ~ 7065616b 1 ~ 0\n", &[(1, "Float64", 'y', "7065616b")]),
+        ("a page of a list", "27 0 0 ~ ~ 70 0 ~ 1\n37 0 0 78 ~ 69 1 ~ 1\n11 0 0 ~ ~ ~ ~ ~ 0\n", &listed),
+        ("a page of extensions", "37 0 0 78 ~ - 1 - 1\n37 0 0 79 7a ~ ~ ~ 1\n32 2 1 ~ ~ ~ ~ ~ 1\n15 0 0 - ~ ~ ~ ~ 0\n", &extended),
+        ("a page of names", &names, &named),
+    ];
+    for (what, field, lines) in tables {
+        let page: String = lines.iter().copied().map(page_line).collect();
+        tries.answered(&of(juzontefa_page), what, &format!("{FIELD}{field}"), &page);
+    }
+}
+
 fn main() -> ExitCode {
     let mut tries = Tries::default();
     imports(&mut tries);
     fields(&mut tries);
+    pages(&mut tries);
     mappings::mappings(&mut tries);
     for what in &tries.wrong {
         println!("wrong: {what}");

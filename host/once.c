@@ -1,6 +1,6 @@
 /* One call on the sheet in a file, for host/instructions. The status is 0 only if it is answered, or refused with 15.
  *
- *   once CALL FILE    a call from sheet to sheet by the driver's name; get_child for the last child of the first line */
+ *   once CALL FILE    a call from sheet to sheet, or the page, by the driver's name; get_child for the last child of the first line */
 #include <stdio.h>
 #include <stdlib.h>
 #include <string.h>
@@ -26,6 +26,7 @@ static const struct {
     { "import", juzontefa_import, 0 },
     { "export", juzontefa_export, 0 },
     { "plain", juzontefa_plain_form, 0 },
+    { "page", juzontefa_page, 0 },
     { "underlying_physical_type", juzontefa_underlying_physical_type, 1 },
     { "to_storage", juzontefa_to_storage, 1 },
     { "to_storage_recursive", juzontefa_to_storage_recursive, 1 },

@@ -17,11 +17,11 @@
 
 /* Import reads schema sheets; then come those that read field sheets, and the two conversions, which read none. */
 enum call {
-    IMPORT, EXPORT, PLAIN_FORM, ROUND_TRIP, UNDERLYING_PHYSICAL_TYPE, TO_STORAGE, TO_STORAGE_RECURSIVE, INNER_DTYPE, GET_CHILD, TO_PHYSICAL_TYPE,
+    IMPORT, EXPORT, PLAIN_FORM, PAGE, ROUND_TRIP, UNDERLYING_PHYSICAL_TYPE, TO_STORAGE, TO_STORAGE_RECURSIVE, INNER_DTYPE, GET_CHILD, TO_PHYSICAL_TYPE,
     IS_NESTED, CONTAINS_DICTIONARY, FROM_INTEGER_TYPE, FROM_PRIMITIVE_TYPE, CALLS
 };
 static const char *const names[CALLS] = {
-    "import", "export", "plain_form", "round_trip", "underlying_physical_type", "to_storage", "to_storage_recursive", "inner_dtype", "get_child",
+    "import", "export", "plain_form", "page", "round_trip", "underlying_physical_type", "to_storage", "to_storage_recursive", "inner_dtype", "get_child",
     "to_physical_type", "is_nested", "contains_dictionary", "from_integer_type", "from_primitive_type"
 };
 
@@ -44,6 +44,7 @@ static void call(void)
     case IMPORT: number = juzontefa_import(sheet, size, out[0], room).number; break;
     case EXPORT: number = juzontefa_export(sheet, size, out[0], room).number; break;
     case PLAIN_FORM: number = juzontefa_plain_form(sheet, size, out[0], room).number; break;
+    case PAGE: number = juzontefa_page(sheet, size, out[0], room).number; break;
     case ROUND_TRIP: number = juzontefa_round_trip(sheet, size, out[0], room, out[1], room, out[2], room, out[3], room).number; break;
     case UNDERLYING_PHYSICAL_TYPE: number = juzontefa_underlying_physical_type(sheet, size, out[0], room).number; break;
     case TO_STORAGE: number = juzontefa_to_storage(sheet, size, out[0], room).number; break;

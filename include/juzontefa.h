@@ -9,10 +9,10 @@
  * A schema sheet goes to import; all other calls read a field sheet, but for the two conversions, which take a place in an enumeration.
  *
  * The answer's number is 0 for success, or says why there is none and who is turned back (enum juzontefa_refusal).
- * Import gives 1 to 11 and 16; export 1, 2, 3, 12, 13, 14 and 16; plain form and `to_storage` 1, 2, 3 and 16; `underlying_physical_type`,
- * `to_storage_recursive`, `inner_dtype` and `get_child` 1, 2, 3, 15 and 16; `to_physical_type` 1, 2, 3 and 15; `is_nested` and
- * `contains_dictionary` 1, 2 and 3; the two conversions 15 and 16. 1, 2 and 3 are tried over the whole sheet, in that order, before all others; 16
- * comes last, and only if there is an answer and it is longer than the buffer.
+ * Import gives 1 to 11 and 16; export 1, 2, 3, 12, 13, 14 and 16; plain form, the page and `to_storage` 1, 2, 3 and 16;
+ * `underlying_physical_type`, `to_storage_recursive`, `inner_dtype` and `get_child` 1, 2, 3, 15 and 16; `to_physical_type` 1, 2, 3 and 15;
+ * `is_nested` and `contains_dictionary` 1, 2 and 3; the two conversions 15 and 16. 1, 2 and 3 are tried over the whole sheet, in that order, before
+ * all others; 16 comes last, and only if there is an answer and it is longer than the buffer.
  * On success `length` bytes of the buffer are the answer, and the bytes past them keep what they held. On refusal `length` is 0 and
  * the whole buffer is zeros. Calls that answer numbers are lent no buffer; their numbers are 0 on refusal.
  */
@@ -58,6 +58,7 @@ enum juzontefa_refusal {
 #define JUZONTEFA_IMPORT_ROOM(n) (JUZONTEFA_SHEET(n) * 19 / 13)
 #define JUZONTEFA_EXPORT_ROOM(n) (JUZONTEFA_SHEET(n) * 178 / 37)
 #define JUZONTEFA_PLAIN_FORM_ROOM(n) (JUZONTEFA_SHEET(n) * 23 / 18)
+#define JUZONTEFA_PAGE_ROOM(n) (JUZONTEFA_SHEET(n) * 73 / 18) /* a line of a field sheet has 18 bytes or more, of a page 73 */
 #define JUZONTEFA_MAPPING_ROOM(n) JUZONTEFA_SHEET(n) /* of the five mappings that answer a sheet */
 #define JUZONTEFA_CONVERTED_ROOM 69 /* of the two conversions: heading and line of Decimal256, `36 32 32 ~ ~ ~ ~ ~ 0` */
 
@@ -83,6 +84,14 @@ struct juzontefa_answer juzontefa_export(const uint8_t *sheet, size_t sheet_len,
  * and no dictionary index of 128 bits. The longest answer that was found has 82,603 bytes, for a union without ids of 3,636 leaves; the room for the
  * longest sheet is 83,739. */
 struct juzontefa_answer juzontefa_plain_form(const uint8_t *sheet, size_t sheet_len, uint8_t *out, size_t out_len);
+
+/* The page of a field sheet, for people to read: one line of 73 bytes, the last of them a byte 10, for each line of the sheet below its heading, in the
+ * sheet's order; the heading becomes none. A line has the level, right-justified in 3; a space; the kind's name as the Rust's `ArrowDataType` spells it,
+ * left-justified in 16; a space; `y` for nullable, `n` for not, `.` for a bare line; a space; the name's first 24 bytes in hexadecimal, left-justified
+ * in 48; and `+` if the name has more bytes than those, else a space. An empty name and a bare line show 48 spaces. A page has no byte 00, and none is
+ * written behind it. 1, 2, 3 and 16 as ever: what cannot be exported has a page too, and 16 comes exactly if 73 bytes for each line are more than the
+ * buffer has. The longest answer that was found has 265,501 bytes, for a struct of 3,636 leaves; the room for the longest sheet is 265,780. */
+struct juzontefa_answer juzontefa_page(const uint8_t *sheet, size_t sheet_len, uint8_t *out, size_t out_len);
 
 /* ── The mappings of a field's type, and the two conversions, by the names of the Rust. No answer of the five that read a field sheet and give one is
  * longer than the sheet. */

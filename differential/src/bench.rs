@@ -1,7 +1,7 @@
 //! Times the Rust from sheet to sheet: reading the sheet into its structs or values, its own call, and writing the sheet
 //! of the answer. Where our library is linked, it is timed beside it, batch by batch, and the ratio is printed. Plain form
-//! is not in the Rust: ours is timed beside our own export of the same sheet. A sheet that a mapping is not defined for is
-//! timed up to its refusal.
+//! and the page are not in the Rust: ours are timed beside our own export of the same sheet. A sheet that a mapping is not
+//! defined for is timed up to its refusal.
 
 use std::hint::black_box;
 use std::io::Write;
@@ -21,11 +21,12 @@ use crate::refusal::{Number, UNDEFINED};
 /// A batch takes so much processor time. Batches are short, so that some of them find a quiet machine.
 const BATCH: Duration = Duration::from_millis(4);
 
-/// The calls that are timed: those from sheet to sheet.
-pub const CALLS: [Call; 8] = [
+/// The calls that are timed: those from sheet to sheet, and the page.
+pub const CALLS: [Call; 9] = [
     Call::Import,
     Call::Export,
     Call::Plain,
+    Call::Page,
     Call::UnderlyingPhysicalType,
     Call::ToStorage,
     Call::ToStorageRecursive,
@@ -117,7 +118,7 @@ struct Trial {
     sheet: Vec<u8>,
     /// The length of the answer, or the number of the refusal.
     answer: Result<usize, Number>,
-    /// The length of what stands beside it: the same, but for plain form the export's.
+    /// The length of what stands beside it: the same, or the export's for what the Rust has not.
     beside: usize,
     timed: Timed,
 }
@@ -132,12 +133,11 @@ struct Row {
 /// Prints a table of all workloads for a call, or for all that can be timed. Each is measured in so many rounds; a round
 /// goes through all of them, so that a busy time of the machine falls on all alike.
 pub fn bench(rust: &Rust, rounds: u64, only: Option<Call>, out: &mut dyn Write) -> Result<(), Failure> {
-    let has_plain = library::has(Call::Plain) && library::has(Call::Export);
-    if only == Some(Call::Plain) && !has_plain {
-        return Err(Failure::Wrong("no library with plain form and export is linked".to_string()));
+    let can_be = |call: Call| call.is_in_rust() || (library::has(call) && library::has(Call::Export));
+    if let Some(call) = only.filter(|call| !can_be(*call)) {
+        return Err(Failure::Wrong(format!("no library with {} and export is linked", call.name())));
     }
-    let calls =
-        CALLS.into_iter().filter(|call| only.is_none_or(|only| only == *call) && (*call != Call::Plain || has_plain));
+    let calls = CALLS.into_iter().filter(|call| only.is_none_or(|only| only == *call) && can_be(*call));
     let mut rows = Vec::new();
     for call in calls {
         for workload in &WORKLOADS {
@@ -162,8 +162,10 @@ pub fn bench(rust: &Rust, rounds: u64, only: Option<Call>, out: &mut dyn Write) 
     if rows.iter().any(|row| row.whole.request.call == Call::GetChild) {
         writeln!(out, "get_child: the last child of the first line")?;
     }
-    if rows.iter().any(|row| row.whole.request.call == Call::Plain) {
-        writeln!(out, "plain: not in the Rust; ns/call, MB/s and growth are of our own export of the sheet")?;
+    for call in CALLS.into_iter().filter(|call| !call.is_in_rust()) {
+        if rows.iter().any(|row| row.whole.request.call == call) {
+            writeln!(out, "{}: not in the Rust; ns/call, MB/s and growth are of our own export of the sheet", call.name())?;
+        }
     }
     let ratios: Vec<String> = CALLS.into_iter().filter_map(|call| greatest_ratio(&rows, call)).collect();
     if !ratios.is_empty() {
@@ -224,9 +226,9 @@ fn trial(rust: &Rust, workload: &Workload, size: usize, call: Call) -> Result<Tr
     let sheet = sheet(rust, workload, size, call)?;
     let request = request(call, &sheet);
     let answer = answer_length(rust, request, &sheet);
-    let beside = match call {
-        Call::Plain => answer_length(rust, Request::new(Call::Export, 0), &sheet),
-        _ => answer,
+    let beside = match call.is_in_rust() {
+        true => answer,
+        false => answer_length(rust, Request::new(Call::Export, 0), &sheet),
     };
     match (answer, beside) {
         (Err(UNDEFINED), _) | (Ok(_), Ok(_)) => {
@@ -237,15 +239,15 @@ fn trial(rust: &Rust, workload: &Workload, size: usize, call: Call) -> Result<Tr
     }
 }
 
-/// A batch of the Rust, or of our export beside plain form, and, where it is linked, one of ours.
+/// A batch of the Rust, or of our export beside what the Rust has not, and, where it is linked, one of ours.
 fn measure(rust: &Rust, trial: &mut Trial) {
     let (request, sheet) = (trial.request, &trial.sheet[..]);
     // Where it is refused, the buffer has as many bytes as the sheet: no answer of a mapping is longer.
     let room = trial.answer.unwrap_or(sheet.len());
     let mut out = Vec::with_capacity(room);
-    let beside = match request.call {
-        Call::Plain => of_ours(Request::new(Call::Export, 0), sheet, trial.beside),
-        _ => nanoseconds(|| {
+    let beside = match request.call.is_in_rust() {
+        false => of_ours(Request::new(Call::Export, 0), sheet, trial.beside),
+        true => nanoseconds(|| {
             out.clear();
             let done = rust.write(request, black_box(sheet), &mut out);
             black_box(&out);
@@ -308,7 +310,7 @@ fn columns(whole: &Trial, quarter: Option<&Trial>) -> String {
     };
     let Timed { beside, ours } = whole.timed;
     let grows = growth(beside, quarter.map(|quarter| quarter.timed.beside));
-    let what = if whole.request.call == Call::Plain { "our export" } else { "the Rust" };
+    let what = if whole.request.call.is_in_rust() { "the Rust" } else { "our export" };
     let ours = match ours {
         None => "-".to_string(),
         Some(ours) => {

@@ -16,9 +16,10 @@ pub enum Call {
     ContainsDictionary,
     FromIntegerType,
     FromPrimitiveType,
+    Page,
 }
 
-pub const CALLS: [(Call, &str); 13] = [
+pub const CALLS: [(Call, &str); 14] = [
     (Call::Import, "import"),
     (Call::Export, "export"),
     (Call::Plain, "plain"),
@@ -32,6 +33,7 @@ pub const CALLS: [(Call, &str); 13] = [
     (Call::ContainsDictionary, "contains_dictionary"),
     (Call::FromIntegerType, "from_integer_type"),
     (Call::FromPrimitiveType, "from_primitive_type"),
+    (Call::Page, "page"),
 ];
 
 /// What a call takes besides the buffer.
@@ -73,20 +75,20 @@ impl Call {
         matches!(self, Call::GetChild | Call::FromIntegerType | Call::FromPrimitiveType)
     }
 
-    /// Whether the call writes a sheet; the others answer numbers and have no buffer.
+    /// Whether the call writes a sheet or a page; the others answer numbers and have no buffer.
     pub fn writes(self) -> bool {
         !matches!(self, Call::ToPhysicalType | Call::IsNested | Call::ContainsDictionary)
     }
 
     /// Whether an answer is never longer than its sheet, as `include/juzontefa.h` says of the mappings from sheet to sheet.
     pub fn never_lengthens(self) -> bool {
-        let lengthens = matches!(self, Call::Import | Call::Export | Call::Plain);
+        let lengthens = matches!(self, Call::Import | Call::Export | Call::Plain | Call::Page);
         self.writes() && self.input() != Input::Place && !lengthens
     }
 
-    /// Plain form is not in the Rust: the plain reading answers it.
+    /// Plain form and the page are not in the Rust: the plain reading answers them.
     pub fn is_in_rust(self) -> bool {
-        self != Call::Plain
+        !matches!(self, Call::Plain | Call::Page)
     }
 }
 

@@ -123,6 +123,7 @@ struct Comparison<'a> {
 pub fn compare(rust: &Rust, sheets: u64, seed: u64, scope: Scope, out: &mut dyn Write) -> Result<(), Failure> {
     let mut comparison = Comparison { rust, model: Model::new(), scope, counts: Counts::default() };
     compare_utf8(&comparison.model).map_err(Failure::Found)?;
+    compare_kind_names(rust, &comparison.model).map_err(Failure::Found)?;
     let mut generator = Generator::new(seed);
     for done in 0..sheets {
         let input = match scope {
@@ -148,7 +149,7 @@ pub fn compare(rust: &Rust, sheets: u64, seed: u64, scope: Scope, out: &mut dyn 
 }
 
 impl Comparison<'_> {
-    /// Plain form is not in the Rust, so only our library can be held against the plain reading there.
+    /// Plain form and the page are not in the Rust, so only our library can be held against the plain reading there.
     fn wants(&self, call: Call) -> bool {
         (call.is_in_rust() || library::has(call)) && (self.scope == Scope::All || self.scope == Scope::Only(call))
     }
@@ -254,7 +255,29 @@ fn compare_utf8(model: &Model) -> Result<(), String> {
     Ok(())
 }
 
-/// The answer that the others are held against: the Rust's, or the plain reading's for plain form.
+/// The kinds' names on a page against the Rust's own.
+fn compare_kind_names(rust: &Rust, model: &Model) -> Result<(), String> {
+    for kind in 0..=41 {
+        let (text, below) = match kind {
+            27..=29 | 31 => ("~", "0 0 0 ~ ~ - 0 ~ 0\n"),
+            32 => ("~", "0 0 0 ~ ~ ~ ~ ~ 0\n"),
+            37 => ("-", "0 0 0 ~ ~ ~ ~ ~ 0\n"),
+            _ => ("~", ""),
+        };
+        let children = below.lines().count();
+        let heading = "kind p q text more name nullable pairs children";
+        let sheet = format!("{heading}\n{kind} 0 0 {text} ~ - 0 ~ {children}\n{below}");
+        let expected = rust.kind_name(sheet.as_bytes()).map(|name| format!("  1 {name:<16} n "));
+        let page = model.answer(Request::new(Call::Page, 0), sheet.as_bytes());
+        match (page, expected) {
+            (Ok(Answer::Sheet(page)), Ok(expected)) if page.starts_with(expected.as_bytes()) => {}
+            (page, expected) => return Err(format!("kind {kind}: {expected:?} by the Rust, but the page is {page:?}")),
+        }
+    }
+    Ok(())
+}
+
+/// The answer that the others are held against: the Rust's, or the plain reading's for what the Rust has not.
 pub fn answer(rust: &Rust, model: &Model, request: Request, sheet: &[u8]) -> Answered {
     match request.call.is_in_rust() {
         true => rust.answer(request, sheet),

@@ -62,6 +62,7 @@ fn function(call: Call) -> Option<Function> {
         Call::ContainsDictionary => has!("contains_dictionary", ToYesNo, juzontefa_contains_dictionary),
         Call::FromIntegerType => has!("from_integer_type", Conversion, juzontefa_from_integer_type),
         Call::FromPrimitiveType => has!("from_primitive_type", Conversion, juzontefa_from_primitive_type),
+        Call::Page => has!("page", ToSheet, juzontefa_page),
     }
 }
 

@@ -1,4 +1,4 @@
-//! The driver: the Rust as oracle, a plain reading of document 01 beside it, and what is run with both.
+//! The driver: the Rust as oracle, a plain reading of document 01 and of the page beside it, and what is run with both.
 //!
 //! Status: 0 done; 1 the answer is a refusal, or something was found to differ; 2 wrong arguments or unreadable input.
 
@@ -62,7 +62,7 @@ fn run(arguments: &[String]) -> Result<(), Failure> {
     match words[..] {
         ["answer", ref rest @ ..] => answer_call(rest, out, |request, sheet| match request.call.is_in_rust() {
             true => Ok(Rust::new().answer(request, sheet)),
-            false => Err(Failure::Wrong("plain form is not in the Rust: ask `model plain`".to_string())),
+            false => Err(Failure::Wrong(format!("{0} is not in the Rust: ask `model {0}`", request.call.name()))),
         }),
         ["model", ref rest @ ..] => answer_call(rest, out, |request, sheet| Ok(Model::new().answer(request, sheet))),
         ["compare", sheets, seed, call] => {

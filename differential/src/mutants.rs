@@ -1,4 +1,4 @@
-//! Whether the generator tells each wrong reading of document 01 from the Rust.
+//! Whether the generator tells each wrong reading of document 01 from the Rust, and each of the page from the right one.
 
 use std::io::Write;
 
@@ -11,7 +11,7 @@ use crate::generator::{Generator, Kind, Sheet};
 use crate::model::{Model, Wrong, WRONG_READINGS};
 use crate::oracle::Rust;
 
-/// A wrong reading, and the first sheet and call that told it from the Rust.
+/// A wrong reading, and the first sheet and call that told it.
 struct Mutant {
     wrong: Wrong,
     what: &'static str,
@@ -30,6 +30,7 @@ pub fn mutants(rust: &Rust, limit: u64, seed: u64, out: &mut dyn Write) -> Resul
         try_calls(rust, &mut generator, &sheet, done, &mut mutants);
         if sheet.kind == Kind::Field {
             try_plain(rust, &sheet, done, &mut mutants).map_err(Failure::Found)?;
+            try_page(&sheet, done, &mut mutants);
         }
     }
     write_table(&mutants, out)?;
@@ -70,6 +71,20 @@ fn try_plain(rust: &Rust, sheet: &Sheet, done: u64, mutants: &mut [Mutant]) -> R
         }
     }
     Ok(())
+}
+
+/// The page is not in the Rust: it is told from the right page of the same field, so that only readings of the page are caught here.
+fn try_page(sheet: &Sheet, done: u64, mutants: &mut [Mutant]) {
+    let right = Model::new();
+    let Ok(field) = right.read_field(&sheet.bytes) else {
+        return;
+    };
+    let page = right.page(&field);
+    for mutant in mutants.iter_mut().filter(|mutant| mutant.caught.is_none()) {
+        if Model::wrongly(mutant.wrong).page(&field) != page {
+            mutant.caught = Some((done, Call::Page.name()));
+        }
+    }
 }
 
 fn write_table(mutants: &[Mutant], out: &mut dyn Write) -> Result<(), Failure> {

@@ -4,7 +4,7 @@ use std::collections::BTreeMap;
 
 use super::random::Random;
 use super::schema::Plan;
-use super::texts::{bad_text, short_key, size, text};
+use super::texts::{bad_text, long_name, short_key, size, text};
 use super::{decimal_text, hex, hex_text, Bytes, Line};
 
 /// The columns `kind p q text more`, and the children.
@@ -30,6 +30,15 @@ pub fn field(random: &mut Random, plan: Plan) -> Vec<Line> {
     let mut left = plan.lines;
     put_node(random, plan, Place::Named, &mut left, &mut lines);
     lines
+}
+
+/// Some lines with a name get a long one.
+pub fn lengthen_names(random: &mut Random, lines: &mut [Line]) {
+    for line in lines.iter_mut().filter(|line| line[5] != b"~") {
+        if random.chance(1, 8) {
+            line[5] = hex(&long_name(random));
+        }
+    }
 }
 
 fn put_node(random: &mut Random, plan: Plan, place: Place, left: &mut usize, lines: &mut Vec<Line>) {

@@ -140,8 +140,8 @@ pub fn huge_counts(random: &mut Random, kind: Kind) -> Vec<Line> {
     }
 }
 
-/// Three sheets of 65,535 bytes with the longest answers that were found, of import, export and plain form; and a field whose
-/// export can be handed in, but its plain form cannot.
+/// Three sheets of 65,535 bytes with the longest answers that were found, of import, of export, of plain form and the page; and
+/// a field whose export can be handed in, but its plain form cannot.
 pub fn long_answers() -> Vec<Sheet> {
     let leaf = |name: &[u8]| schema_line("g", name, "0", 0, 0);
     let mut import = vec![schema_line("+s", b"i", "0", 5_036, 0), leaf(b"i")];

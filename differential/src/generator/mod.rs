@@ -74,16 +74,23 @@ pub struct Generator {
     pub random: Random,
     /// Sheets at the limits of length are slow: one of so many sheets is one.
     long_one_in: usize,
+    /// Whether field sheets have names about as long as a page shows. The recorded list was begun without them.
+    long_names: bool,
 }
 
 impl Generator {
     pub fn new(seed: u64) -> Generator {
-        Generator { random: Random::new(seed), long_one_in: 400 }
+        Generator { random: Random::new(seed), long_one_in: 400, long_names: true }
+    }
+
+    /// Without the sheets of tens of thousands of bytes, and without the long names.
+    pub fn short(seed: u64) -> Generator {
+        Generator { random: Random::new(seed), long_one_in: 0, long_names: false }
     }
 
     /// Without the sheets of tens of thousands of bytes.
-    pub fn short(seed: u64) -> Generator {
-        Generator { random: Random::new(seed), long_one_in: 0 }
+    pub fn short_with_long_names(seed: u64) -> Generator {
+        Generator { long_names: true, ..Generator::short(seed) }
     }
 
     pub fn sheet(&mut self) -> Sheet {
@@ -104,6 +111,9 @@ impl Generator {
             3..=5 if kind == Kind::Schema => schema::format_alone(&mut self.random),
             _ => self.tree(kind),
         };
+        if kind == Kind::Field && self.long_names {
+            field::lengthen_names(&mut self.random, &mut lines);
+        }
         let damaged = self.random.below(10);
         match damaged {
             0 => damage::damage_lines(&mut self.random, &mut lines),

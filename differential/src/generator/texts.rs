@@ -159,6 +159,15 @@ pub fn text(random: &mut Random) -> Bytes {
     text
 }
 
+/// A name of 23 bytes and more: a page shows 24, and a character may stand across that place.
+pub fn long_name(random: &mut Random) -> Bytes {
+    let mut name = b"n".repeat(random.between(19, 25));
+    while name.len() < 23 || random.chance(1, 3) {
+        name.extend(random.pick(&CHARACTERS));
+    }
+    name
+}
+
 /// A key of a block: few, so that they meet again, and the reserved ones often.
 pub fn key(random: &mut Random) -> Bytes {
     match random.below(8) {

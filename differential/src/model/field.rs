@@ -5,7 +5,7 @@ use super::wrong::Wrong;
 use super::{Bytes, Model};
 use crate::refusal::{Number, LEVELS, LINE, NOT_UTF8};
 
-const HEADING: &[u8] = b"kind p q text more name nullable pairs children";
+pub const HEADING: &[u8] = b"kind p q text more name nullable pairs children";
 
 pub const TIMESTAMP: u8 = 15;
 pub const INTERVAL: u8 = 21;
@@ -79,6 +79,18 @@ pub enum DataType {
 impl DataType {
     pub fn leaf(kind: u8) -> DataType {
         DataType::Leaf { kind, p: 0, q: 0 }
+    }
+
+    /// Its place in `ArrowDataType`.
+    pub fn kind(&self) -> u8 {
+        match self {
+            DataType::Leaf { kind, .. } | DataType::Nested { kind, .. } => *kind,
+            DataType::Timestamp { .. } => TIMESTAMP,
+            DataType::Struct(_) => STRUCT,
+            DataType::Union { .. } => UNION,
+            DataType::Dictionary { .. } => DICTIONARY,
+            DataType::Extension { .. } => EXTENSION,
+        }
     }
 
     /// A type of `IntegerType`, by its place there.

@@ -1,5 +1,5 @@
 //! A second, plain reading of document 01 that does not call the Rust: trees of enums over bytes, every rule written out
-//! once, no thought of speed. It also answers plain form. Each wrong reading is a switch on it.
+//! once, no thought of speed. It also answers plain form, and the page of document 02. Each wrong reading is a switch on it.
 
 // The functions bear the Rust's names, `to_field` and the like, and all take the reading.
 #![allow(clippy::wrong_self_convention)]
@@ -10,6 +10,7 @@ mod format;
 mod import;
 mod mappings;
 mod metadata;
+mod page;
 mod plain;
 mod schema;
 mod text;
@@ -73,6 +74,7 @@ impl Model {
             Call::GetChild => Answer::Sheet(write_bare(&self.get_child(dtype, request.argument)?)),
             Call::IsNested => Answer::Values(self.is_nested(dtype) as u64, 0),
             Call::ContainsDictionary => Answer::Values(self.contains_dictionary(dtype) as u64, 0),
+            Call::Page => Answer::Sheet(self.page(field)?),
             other => unreachable!("{} takes no field sheet", other.name()),
         })
     }

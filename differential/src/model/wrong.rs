@@ -1,5 +1,5 @@
-//! Deliberately wrong readings of document 01, each a switch of the plain reading. A generator is good if its sheets tell
-//! each of them from the Rust.
+//! Deliberately wrong readings of document 01 and of the page, each a switch of the plain reading. A generator is good if its
+//! sheets tell each of them from the Rust, or those of the page, which the Rust has not, from the right one.
 
 macro_rules! wrong_readings {
     ($($variant:ident $what:literal)*) => {
@@ -183,4 +183,28 @@ wrong_readings! {
     RefusalLeavesBytes "a refusal leaves the buffer"
     RestZeroed "bytes past the length become zeros"
     LengthOn16 "16 comes with the length that is needed"
+    // The page; these stand last.
+    PageHeading "the heading becomes a line of the page"
+    PageLevelZero "a page counts its levels from 0"
+    PageLevelLeft "a page's level is left-justified"
+    PageInnerDeeper "a page shows an extension's inner line one level deeper"
+    PageInnerExtension "a page shows an extension in an extension on its level"
+    PageKindSpelling "a page spells UInt as Uint"
+    PageBareNot "a page shows a bare line as not nullable"
+    PageBareName "a page shows the name of a bare line as ~"
+    PageEmptyName "a page shows an empty name as -"
+    PageNameText "a page shows a name's text, not its hexadecimal"
+    PagePlusAt24 "a name of 24 bytes has a + on its page"
+    PagePlusLacks "a name that was cut has no + on its page"
+    PageWholeCharacters "a page cuts a name before the character that the cut would part"
+    PageTrimmed "a page's lines do not end in spaces"
+    PageLastOpen "a page's last line lacks byte 10"
+    PageExportable "a field that cannot be exported has no page"
+}
+
+impl Wrong {
+    /// Whether it is one of the page.
+    pub fn is_of_page(self) -> bool {
+        self as usize >= Wrong::PageHeading as usize
+    }
 }

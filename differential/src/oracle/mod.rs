@@ -36,7 +36,7 @@ impl Rust {
         Rust { blocks: Blocks::new() }
     }
 
-    /// Must not be asked for plain form, which the Rust does not have.
+    /// Must not be asked for plain form or the page, which the Rust does not have.
     pub fn answer(&self, request: Request, sheet: &[u8]) -> Answered {
         if !request.call.writes() {
             return values(request.call, &field_sheet::read(sheet)?.dtype);
@@ -55,6 +55,12 @@ impl Rust {
             Call::FromPrimitiveType => from_primitive_type(request.argument, out),
             _ => mapped(request, &field_sheet::read(sheet)?, out),
         }
+    }
+
+    /// The type of a field sheet as `ArrowDataType` spells it, without what it holds.
+    pub fn kind_name(&self, sheet: &[u8]) -> Result<String, Number> {
+        let spelt = format!("{:?}", field_sheet::read(sheet)?.dtype);
+        Ok(spelt.chars().take_while(char::is_ascii_alphanumeric).collect())
     }
 
     /// `import_field_from_c`, from sheet to sheet.

@@ -1,5 +1,8 @@
 //! What stands in the recorded list: cases made by hand, all kinds, the published formats, the limits, the smallest sheets
-//! that tell the wrong readings, and generated sheets until each call has given each of its numbers often enough.
+//! that tell the wrong readings, and generated sheets until each call has given each of its numbers often enough. The page,
+//! which came later, has stages of its own at the end, so that what stands before them stays as it is.
+
+mod page;
 
 use std::collections::HashSet;
 
@@ -49,6 +52,7 @@ pub fn choose(rust: &Rust, seed: u64) -> Result<Vec<Record>, String> {
     chooser.limits(seed)?;
     chooser.wrong_readings(seed)?;
     chooser.generated(seed)?;
+    chooser.pages(seed)?;
     chooser.check_numbers()?;
     chooser.check_readings()?;
     Ok(chooser.records)
@@ -59,7 +63,7 @@ fn numbers_of(call: Call) -> &'static [u8] {
     match call {
         Call::Import => &[0, 1, 2, 3, 4, 5, 6, 7, 8, 9, 10, 11, 16],
         Call::Export => &[0, 1, 2, 3, 12, 13, 14, 16],
-        Call::Plain | Call::ToStorage => &[0, 1, 2, 3, 16],
+        Call::Plain | Call::ToStorage | Call::Page => &[0, 1, 2, 3, 16],
         Call::ToPhysicalType => &[0, 1, 2, 3, 15],
         Call::IsNested | Call::ContainsDictionary => &[0, 1, 2, 3],
         Call::FromIntegerType | Call::FromPrimitiveType => &[0, 15, 16],
@@ -75,13 +79,21 @@ fn sheet_of(kind: Kind, lines: &[&str]) -> Vec<u8> {
     join_lines(kind, &lines.iter().map(columns).collect::<Vec<_>>())
 }
 
+/// The calls that read a field sheet, but the page.
 fn field_calls() -> impl Iterator<Item = Request> {
-    let calls = CALLS.iter().map(|(call, _)| *call).filter(|call| call.input() == Input::FieldSheet);
-    calls.map(|call| Request::new(call, 0))
+    let reads = |call: &Call| call.input() == Input::FieldSheet && *call != Call::Page;
+    CALLS.iter().map(|(call, _)| *call).filter(reads).map(|call| Request::new(call, 0))
+}
+
+/// The requests that a sheet of this kind can be put to, but the page.
+fn requests_but_page(random: &mut Random, kind: Kind) -> Vec<Request> {
+    let mut requests = requests(random, kind);
+    requests.retain(|request| request.call != Call::Page);
+    requests
 }
 
 impl Chooser<'_> {
-    /// The Rust's answer, or the plain reading's for plain form; both must agree.
+    /// The Rust's answer, or the plain reading's for what the Rust has not; both must agree.
     fn answer(&self, request: Request, sheet: &[u8]) -> Result<Answered, String> {
         let model = self.model.answer(request, sheet);
         if request.call.is_in_rust() && self.rust.answer(request, sheet) != model {
@@ -270,14 +282,14 @@ impl Chooser<'_> {
     /// The smallest cases that tell each wrong reading from the Rust, two of each.
     fn wrong_readings(&mut self, seed: u64) -> Result<(), String> {
         let mut left: Vec<(Wrong, u8)> = WRONG_READINGS.iter().map(|(wrong, _)| (*wrong, 2)).collect();
-        left.retain(|(wrong, _)| !is_about_length(*wrong));
+        left.retain(|(wrong, _)| !is_about_length(*wrong) && !wrong.is_of_page());
         let mut generator = Generator::short(seed);
         for _ in 0..TRIED {
             if left.is_empty() {
                 return Ok(());
             }
             let sheet = generator.sheet();
-            for request in requests(&mut generator.random, sheet.kind) {
+            for request in requests_but_page(&mut generator.random, sheet.kind) {
                 let answered = self.answer(request, &sheet.bytes)?;
                 let room = room(&mut generator.random, &answered);
                 for (wrong, cases) in &mut left {
@@ -298,7 +310,7 @@ impl Chooser<'_> {
         let case = Case { request, sheet, room };
         let right = Outcome::of(&self.model.answer(request, sheet), case.lent());
         let told = Model::wrongly(wrong).outcome(request, sheet, case.lent()) != right;
-        told && (request.call.is_in_rust() || matches!(comes_back(self.rust, &self.model, sheet), Ok(Some(_))))
+        told && (request.call != Call::Plain || matches!(comes_back(self.rust, &self.model, sheet), Ok(Some(_))))
     }
 
     /// Generated sheets until each call has given each number so often.
@@ -307,7 +319,7 @@ impl Chooser<'_> {
         let mut generator = Generator::short(seed.wrapping_add(1));
         for _ in 0..TRIED {
             let Sheet { kind, bytes } = generator.sheet();
-            for request in requests(&mut generator.random, kind) {
+            for request in requests_but_page(&mut generator.random, kind) {
                 let answered = self.answer(request, &bytes)?;
                 let record = Record::of(request, room(&mut generator.random, &answered), &bytes, &answered);
                 let count = &mut counts[request.call as usize][record.number as usize];

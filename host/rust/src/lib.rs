@@ -1,7 +1,7 @@
 //! Schemas over the Arrow C data interface as sheets of bytes: the calls of the library `libjuzontefa.a` as safe functions.
 //!
-//! Each takes any bytes and gives an answer or a [`Refusal`]. A call that answers a sheet writes it to the start of the buffer that
-//! is lent and gives its length; the bytes past it keep what they held. On refusal the whole buffer is zeros. The sheet that is
+//! Each takes any bytes and gives an answer or a [`Refusal`]. A call that answers a sheet, or a page of one, writes it to the start of
+//! the buffer that is lent and gives its length; the bytes past it keep what they held. On refusal the whole buffer is zeros. The sheet that is
 //! handed in is never changed. Nothing is allocated, and nothing is kept between calls.
 //!
 //! A schema sheet goes to [`import`]; all other calls read a field sheet, but for the two conversions, which take a place in an
@@ -40,7 +40,7 @@ mod rooms;
 mod told;
 
 pub use refusal::{Party, Refusal};
-pub use rooms::{export_room, import_room, mapping_room, plain_form_room, CONVERTED_ROOM, LONGEST_SHEET, STACK};
+pub use rooms::{export_room, import_room, mapping_room, page_room, plain_form_room, CONVERTED_ROOM, LONGEST_SHEET, STACK};
 use told::{length_of, refused, trip_of, yes_or_no};
 
 /// A physical type by two places, each from 0 in the order in which the Rust declares it.
@@ -146,6 +146,30 @@ pub fn export(sheet: &[u8], out: &mut [u8]) -> Result<usize, Refusal> {
 /// ```
 pub fn plain_form(sheet: &[u8], out: &mut [u8]) -> Result<usize, Refusal> {
     to_sheet(raw::juzontefa_plain_form, sheet, out)
+}
+
+/// The page of a field sheet, for people to read: one line of 72 bytes and a byte 10 for each line of the sheet below its heading, in
+/// the sheet's order. It has the level, right-justified in 3, the kind's name as the Rust's `ArrowDataType` spells it, left-justified in
+/// 16, `y` for nullable, `n` for not or `.` for a bare line, and the name's first 24 bytes in hexadecimal, left-justified in 48, each
+/// with a space before the next; at the end `+` if the name has more bytes than those, else a space. An empty name and a bare line show
+/// 48 spaces. A field that cannot be exported has a page too. A buffer of [`page_room`] is long enough.
+///
+/// ```
+/// use juzontefa::{page, page_room};
+///
+/// // a dictionary named peak, whose values are Utf8
+/// const SHEET: &[u8] = b"kind p q text more name nullable pairs children\n32 5 1 ~ ~ 7065616b 1 ~ 1\n25 0 0 ~ ~ ~ ~ ~ 0\n";
+/// let mut out = [0; page_room(SHEET.len())];
+/// let length = page(SHEET, &mut out)?;
+/// let spaces = " ".repeat(40);
+/// assert_eq!(
+///     String::from_utf8_lossy(&out[..length]),
+///     format!("  1 Dictionary       y 7065616b{spaces} \n  2 Utf8             .         {spaces} \n")
+/// );
+/// # Ok::<(), juzontefa::Refusal>(())
+/// ```
+pub fn page(sheet: &[u8], out: &mut [u8]) -> Result<usize, Refusal> {
+    to_sheet(raw::juzontefa_page, sheet, out)
 }
 
 /// The field with its type replaced by what it is kept as: dates, times, timestamps, durations and decimals become integers, in lists

@@ -5,7 +5,7 @@
 // A host need not use all of them: one that is not called is not asked of the library.
 #![allow(dead_code)]
 
-/// Of a call that writes a sheet.
+/// Of a call that writes a sheet or a page.
 #[repr(C)]
 pub struct Answer {
     pub number: u64,
@@ -35,13 +35,14 @@ pub struct Trip {
     pub number: u64,
 }
 
-/// A sheet, and a buffer for a sheet.
+/// A sheet, and a buffer for a sheet or a page.
 pub type ToSheet = unsafe extern "C" fn(*const u8, usize, *mut u8, usize) -> Answer;
 
 extern "C" {
     pub fn juzontefa_import(sheet: *const u8, sheet_len: usize, out: *mut u8, out_len: usize) -> Answer;
     pub fn juzontefa_export(sheet: *const u8, sheet_len: usize, out: *mut u8, out_len: usize) -> Answer;
     pub fn juzontefa_plain_form(sheet: *const u8, sheet_len: usize, out: *mut u8, out_len: usize) -> Answer;
+    pub fn juzontefa_page(sheet: *const u8, sheet_len: usize, out: *mut u8, out_len: usize) -> Answer;
     pub fn juzontefa_underlying_physical_type(sheet: *const u8, sheet_len: usize, out: *mut u8, out_len: usize) -> Answer;
     pub fn juzontefa_to_storage(sheet: *const u8, sheet_len: usize, out: *mut u8, out_len: usize) -> Answer;
     pub fn juzontefa_to_storage_recursive(sheet: *const u8, sheet_len: usize, out: *mut u8, out_len: usize) -> Answer;

@@ -54,6 +54,17 @@ pub const fn plain_form_room(sheet_len: usize) -> usize {
     part(sheet_len, 23, 18)
 }
 
+/// A buffer that is long enough for the page of a field sheet of so many bytes: a line of the sheet has 18 bytes or more, and one of
+/// the page 73.
+///
+/// ```
+/// assert_eq!(juzontefa::page_room(100), 405);
+/// assert_eq!(juzontefa::page_room(usize::MAX), 265_780);
+/// ```
+pub const fn page_room(sheet_len: usize) -> usize {
+    part(sheet_len, 73, 18)
+}
+
 /// A buffer that is long enough for what `to_storage`, `to_storage_recursive`, `underlying_physical_type`, `inner_dtype` and
 /// `get_child` answer to a field sheet of so many bytes: an answer of theirs is never longer than its sheet.
 ///

@@ -6,7 +6,7 @@ use juzontefa::*;
 use list::{records, Record};
 
 /// How many records there are.
-const RECORDS: usize = 3261;
+const RECORDS: usize = 3559;
 /// What a lent buffer holds before a call.
 const FILLER: u8 = 0xa5;
 
@@ -29,7 +29,7 @@ fn refused(refusal: Refusal) -> Numbers {
     [refusal.number(), 0, 0]
 }
 
-/// What the call of a code answers; `out` is lent to those that write a sheet.
+/// What the call of a code answers; `out` is lent to those that write a sheet or a page.
 fn ask(record: &Record, out: &mut [u8]) -> Numbers {
     let (sheet, argument) = (&record.input[..], record.argument);
     match record.call {
@@ -46,11 +46,12 @@ fn ask(record: &Record, out: &mut [u8]) -> Numbers {
         10 => of_yes_no(contains_dictionary(sheet)),
         11 => of_sheet(from_integer_type(argument, out)),
         12 => of_sheet(from_primitive_type(argument, out)),
+        13 => of_sheet(page(sheet, out)),
         code => panic!("no call has the code {code}"),
     }
 }
 
-/// A buffer that is long enough, whatever the sheet is; none for the calls that write no sheet.
+/// A buffer that is long enough, whatever the sheet is; none for the calls that write nothing.
 fn ample(record: &Record) -> Option<usize> {
     let n = record.input.len();
     match record.call {
@@ -59,6 +60,7 @@ fn ample(record: &Record) -> Option<usize> {
         2 => Some(plain_form_room(n)),
         4..=8 => Some(mapping_room(n)),
         11 | 12 => Some(CONVERTED_ROOM),
+        13 => Some(page_room(n)),
         _ => None,
     }
 }
@@ -131,8 +133,8 @@ fn steps(sheet: &[u8], buffers: &mut [Vec<u8>; 4]) -> Trip {
 
 #[test]
 fn trips_are_their_steps() {
-    let mut sheets: Vec<Vec<u8>> =
-        records().into_iter().filter(|record| (1..=10).contains(&record.call)).map(|record| record.input).collect();
+    let reads_field = |record: &Record| matches!(record.call, 1..=10 | 13);
+    let mut sheets: Vec<Vec<u8>> = records().into_iter().filter(reads_field).map(|record| record.input).collect();
     sheets.sort();
     sheets.dedup();
     let (mut same, mut differ, mut refused) = (0, 0, 0);
