@@ -26,9 +26,8 @@ use Rattle.sheets.specs.Export.{flag}
 use Rattle.sheets.specs.Walk.{Step, writes, lineWritten, typeWalk, rowWalk}
 use Rattle.sheets.specs.ExportSteps.{Bearer, orValues, extensionIn, schemaOwn, schemaStep}
 use Rattle.sheets.proofs.Tests.{never}
-use Rattle.sheets.proofs.FieldTrees.{fields-lawful, below-kind}
+use Rattle.sheets.proofs.FieldTrees.{fields-lawful}
 use Rattle.sheets.proofs.LineTrees.{standing-many}
-use Rattle.sheets.proofs.TreeWalks.{line-below}
 use Rattle.sheets.proofs.ExportSteps.{export-opened}
 use Rattle.buffer.specs.Over.{over}
 use Rattle.column_text.specs.ColumnText.{hasZero}
@@ -49,6 +48,7 @@ use Rattle.walks.specs.declared.Subtrees.{Subtrees}
 use Rattle.storage_line.specs.StorageLines.{StorageAt}
 use Rattle.storage_line.specs.Below.{RowLeft}
 use Rattle.storage_line.specs.declared.StorageLine.{StorageLine}
+use Rattle.line_below.proofs.LineLaws.{line-opened, line-rule, line-kind, line-p, line-count, line-extension}
 use Rattle.storage_line.proofs.BelowLaws as Storage
 use Rattle.export_line.specs.Begins.{isAlone, columnsFrom, numbersOf, zeroPending, begunWith}
 use Rattle.export_line.proofs.ColumnLaws.{is-part, part-short, part-text, name-column, pairs-column, nullable-is, name-is, extensionName, extensionMore, extension-said, extension-rules, more-said, name-said, can-format, line-format, line-said}
@@ -77,7 +77,7 @@ module _ {s : Bytes} (tree : Subtree) {i : Option Info} {t : ArrowDataType} {es 
   -- ── what the lines say
 
   head : entryHead (i, t) ≡ a .line
-  head = line-below fields-lawful (a .there) (i, t) es (f .stands) .0
+  head = line-opened (f .stands) a .0
 
   shown : Shows s first (entryHead (i, t))
   shown = subst (Shows s first) (sym head) (a .shows)
@@ -86,25 +86,25 @@ module _ {s : Bytes} (tree : Subtree) {i : Option Info} {t : ArrowDataType} {es 
   own-rules = let o = subst (λ (h : Head). Meets (fields .own h)) (sym head) (a .there .own) in (o .0, o .1)
 
   inner-rule : Meets (shapeRule inner)
-  inner-rule = Storage.rule-kept tree f g
+  inner-rule = line-rule (g .type .stands) (g .line)
 
   shape-is : inner ≡ g .line .line .shape
-  shape-is = ap (λ (h : Head). h .shape) (Storage.head-is tree f g .0)
+  shape-is = ap (λ (h : Head). h .shape) (line-opened (g .type .stands) (g .line) .0)
 
   kind-is : l .kind ≡ columns inner .kind
-  kind-is = Storage.kind-is tree f g
+  kind-is = line-kind (g .type .stands) (g .line)
 
   p-is : l .p ≡ columns inner .p
-  p-is = Storage.p-is tree f g
+  p-is = line-p (g .type .stands) (g .line)
 
   q-is : l .q ≡ columns inner .q
   q-is = g .line .shows .q ∙ ap (λ (h : Shape). columns h .q) (sym shape-is)
 
   count-is : l .children ≡ typeCount (toStorage t)
-  count-is = Storage.count-is tree f g
+  count-is = line-count (g .type .stands) (g .line)
 
   outer-is : eqb (first .kind) Kind.Extension ≡ isExtension (typeShape t)
-  outer-is = ap (λ (k : ℕ). eqb k Kind.Extension) (shown .kind) ∙ sym (below-kind (typeShape t) (own-rules .1) .0)
+  outer-is = line-extension (f .stands) a
 
   inner-is : eqb (l .kind) Kind.Dictionary ≡ isDictionary inner
   inner-is = ap (λ (k : ℕ). eqb k Kind.Dictionary) kind-is ∙ dictionary-kind inner inner-rule
@@ -292,8 +292,8 @@ module _ {s : Bytes} (tree : Subtree) {i : Option Info} {t : ArrowDataType} {es 
 
     -- the same by the parts of the sheet and by what is answered
     pub begins : (c : LineColumns) (n : LineNumbers) → c ≡ columnsFrom first l → n ≡ numbersOf (first .bare || first .nullable) alone (l .kind) (l .p) (l .q) (l .children)
-        → (r : Exported) → LinePut s c n r old out → (z : LineBegun) → begunAnswer (λ (inside : Bool). none) z ≡ begunWith w (exportedAnswer r)
-        → BeginsAs schemaStep s (tree .at) (tree .levels) (tree .inside) (typeWalk schemaStep t i none) es old out (begunAnswer (λ (inside : Bool). none) z)
+        → (r : Exported) → LinePut s c n r old out → (z : LineBegun) → begunAnswer (λ (levels : ℕ) (inside : Bool). none) z ≡ begunWith w (exportedAnswer r)
+        → BeginsAs schemaStep s (tree .at) (tree .levels) (tree .inside) (typeWalk schemaStep t i none) es old out (begunAnswer (λ (levels : ℕ) (inside : Bool). none) z)
     begins c n e d r p z k =
         subst (BeginsAs schemaStep s (tree .at) (tree .levels) (tree .inside) (typeWalk schemaStep t i none) es old out) (sym k)
         (told r

@@ -61,4 +61,4 @@ begunWith w (given (len, zero)) =
 
 -- what export writes for the field at `tree`, and what is left below; no line is visited in a state
 abbrev pub ExportBegins : Bytes → Subtree → Bytes → Bytes → LineBegun → Type 0
-ExportBegins s t out out' r = TypeBegins schemaStep s (t .at) (t .levels) (t .inside) none out out' (begunAnswer (λ (inside : Bool). none) r)
+ExportBegins s t out out' r = TypeBegins schemaStep s (t .at) (t .levels) (t .inside) none out out' (begunAnswer (λ (levels : ℕ) (inside : Bool). none) r)

@@ -102,7 +102,7 @@ fn pending_of(zero: bool) -> Pending
 
 // No format: refused at once. Byte 00: refused after what is below.
 fn line_begun(row: Subtrees, line: Exported) -> LineBegun
-    ensures { λ r. ⌜ begunAnswer (λ inside. none) r ≡ begunWith row (exportedAnswer line) ⌝ }
+    ensures { λ r. ⌜ begunAnswer (λ levels inside. none) r ≡ begunWith row (exportedAnswer line) ⌝ }
 {
     match line {
         Exported::Refused(why) => LineBegun::Refused(why),

@@ -1,43 +1,45 @@
 -- What each call that takes a field sheet answers (`Outcome`), and what writing its sheet tells. Assumes nothing.
 use mathlib.Core.Path.{_≡_}
 use mathlib.Core.Bool.{false}
-use mathlib.Core.List.{List}
+use mathlib.Core.List.{List, [], _++_}
 use mathlib.Core.Option.{some}
 use Prim.Native.Nat.{ℕ}
 use Rattle.sheets.specs.Bytes.{Bytes}
 use Rattle.sheets.specs.Answer.{Answer, given, _>>=_}
-use Rattle.sheets.specs.Sheet.{levelLimit, writeSheet}
+use Rattle.sheets.specs.Sheet.{levelLimit, ended, headingLine}
 use Rattle.sheets.specs.Schema.{schemaHeading}
 use Rattle.sheets.specs.Field.{Info, ArrowDataType}
 use Rattle.sheets.specs.FieldSheet.{Entry, fieldHeading}
 use Rattle.sheets.specs.Mappings.{toStorageRecursive, underlyingPhysicalType}
-use Rattle.sheets.specs.Outcome.{Outcome, outcome, exported, plained, mapped}
+use Rattle.sheets.specs.Outcome.{Outcome, outcome, exported, plained, mapped, paged}
 use Rattle.sheets.specs.Walk.{typeWalk}
 use Rattle.outcome.specs.Answers.{SheetTold}
 use Rattle.walks.specs.Places.{TypeAt}
 use Rattle.walks.specs.Answers.{stepAnswer}
 use Rattle.walks.specs.declared.Step.{Step}
 use Rattle.field_walk.specs.declared.Call.{Call}
-use Rattle.field_walk.specs.declared.Call.the-variants.{Export, Plain, ToStorageRecursive, UnderlyingPhysicalType}
+use Rattle.field_walk.specs.declared.Call.the-variants.{Export, Plain, ToStorageRecursive, UnderlyingPhysicalType, Page}
 use Rattle.field_walk.specs.Calls.{stepOf, stateOf}
 
--- ── the sheet that is answered, or the refusal
+-- ── what is answered, or the refusal
 
 abbrev pub answerOf : Call → Bytes → Answer Bytes
 answerOf Export = exported
 answerOf Plain = plained
 answerOf ToStorageRecursive = mapped toStorageRecursive
 answerOf UnderlyingPhysicalType = mapped underlyingPhysicalType
+answerOf Page = paged
 
 abbrev pub callOutcome : Call → Bytes → Bytes → Outcome
 callOutcome c s out = outcome (answerOf c s) out
 
--- the heading of the answer: export answers a schema sheet, all others a field sheet
-abbrev pub headingOf : Call → Bytes
-headingOf Export = schemaHeading
-headingOf Plain = fieldHeading
-headingOf ToStorageRecursive = fieldHeading
-headingOf UnderlyingPhysicalType = fieldHeading
+-- what stands before the lines of the answer: export answers a schema sheet, plain form and the mappings a field sheet, and a page has no heading
+abbrev pub openingOf : Call → Bytes
+openingOf Export = headingLine schemaHeading
+openingOf Plain = headingLine fieldHeading
+openingOf ToStorageRecursive = headingLine fieldHeading
+openingOf UnderlyingPhysicalType = headingLine fieldHeading
+openingOf Page = []
 
 -- ── what is required and told
 
@@ -45,9 +47,9 @@ headingOf UnderlyingPhysicalType = fieldHeading
 abbrev pub HasField : Bytes → ℕ → Type 0
 HasField s at = (i : Info) × (t : ArrowDataType) × (es : List Entry) × TypeAt s at levelLimit false (some i) t es
 
--- the sheet that the call makes of a type
+-- what the call answers for a type
 abbrev pub sheetFor : Call → Info → ArrowDataType → Answer Bytes
-sheetFor c i t = typeWalk (stepOf c) t (some i) (stateOf c false) >>= λ ls. given (writeSheet (headingOf c) ls)
+sheetFor c i t = typeWalk (stepOf c) t (some i) (stateOf c levelLimit false) >>= λ ls. given (openingOf c ++ ended ls)
 
 abbrev pub SheetWrote : Call → Bytes → ℕ → Bytes → Bytes → Step → Type 0
 SheetWrote c s at out out' r = (i : Info) (t : ArrowDataType) (es : List Entry) → TypeAt s at levelLimit false (some i) t es → SheetTold (sheetFor c i t) out out' (stepAnswer r)

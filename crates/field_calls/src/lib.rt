@@ -1,34 +1,34 @@
-// The calls that take a field sheet's bytes and answer a sheet in a lent buffer.
+// The calls that take a field sheet's bytes and answer a sheet, or a page, in a lent buffer.
 ghost use mathlib.Core.Path.{_≡_};
-ghost use Rattle.sheets.specs.Sheet.{headingLine};
-ghost use Rattle.sheets.specs.Outcome.{exportOutcome, plainOutcome, toStorageRecursiveOutcome, underlyingPhysicalTypeOutcome};
+ghost use Rattle.sheets.specs.Outcome.{exportOutcome, plainOutcome, toStorageRecursiveOutcome, underlyingPhysicalTypeOutcome, pageOutcome};
 ghost use Rattle.buffer.specs.Over.{PutAt};
 ghost use Rattle.outcome.specs.Answers.{outcomeOf};
-ghost use Rattle.field_calls.specs.Answers.{headingOf, callOutcome, HasField, SheetWrote};
+ghost use Rattle.field_calls.specs.Answers.{openingOf, callOutcome, HasField, SheetWrote};
 use field_sheet::SheetRead;
 use field_walk::Call;
 use outcome::Answered;
 use walks::Step;
 use walks::Subtree;
 
-// Writes the heading of the answer and its byte 10, as far as they fit; their length.
-fn put_heading(call: Call, out: &mut [u8]) -> usize
-    ensures { λ r. ⌜ PutAt 0 (headingLine (headingOf call)) r (now (out .entry)) (now (out .exit)) ⌝ }
+// Writes what stands before the lines of the answer, as far as it fits; its length.
+fn put_opening(call: Call, out: &mut [u8]) -> usize
+    ensures { λ r. ⌜ PutAt 0 (openingOf call) r (now (out .entry)) (now (out .exit)) ⌝ }
 {
     match call {
         Call::Export => buffer::put_at(out, 0, b"format name flags metadata children dictionary\n"),
         Call::Plain => field_line::put_heading(out),
         Call::ToStorageRecursive => field_line::put_heading(out),
         Call::UnderlyingPhysicalType => field_line::put_heading(out),
+        Call::Page => 0,
     }
 }
 
-// Writes the heading and the lines, as far as they fit.
+// Writes the opening and the lines, as far as they fit.
 fn put_sheet(call: Call, s: &[u8], at: usize, out: &mut [u8]) -> Step
     requires { ⌜ HasField (now s) at ⌝ }
     ensures { λ r. ⌜ SheetWrote call (now (s .entry)) at (now (out .entry)) (now (out .exit)) r ⌝ }
 {
-    let head = put_heading(call, out);
+    let head = put_opening(call, out);
     let w = buffer::within(head, out.len());
     let tree = Subtree {
         at,
@@ -83,4 +83,11 @@ pub fn underlying_physical_type(s: &[u8], out: &mut [u8]) -> Answered
     ensures { λ r. ⌜ outcomeOf (r .number) (r .length) (now (out .exit)) ≡ underlyingPhysicalTypeOutcome (now (s .entry)) (now (out .entry)) ⌝ }
 {
     answer(Call::UnderlyingPhysicalType, s, out)
+}
+
+// The page of a field sheet.
+pub fn page(s: &[u8], out: &mut [u8]) -> Answered
+    ensures { λ r. ⌜ outcomeOf (r .number) (r .length) (now (out .exit)) ≡ pageOutcome (now (s .entry)) (now (out .entry)) ⌝ }
+{
+    answer(Call::Page, s, out)
 }

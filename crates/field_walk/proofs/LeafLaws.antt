@@ -1,7 +1,7 @@
 -- A leaf's short line that was written at once is the whole of the type that stands there: what the walk of each call comes to. Assumes nothing.
 use mathlib.Core.Path.{_≡_, refl, sym, ap, ap₂, subst, _∙_}
 use mathlib.Core.Bool.{Bool, true, false, not, _&&_, cond, true≢false}
-use mathlib.Core.List.{List, _∷_, _++_}
+use mathlib.Core.List.{List, [], _∷_, _++_}
 use mathlib.Core.Option.{Option, none, some}
 use Prim.Native.Nat.{ℕ, _+_, _*_, _≤_}
 use native.Mathlib.Omega.{arith}
@@ -22,6 +22,8 @@ use Rattle.sheets.specs.Walk.{typeWalk}
 use Rattle.sheets.specs.ExportSteps.{schemaStep}
 use Rattle.sheets.specs.PlainSteps.{plainStep}
 use Rattle.sheets.specs.MappingSteps.{storageChange, underlyingChange, changeStep}
+use Rattle.sheets.specs.Page.{pageLine}
+use Rattle.sheets.specs.PageSteps.{levelOf, pageStep}
 use Rattle.sheets.proofs.Tests.{and-left}
 use Rattle.sheets.proofs.FieldTrees.{fields-lawful}
 use Rattle.sheets.proofs.TreeWalks.{line-below}
@@ -29,6 +31,7 @@ use Rattle.sheets.proofs.ExportSteps.{type-exported}
 use Rattle.sheets.proofs.MappingSteps.{type-underlying}
 use Rattle.field_leaf.specs.FieldLeaves.{isShort, leafInfo, leafField, leafHead, FieldLeafAt}
 use Rattle.put_schema_leaf.specs.Written.{SchemaLeafTold, isCopied, LeafCopyTold}
+use Rattle.page_line.specs.PageLeaves.{PageLeafTold}
 use Rattle.datatypes.specs.At.{firstAt}
 use Rattle.datatypes.proofs.AtLaws.{apart}
 use Rattle.mapping_line.specs.Changes.{changedKinds, underlyingKind}
@@ -40,7 +43,7 @@ use Rattle.walks.specs.Answers.{putOption}
 use Rattle.walks.specs.declared.LeafPut.{LeafPut}
 use Rattle.walks.specs.declared.Subtree.{Subtree}
 use Rattle.field_walk.specs.declared.Call.{Call}
-use Rattle.field_walk.specs.declared.Call.the-variants.{Export, Plain, ToStorageRecursive, UnderlyingPhysicalType}
+use Rattle.field_walk.specs.declared.Call.the-variants.{Export, Plain, ToStorageRecursive, UnderlyingPhysicalType, Page}
 use Rattle.field_walk.specs.declared.LeafLine.the-variants as L
 use Rattle.field_walk.specs.Calls.{leafLineOf, CallLeafWrote}
 
@@ -89,6 +92,12 @@ module _ {s : Bytes} {at kind from e n : ℕ} (k : FieldLeafAt s at kind from e 
 
 not-schema : {d : Bool} → L.Same d ≡ L.Schema → ⊥
 not-schema e = let z : _≡_ {A = ℕ} 0 1 = cc in omega arith
+
+page-schema : L.Page ≡ L.Schema → ⊥
+page-schema e = let z : _≡_ {A = ℕ} 0 1 = cc in omega arith
+
+page-same : {d : Bool} → L.Page ≡ L.Same d → ⊥
+page-same e = let z : _≡_ {A = ℕ} 0 1 = cc in omega arith
 
 same-dates : {x y : Bool} → L.Same x ≡ L.Same y → x ≡ y
 same-dates e = cc
@@ -158,6 +167,21 @@ module _ (s : Bytes) (at levels : ℕ) (inside : Bool) (out out' : Bytes) where
         omega (arith, w .after, k .high),
       )
 
+-- the page: its line of the leaf
+leaf-paged : (s : Bytes) (tree : Subtree) (out out' : Bytes) (o : Option (ℕ × ℕ)) → PageLeafTold s tree out out' o
+    → LeafWrote pageStep s (tree .at) (tree .levels) (tree .inside) (tree .levels, tree .inside) out out' o
+leaf-paged s tree out out' none w = w
+leaf-paged s tree out out' (some (next, len)) w =
+    λ i t es h.
+    let k = w .leaf in (
+      pageLine (levelOf (tree .levels) (tree .inside) false) (leafHead (w .kind) (k .bytes) (w .nullable)) ∷ [],
+      ap₂ (λ (u : ArrowDataType) (j : Option Info). typeWalk pageStep u j (tree .levels, tree .inside)) (is-type k i t es (h .stands)) (is-info k i t es (h .stands)),
+      w .put,
+      rest-stands k i t es (h .stands) next (w .after),
+      omega (arith, w .short, w .after, k .begins, k .long),
+      omega (arith, w .after, k .high),
+    )
+
 -- ── by the call
 
 module _ (s : Bytes) (t : Subtree) (out out' : Bytes) (r : LeafPut) where
@@ -166,9 +190,18 @@ module _ (s : Bytes) (t : Subtree) (out out' : Bytes) (r : LeafPut) where
   schema-written Plain e w = absurd (not-schema e)
   schema-written ToStorageRecursive e w = absurd (not-schema e)
   schema-written UnderlyingPhysicalType e w = absurd (not-schema e)
+  schema-written Page e w = absurd (page-schema e)
 
   pub same-written : (c : Call) (dates : Bool) → leafLineOf c ≡ L.Same dates → LeafCopyTold s (t .at) dates out out' (putOption r) → CallLeafWrote c s t out out' r
   same-written Export d e w = absurd (not-schema (sym e))
   same-written Plain d e w = leaf-plain s (t .at) (t .levels) (t .inside) out out' (putOption r) (subst (λ (x : Bool). LeafCopyTold s (t .at) x out out' (putOption r)) (sym (same-dates e)) w)
   same-written ToStorageRecursive d e w = leaf-stored s (t .at) (t .levels) (t .inside) out out' (putOption r) (subst (λ (x : Bool). LeafCopyTold s (t .at) x out out' (putOption r)) (sym (same-dates e)) w)
   same-written UnderlyingPhysicalType d e w = leaf-underlying s (t .at) (t .levels) (t .inside) out out' (putOption r) (subst (λ (x : Bool). LeafCopyTold s (t .at) x out out' (putOption r)) (sym (same-dates e)) w)
+  same-written Page d e w = absurd (page-same e)
+
+  pub page-written : (c : Call) → leafLineOf c ≡ L.Page → PageLeafTold s t out out' (putOption r) → CallLeafWrote c s t out out' r
+  page-written Export e w = absurd (page-schema (sym e))
+  page-written Plain e w = absurd (page-same (sym e))
+  page-written ToStorageRecursive e w = absurd (page-same (sym e))
+  page-written UnderlyingPhysicalType e w = absurd (page-same (sym e))
+  page-written Page e w = leaf-paged s t out out' (putOption r) w

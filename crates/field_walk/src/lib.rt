@@ -1,4 +1,4 @@
-// The walk over the lines of a field sheet, once for every call that answers a sheet for it: the lines that a call makes of a type are written line by line
+// The walk over the lines of a field sheet, once for every call that answers lines for it: the lines that a call makes of a type are written line by line
 // into a lent buffer, by a recursion on the levels left.
 ghost use mathlib.Core.Path.{_≡_};
 ghost use Rattle.walks.specs.Places.{HasType, HasRow};
@@ -16,6 +16,7 @@ pub enum Call {
     Plain,
     ToStorageRecursive,
     UnderlyingPhysicalType,
+    Page,
 }
 
 // A call is one case here: what it writes for the line at `at`, and what is left to be visited below.
@@ -33,13 +34,15 @@ fn begin_line(call: Call, s: &[u8], tree: Subtree, out: &mut [u8]) -> LineBegun
             tree,
             out,
         ),
+        Call::Page => page_line::begin_page(s, tree, out),
     }
 }
 
-// What a call writes for a leaf's short line: a schema line, or the line as it stands, that of a date among them or not.
+// What a call writes for a leaf's short line: a schema line, a line of the page, or the line as it stands, that of a date among them or not.
 enum LeafLine {
     Schema,
     Same(bool),
+    Page,
 }
 
 fn leaf_line(call: Call) -> LeafLine
@@ -50,6 +53,7 @@ fn leaf_line(call: Call) -> LeafLine
         Call::Plain => LeafLine::Same(true),
         Call::ToStorageRecursive => LeafLine::Same(true),
         Call::UnderlyingPhysicalType => LeafLine::Same(false),
+        Call::Page => LeafLine::Page,
     }
 }
 
@@ -60,6 +64,7 @@ fn put_leaf(call: Call, s: &[u8], tree: Subtree, out: &mut [u8]) -> LeafPut
     match leaf_line(call) {
         LeafLine::Schema => put_schema_leaf::put_schema_leaf(s, tree.at, out),
         LeafLine::Same(dates) => put_schema_leaf::copy_leaf(s, tree.at, dates, out),
+        LeafLine::Page => page_line::put_page_leaf(s, tree, out),
     }
 }
 

@@ -2,20 +2,21 @@
 -- outcome that is defined. Assumes nothing.
 use mathlib.Core.Path.{_≡_, refl, sym, ap, subst, _∙_}
 use mathlib.Core.Bool.{false}
-use mathlib.Core.List.{List, [], _∷_, _++_, append-assoc}
+use mathlib.Core.List.{List, [], _∷_, _++_}
 use Prim.Native.Nat.{ℕ, _+_, _-_, _≤_, min}
 use native.Mathlib.Omega.{arith}
 use lib.ListN.{length, take, drop}
 use Rattle.sheets.specs.Refusal.{numberOf}
 use Rattle.sheets.specs.Bytes.{Bytes}
 use Rattle.sheets.specs.Answer.{Answer, refused, given, _>>=_}
-use Rattle.sheets.specs.Sheet.{ended, writeSheet}
+use Rattle.sheets.specs.Sheet.{ended}
 use Rattle.sheets.specs.Schema.{Schema, readSchemaSheet}
 use Rattle.sheets.specs.Field.{Field}
 use Rattle.sheets.specs.FieldSheet.{fieldHeading, writeFieldSheet, typeLines}
 use Rattle.sheets.specs.Import.{toField}
 use Rattle.sheets.specs.Outcome.{Outcome, imported, refusal, importOutcome}
 use Rattle.sheets.specs.ImportLines.{written, shown}
+use Rattle.sheets.proofs.SheetLaws.{sheet-headed}
 use Rattle.buffer.specs.Over.{PutAt, PutFirst}
 use Rattle.buffer.proofs.OverLaws.{put-lent, put-over}
 use Rattle.outcome.specs.Answers.{outcomeOf, Tells, SheetTold}
@@ -38,9 +39,6 @@ use Rattle.import_field.specs.declared.Step.the-variants.{Done, Refused}
 abbrev pub headLine : Bytes
 headLine = fieldHeading ++ (10 ∷ [])
 
-head-lines : (ls : List Bytes) → writeSheet fieldHeading ls ≡ headLine ++ ended ls
-head-lines ls = sym (append-assoc fieldHeading (10 ∷ []) (ended ls))
-
 -- a sheet is its field's lines under the heading
 sheet-lines : (t : Schema) → sheetOf t ≡ (written false t >>= λ ls. given (headLine ++ ended ls))
 unfolding sheetOf
@@ -48,7 +46,7 @@ sheet-lines t = go (toField t)
   where
     go : (a : Answer Field) → (a >>= λ f. given (writeFieldSheet f)) ≡ ((a >>= λ f. given (typeLines (f .type) (shown false (f .info)))) >>= λ ls. given (headLine ++ ended ls))
     go (refused r) = refl
-    go (given f) = ap given (head-lines (typeLines (f .type) (shown false (f .info))))
+    go (given f) = ap given (sheet-headed fieldHeading (typeLines (f .type) (shown false (f .info))))
 
 module _ (s : Bytes) (at : ℕ) (t : Schema) (ts : List Schema) (f : FieldAt s at 32 t ts) where
   abbrev sheet : Answer (List Bytes) → Answer Bytes

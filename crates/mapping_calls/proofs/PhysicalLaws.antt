@@ -20,7 +20,7 @@ use Rattle.datatypes.proofs.PhysicalLaws.{scalar-kind, nesting-kind, grouping-k
 use Rattle.field_sheet.specs.Sheets.{sheetBody, sheetAnswer}
 use Rattle.field_sheet.specs.declared.SheetRead.{SheetRead}
 use Rattle.field_sheet.specs.declared.SheetRead.the-variants.{Body}
-use Rattle.nesting.proofs.NestingLaws.{line-kind, line-p}
+use Rattle.line_below.proofs.LineLaws.{line-kind, line-p}
 use Rattle.storage_line.specs.StorageLines.{StorageTold}
 use Rattle.storage_line.specs.declared.StorageLine.{StorageLine}
 use Rattle.mapping_calls.proofs.CallLaws.{read, read-type, sheet-read}

@@ -24,7 +24,9 @@ use Rattle.field_sheet.proofs.ReadLaws.{leaf-read}
 use Rattle.nesting.specs.Nestings.{shapeNesting, typeNesting, kindNesting}
 use Rattle.nesting.specs.declared.Nesting.{Nesting}
 use Rattle.nesting.specs.declared.Nesting.the-variants as N
-use Rattle.nesting.proofs.NestingLaws.{line-kind, line-nesting, row-below}
+use Rattle.nesting.proofs.NestingLaws.{line-nesting}
+use Rattle.line_below.proofs.LineLaws.{line-kind}
+use Rattle.line_below.proofs.BelowLaws.{row-below}
 use Rattle.walks.specs.Places.{TypeAt, RowAt, HasType}
 use Rattle.walks.proofs.BeginLaws.{some-level}
 use Rattle.walks.proofs.RowLaws.{tallest-cons}

@@ -17,8 +17,6 @@ use Rattle.sheets.specs.FieldTrees.{Head, typeShape, typeCount}
 use Rattle.sheets.specs.Mappings.{toStorage}
 use Rattle.sheets.specs.MappingSteps.{Borne, ownWritten, changeStep}
 use Rattle.sheets.specs.Walk.{headWith, headText, skip, writes, typeWalk}
-use Rattle.sheets.proofs.FieldTrees.{fields-lawful}
-use Rattle.sheets.proofs.TreeWalks.{line-below}
 use Rattle.buffer.specs.Over.{PutFirst}
 use Rattle.read_field_line.specs.FieldLines.{FieldLineAt}
 use Rattle.read_field_line.specs.declared.FieldLine.{FieldLine}
@@ -32,7 +30,8 @@ use Rattle.walks.specs.declared.Subtrees.{Subtrees}
 use Rattle.storage_line.specs.StorageLines.{StorageAt}
 use Rattle.storage_line.specs.Below.{RowLeft}
 use Rattle.storage_line.specs.declared.StorageLine.{StorageLine}
-use Rattle.storage_line.proofs.BelowLaws.{storage-plain, passed, head-is, rule-kept, kind-is, p-is, begun}
+use Rattle.line_below.proofs.LineLaws.{line-opened, line-rule, line-kind, line-p}
+use Rattle.storage_line.proofs.BelowLaws.{storage-plain, passed, begun}
 use Rattle.mapping_line.specs.PutLines.{infoText, HasColumns, Says, columnsOf, CanPutLine, lineWith, LinePut, CanPutKind, KindPut}
 use Rattle.mapping_line.specs.Changes.{changeOf, lineChangeOf}
 use Rattle.mapping_line.specs.declared.change.Change.{Change}
@@ -46,10 +45,10 @@ module _ {s : Bytes} (tree : Subtree) {i : Option Info} {t : ArrowDataType} {es 
     {first : FieldLine} (k : FieldLineAt s (tree .at) first) {r : StorageLine} (g : StorageAt s tree t es r) where
   -- the columns of the first line are the field's
   says : Says s (columnsOf first) i
-  says = columns-said k ∙ ap (λ (h : Head). infoText (h .info)) (sym (line-below fields-lawful (k .there) (i, t) es (f .stands) .0))
+  says = columns-said k ∙ ap (λ (h : Head). infoText (h .info)) (sym (line-opened (f .stands) k .0))
 
   pub index-fits : r .line .kind ≡ Kind.Dictionary → r .line .p < 10
-  index-fits e = omega (arith, p-is tree f g, index-small (typeShape (toStorage t)) (rule-kept tree f g) (sym (kind-is tree f g) ∙ e))
+  index-fits e = omega (arith, line-p (g .type .stands) (g .line), index-small (typeShape (toStorage t)) (line-rule (g .type .stands) (g .line)) (sym (line-kind (g .type .stands) (g .line)) ∙ e))
 
   module _ (own : FieldColumns) (are : own ≡ columnsOf first) where
     pub can-put : CanPutLine s (r .at) (r .line) own
@@ -66,13 +65,13 @@ module _ {s : Bytes} (tree : Subtree) {i : Option Info} {t : ArrowDataType} {es 
       o = typeWalk (changeStep (changeOf change)) t i none
 
       abbrev Told : Bytes → Bytes → LineBegun → Type 0
-      Told out out' z = BeginsAs (changeStep (changeOf change)) s (tree .at) (tree .levels) (tree .inside) o es out out' (begunAnswer {S = Borne} (λ (inside : Bool). none) z)
+      Told out out' z = BeginsAs (changeStep (changeOf change)) s (tree .at) (tree .levels) (tree .inside) o es out out' (begunAnswer {S = Borne} (λ (levels : ℕ) (inside : Bool). none) z)
 
       -- what becomes of the type's line is what the call does with the type
       by-line : (c : LineChange) → c ≡ lineChangeOf change (r .line .kind) (r .line .p) → Becoming change (toStorage t) i c
       by-line c e =
-          subst (Becoming change (toStorage t) i) (sym (e ∙ λ z. lineChangeOf change (kind-is tree f g z) (p-is tree f g z)))
-          (becoming i change (toStorage t) (storage-plain t) (rule-kept tree f g))
+          subst (Becoming change (toStorage t) i) (sym (e ∙ λ z. lineChangeOf change (line-kind (g .type .stands) (g .line) z) (line-p (g .type .stands) (g .line) z)))
+          (becoming i change (toStorage t) (storage-plain t) (line-rule (g .type .stands) (g .line)))
 
       pub undefined : Undefined ≡ lineChangeOf change (r .line .kind) (r .line .p) → o ≡ refused undefinedMapping
       undefined e = change-opened (changeOf change) t i (refused undefinedMapping) (by-line Undefined e)
@@ -84,7 +83,7 @@ module _ {s : Bytes} (tree : Subtree) {i : Option Info} {t : ArrowDataType} {es 
           let (below, step, leaves) = by-line Stays e in
           let (laid, short) = put (g .line) i own-says in
           let same : lineWith (g .line .line) i ≡ ended (headText (headWith (typeShape (toStorage t)) i (typeCount (toStorage t))) ∷ []) =
-          ap (λ (h : Head). lineWith h i) (sym (head-is tree f g .0)) in
+          ap (λ (h : Head). lineWith h i) (sym (line-opened (g .type .stands) (g .line) .0)) in
           begun tree f g (changeStep (changeOf change)) none o (writes (ownWritten (typeShape (toStorage t)) i (typeCount (toStorage t))) below)
           (change-opened (changeOf change) t i (given (writes (ownWritten (typeShape (toStorage t)) i (typeCount (toStorage t))) below)) step)
           false w left out out' len (given tt) (subst (λ (y : Bytes). PutFirst y len out out') same laid) short leaves

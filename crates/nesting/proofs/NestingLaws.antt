@@ -1,11 +1,9 @@
--- The column `kind` of a type's first line tells how the type holds others: by cases of what the line says. What a line that was read says of the type that stands
--- there, and the types below it. Assumes nothing.
-use mathlib.Core.Path.{_≡_, refl, sym, ap, subst, _∙_}
-use mathlib.Core.Bool.{Bool, false}
-use mathlib.Core.List.{List, [], _∷_, _++_}
+-- The column `kind` of a type's first line tells how the type holds others: by cases of what the line says. Assumes nothing.
+use mathlib.Core.Path.{_≡_, refl, ap, _∙_}
+use mathlib.Core.Bool.{false}
+use mathlib.Core.List.{List, [], _∷_}
 use mathlib.Core.Option.{Option}
-use Prim.Native.Nat.{ℕ, _-_, _≤_, _<_}
-use native.Mathlib.Omega.{arith}
+use Prim.Native.Nat.{ℕ}
 use lib.Dec.{eqb}
 use lib.ListN.{drop}
 use borrow.Author.Tests.{ne-eqb}
@@ -14,18 +12,13 @@ use Rattle.sheets.specs.Bytes.{Bytes}
 use Rattle.sheets.specs.Kind
 use Rattle.sheets.specs.Field.{Info, bits128, bits32, bits64, bits256, leaf, timestamp, fixedSizeBinary, decimalType, list, largeList, fixedSizeList, map, struct, union, ArrowDataType, isLeaf}
 use Rattle.sheets.specs.FieldSheet.{Entry, Shape, ofScalar, ofNesting, ofGrouping, ofDictionary, ofExtension, columns}
-use Rattle.sheets.specs.LineTrees.{tallest, Standing}
-use Rattle.sheets.specs.FieldTrees.{Head, isExtension, lineCost, shapeRule, typeShape, typeBelow, typeCount, entryHead, entryLevels, fields}
-use Rattle.sheets.specs.Walk.{lineMeasure, rowMeasure}
-use Rattle.sheets.proofs.FieldTrees.{fields-lawful, leaf-other}
-use Rattle.sheets.proofs.TreeWalks.{line-below}
-use Rattle.sheets.proofs.WalkLaws.{levels-below}
+use Rattle.sheets.specs.LineTrees.{Standing}
+use Rattle.sheets.specs.FieldTrees.{shapeRule, typeShape, fields}
+use Rattle.sheets.proofs.FieldTrees.{leaf-other}
 use Rattle.datatypes.proofs.AtLaws.{Rest}
 use Rattle.read_field_line.specs.FieldLines.{FieldLineAt}
 use Rattle.read_field_line.specs.declared.FieldLine.{FieldLine}
-use Rattle.field_sheet.proofs.LevelLaws.{extension-is}
-use Rattle.walks.specs.Places.{TypeAt, RowAt}
-use Rattle.walks.proofs.BeginLaws.{row-smaller}
+use Rattle.line_below.proofs.LineLaws.{line-rule, line-kind}
 use Rattle.nesting.specs.Nestings.{shapeNesting, typeNesting, kindNesting}
 use Rattle.nesting.specs.declared.Nesting.{Nesting}
 use Rattle.nesting.specs.declared.Nesting.the-variants.{Nothing}
@@ -60,47 +53,6 @@ other-kind k r =
 -- ── the line that was read is the type's
 
 module _ {s : Bytes} {at : ℕ} {i : Option Info} {t : ArrowDataType} {es : List Entry} (st : Standing fields (drop at s) ((i, t) ∷ es)) {l : FieldLine} (k : FieldLineAt s at l) where
-  pub line-opened : (entryHead (i, t) ≡ k .line) × Standing fields (drop (l .end) s) (typeBelow t ++ es)
-  line-opened = line-below fields-lawful (k .there) (i, t) es st
-
-  shape-is : k .line .shape ≡ typeShape t
-  shape-is = ap (λ (x : Head). x .shape) (sym (line-opened .0))
-
-  pub line-rule : Meets (shapeRule (typeShape t))
-  line-rule = subst (λ (x : Shape). Meets (shapeRule x)) shape-is (k .there .own .1)
-
-  pub line-kind : l .kind ≡ columns (typeShape t) .kind
-  line-kind = k .shows .kind ∙ ap (λ (x : Shape). columns x .kind) shape-is
-
-  pub line-p : l .p ≡ columns (typeShape t) .p
-  line-p = k .shows .p ∙ ap (λ (x : Shape). columns x .p) shape-is
-
-  pub line-count : l .children ≡ typeCount t
-  line-count = k .shows .children ∙ ap (λ (x : Head). x .children) (sym (line-opened .0))
-
   -- what `nesting_of` tells of it
   pub line-nesting : {n : Nesting} → n ≡ kindNesting (l .kind) → n ≡ typeNesting t
-  line-nesting e = e ∙ ap kindNesting line-kind ∙ kind-nesting (typeShape t) line-rule
-
--- ── the types below it, where it is an extension or not (e) and costs so much
-
-module _ {s : Bytes} {at levels : ℕ} {inside : Bool} {i : Option Info} {t : ArrowDataType} {es : List Entry} (f : TypeAt s at levels inside i t es) {l : FieldLine} (k : FieldLineAt s at l)
-    {e : Bool} {cost : ℕ} (ext : e ≡ eqb (l .kind) Kind.Extension) (is : cost ≡ lineCost inside e) where
-  below-is : isExtension (typeShape t) ≡ e
-  below-is = ap (λ (x : Head). isExtension (x .shape)) (line-opened (f .stands) k .0) ∙ extension-is l k ∙ sym ext
-
-  pub row-below : RowAt s (l .end) (l .children) (levels - cost) e (typeBelow t) es
-  row-below =
-      let low = levels-below t inside levels (f .deep) in
-      record {
-        stands = line-opened (f .stands) k .1;
-        counted = fields-lawful .many (i, t) ∙ sym (line-count (f .stands) k);
-        deep = omega (arith, is, subst (λ (y : Bool). tallest (entryLevels y) (typeBelow t) ≤ levels - lineCost inside y) below-is low);
-        within = k .there .high;
-        short = f .short;
-      }
-
-  pub row-less : rowMeasure (levels - cost) e < lineMeasure levels inside
-  row-less =
-      subst (λ (c : ℕ). rowMeasure (levels - c) e < lineMeasure levels inside) (sym is)
-      (subst (λ (y : Bool). rowMeasure (levels - lineCost inside y) y < lineMeasure levels inside) below-is (row-smaller f))
+  line-nesting e = e ∙ ap kindNesting (line-kind st k) ∙ kind-nesting (typeShape t) (line-rule st k)

@@ -32,7 +32,9 @@ use Rattle.field_sheet.specs.declared.subtrees.Skipped.the-variants.{To, Deep}
 use Rattle.field_sheet.proofs.SkipLaws.{line-row}
 use Rattle.nesting.specs.Nestings.{typeNesting, kindNesting}
 use Rattle.nesting.specs.declared.Nesting.{Nesting}
-use Rattle.nesting.proofs.NestingLaws.{line-opened, line-nesting, row-below}
+use Rattle.nesting.proofs.NestingLaws.{line-nesting}
+use Rattle.line_below.proofs.LineLaws.{line-opened}
+use Rattle.line_below.proofs.BelowLaws.{row-below}
 use Rattle.walks.specs.Places.{TypeAt, RowAt, HasType}
 use Rattle.walks.proofs.RowLaws.{tallest-cons}
 use Rattle.storage_line.specs.StorageLines.{StorageTold}

@@ -24,7 +24,7 @@ use Rattle.buffer.proofs.OverLaws.{put-over, put-lent, put-first, and-then, who
 use Rattle.columns.specs.Columns.{part}
 use Rattle.read_field_line.specs.FieldLines.{FieldLineAt}
 use Rattle.read_field_line.specs.declared.FieldLine.{FieldLine}
-use Rattle.nesting.proofs.NestingLaws.{line-opened}
+use Rattle.line_below.proofs.LineLaws.{line-opened}
 use Rattle.mapping_line.specs.PutLines.{infoText, HasColumns, Says, CanPutLine, lineWith, LinePut}
 use Rattle.mapping_line.specs.declared.put.FieldColumns.{FieldColumns}
 use Rattle.mapping_line.proofs.PutLaws.{columns-there, columns-said}

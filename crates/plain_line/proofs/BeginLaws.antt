@@ -1,5 +1,5 @@
--- What is known at each place of `begin_plain`: the line that was read is the type's, and what is written for it and left below is what the step of plain
--- form says, by `walk-opened` and the laws of what is left (`walks`). Assumes nothing.
+-- What is known at each place of `begin_plain`: what is written for the line that was read and left below is what the step of plain form says, by
+-- `walk-opened` and the laws of what is left (`walks`, `line_below`). Assumes nothing.
 use mathlib.Core.Path.{_≡_, refl, sym, ap, subst, _∙_}
 use mathlib.Core.Bool.{Bool, true, false, _&&_, _||_, cond}
 use mathlib.Core.List.{List, [], _∷_, _++_}
@@ -7,7 +7,7 @@ use mathlib.Core.Option.{Option, none}
 use Prim.Native.Nat.{ℕ, _+_, _-_, _≤_, _<_}
 use native.Mathlib.Omega.{arith}
 use lib.Dec.{eqb}
-use lib.ListN.{length, drop, length-append}
+use lib.ListN.{length, length-append}
 use borrow.Author.Tests.{ltb-true}
 use Rattle.sheets.specs.Rule.{Meets}
 use Rattle.sheets.specs.Bytes.{Bytes}
@@ -16,24 +16,21 @@ use Rattle.sheets.specs.Kind
 use Rattle.sheets.specs.Sheet.{ended}
 use Rattle.sheets.specs.Field.{Info, leaf, ArrowDataType, scalar, nested, grouped, dictionary, extension}
 use Rattle.sheets.specs.FieldSheet.{Entry, Shape, ofScalar, columns, noText}
-use Rattle.sheets.specs.LineTrees.{Standing}
-use Rattle.sheets.specs.FieldTrees.{Head, isExtension, bareBelow, shapeRule, lineCost, typeShape, typeBelow, typeCount, entryHead, entryLines, fields}
-use Rattle.sheets.specs.TreeWalks.{HasTree, HasRow}
+use Rattle.sheets.specs.FieldTrees.{isExtension, bareBelow, shapeRule, typeShape, typeBelow, entryHead, entryLines}
 use Rattle.sheets.specs.PlainSteps.{plainStep}
-use Rattle.sheets.specs.Walk.{headWith, headText, levelsBelow, visit, skip, Step, writes, lineWritten, typeWalk, rowWalk}
+use Rattle.sheets.specs.Walk.{headWith, headText, visit, skip, Step, writes, lineWritten, typeWalk, rowWalk}
 use Rattle.sheets.proofs.Tests.{never}
-use Rattle.sheets.proofs.FieldTrees.{fields-lawful, below-kind}
+use Rattle.sheets.proofs.FieldTrees.{fields-lawful}
 use Rattle.sheets.proofs.LineTrees.{Lawful}
-use Rattle.sheets.proofs.TreeWalks.{line-below, below-fits}
+use Rattle.sheets.proofs.TreeWalks.{below-fits}
 use Rattle.sheets.proofs.WalkLaws.{walk-opened, levels-below}
-use Rattle.buffer.specs.Over.{over, PutAt}
-use Rattle.buffer.proofs.OverLaws.{overAt-zero, over-nothing}
+use Rattle.buffer.specs.Over.{PutAt, PutFirst}
+use Rattle.buffer.proofs.OverLaws.{put-over, over-nothing}
 use Rattle.read_field_line.specs.FieldLines.{FieldLineAt}
 use Rattle.read_field_line.specs.declared.FieldLine.{FieldLine}
 use Rattle.field_sheet.specs.Subtrees.{skipAnswer, SkipsRow}
 use Rattle.field_sheet.specs.declared.subtrees.Skipped.{Skipped}
 use Rattle.field_sheet.specs.declared.subtrees.Skipped.the-variants.{To, Deep}
-use Rattle.field_sheet.proofs.SkipLaws.{line-row}
 use Rattle.field_line.specs.Columns.{columnsPiece, ownPiece, endPiece}
 use Rattle.field_line.proofs.LengthLaws.{shape-short, bare-length, end-short}
 use Rattle.field_line.proofs.ColumnLaws.{bare-line}
@@ -44,9 +41,12 @@ use Rattle.walks.specs.declared.LineBegun.the-variants.{Below}
 use Rattle.walks.specs.declared.Pending.the-variants.{Nothing}
 use Rattle.walks.specs.declared.Subtree.{Subtree}
 use Rattle.walks.specs.declared.Subtrees.{Subtrees}
-use Rattle.walks.proofs.BeginLaws.{some-level, row-below, row-smaller, begin-visit, begin-skip}
+use Rattle.walks.proofs.BeginLaws.{row-smaller, begin-skip}
+use Rattle.line_below.specs.Below.{rowBelow}
+use Rattle.line_below.proofs.LineLaws.{line-opened, line-rule, line-p, line-count, line-extension, line-bare}
+use Rattle.line_below.proofs.BelowLaws.{all-visited, has-tree}
 use Rattle.plain_line.specs.PlainLines.{plainHead, plainLine, LineHere, LinePut}
-use Rattle.plain_line.specs.Begins.{lineChangeOf, rowBelow, indexLine}
+use Rattle.plain_line.specs.Begins.{lineChangeOf, indexLine}
 use Rattle.plain_line.specs.declared.LineChange.{LineChange}
 use Rattle.plain_line.specs.declared.LineChange.the-variants.{Vanishes, BecomesIndex, Stays}
 
@@ -98,64 +98,29 @@ opens-staying (extension n m t) i true h = never (sym h)
 opens-staying (extension n m t) i false h = walk-opened plainStep (extension n m t) i false
 
 module _ {s : Bytes} (tree : Subtree) {i : Option Info} {t : ArrowDataType} {es : List Entry} (f : TypeAt s (tree .at) (tree .levels) (tree .inside) i t es) {l : FieldLine} (k : FieldLineAt s (tree .at) l) where
-  -- ── the line that was read is the type's
-
-  opened : (entryHead (i, t) ≡ k .line) × Standing fields (drop (l .end) s) (typeBelow t ++ es)
-  opened = line-below fields-lawful (k .there) (i, t) es (f .stands)
-
-  rule : Meets (shapeRule (typeShape t))
-  rule = subst (λ (x : Head). Meets (shapeRule (x .shape))) (sym (opened .0)) (k .there .own .1)
-
-  kind-is : l .kind ≡ columns (typeShape t) .kind
-  kind-is = k .shows .kind ∙ ap (λ (x : Head). columns (x .shape) .kind) (sym (opened .0))
-
-  p-is : l .p ≡ columns (typeShape t) .p
-  p-is = k .shows .p ∙ ap (λ (x : Head). columns (x .shape) .p) (sym (opened .0))
-
-  count-is : l .children ≡ typeCount t
-  count-is = k .shows .children ∙ ap (λ (x : Head). x .children) (sym (opened .0))
-
-  extension-is : eqb (l .kind) Kind.Extension ≡ isExtension (typeShape t)
-  extension-is = ap (λ (n : ℕ). eqb n Kind.Extension) kind-is ∙ sym (below-kind (typeShape t) rule .0)
-
-  bare-is : (eqb (l .kind) Kind.Dictionary || eqb (l .kind) Kind.Extension) ≡ bareBelow (typeShape t)
-  bare-is = ap (λ (n : ℕ). eqb n Kind.Dictionary || eqb n Kind.Extension) kind-is ∙ sym (below-kind (typeShape t) rule .1)
-
-  abbrev below : Subtrees
-  below = record { at = l .end; count = typeCount t; levels = levelsBelow (typeShape t) (tree .inside) (tree .levels); inside = isExtension (typeShape t) }
-
-  below-is : rowBelow tree l ≡ below
-  below-is = λ x. record { at = l .end; count = count-is x; levels = tree .levels - lineCost (tree .inside) (extension-is x); inside = extension-is x }
-
-  -- ── what is left
-
   abbrev Told : Bytes → Bytes → LineBegun → Type 0
-  Told out out' r = BeginsAs plainStep s (tree .at) (tree .levels) (tree .inside) (typeWalk plainStep t i (tree .inside)) es out out' (begunAnswer (λ (inside : Bool). inside) r)
+  Told out out' r = BeginsAs plainStep s (tree .at) (tree .levels) (tree .inside) (typeWalk plainStep t i (tree .inside)) es out out' (begunAnswer (λ (levels : ℕ) (inside : Bool). inside) r)
 
-  all-visited : (ls : List Bytes) → OpensAs t i (tree .inside) (writes (given ls) (visit (isExtension (typeShape t)))) → (out out' : Bytes) (len : ℕ) → len ≡ length (ended ls) → out' ≡ over (ended ls) out → len ≤ ownLimit
+  -- what is below the line is visited
+  row-left : (ls : List Bytes) → OpensAs t i (tree .inside) (writes (given ls) (visit (isExtension (typeShape t)))) → (out out' : Bytes) (len : ℕ) → PutFirst (ended ls) len out out' → len ≤ ownLimit
       → (w : Subtrees) → w ≡ rowBelow tree l → Told out out' (Below w len Nothing)
-  all-visited ls o out out' len is laid short w e =
-      subst (λ (y : Subtrees). Told out out' (Below y len Nothing)) (sym (e ∙ below-is))
-      (begin-visit plainStep s (tree .at) (tree .levels) (tree .inside) (typeWalk plainStep t i (tree .inside)) (writes (given ls) (visit (isExtension (typeShape t)))) (typeBelow t) es o
-      (isExtension (typeShape t)) refl (l .end) (typeCount t) (levelsBelow (typeShape t) (tree .inside) (tree .levels)) (isExtension (typeShape t))
-      (row-below f (l .end) (opened .1) (k .there .high)) (row-smaller f) out out' len (given tt) (is, laid) (omega (arith, k .there .low, short)))
+  row-left = all-visited tree f k plainStep (λ (levels : ℕ) (inside : Bool). inside)
 
   -- an extension vanishes
   pub vanished : lineChangeOf (tree .inside) (l .kind) ≡ Vanishes → (out : Bytes) (w : Subtrees) → w ≡ rowBelow tree l → Told out out (Below w 0 Nothing)
   vanished h out w e =
       let c = vanishes-only (tree .inside) (eqb (l .kind) Kind.Extension) (eqb (l .kind) Kind.Dictionary) h in
-      all-visited [] (opens-vanished t i (tree .inside) (c .0) (sym extension-is ∙ c .1)) out out 0 refl (sym (over-nothing out)) (omega arith) w e
+      row-left [] (opens-vanished t i (tree .inside) (c .0) (sym (line-extension (f .stands) k) ∙ c .1)) out out 0 (refl, sym (over-nothing out)) (omega arith) w e
 
   -- a line stays
   pub stayed : lineChangeOf (tree .inside) (l .kind) ≡ Stays → (out out' : Bytes) (len : ℕ) → LinePut s (tree .at) l out out' len → (w : Subtrees) → w ≡ rowBelow tree l → Told out out' (Below w len Nothing)
   stayed h out out' len put w e =
       let c = stays-only (tree .inside) (eqb (l .kind) Kind.Extension) (eqb (l .kind) Kind.Dictionary) h in
       let (at-end, short) = put k in
-      let same : plainLine (k .line) ≡ plainLine (entryHead (i, t)) = ap plainLine (sym (opened .0)) in
-      all-visited (headText (plainHead (entryHead (i, t))) ∷ [])
-      (opens-staying t i (tree .inside) (ap (λ (b : Bool). tree .inside && b) (sym bare-is) ∙ c)) out out' len
-      (omega (arith, at-end .0, ap length same))
-      (at-end .1 ∙ overAt-zero (plainLine (k .line)) out ∙ ap (λ (b : Bytes). over b out) same) short w e
+      let same : plainLine (k .line) ≡ plainLine (entryHead (i, t)) = ap plainLine (sym (line-opened (f .stands) k .0)) in
+      row-left (headText (plainHead (entryHead (i, t))) ∷ [])
+      (opens-staying t i (tree .inside) (ap (λ (b : Bool). tree .inside && b) (sym (line-bare (f .stands) k)) ∙ c)) out out' len
+      (subst (λ (b : Bytes). PutFirst b len out out') same (put-over (plainLine (k .line)) out at-end)) short w e
 
   -- ── a dictionary becomes its index type
 
@@ -164,13 +129,13 @@ module _ {s : Bytes} (tree : Subtree) {i : Option Info} {t : ArrowDataType} {es 
     tests = index-only (tree .inside) (eqb (l .kind) Kind.Extension) (eqb (l .kind) Kind.Dictionary) h
 
     bare : bareBelow (typeShape t) ≡ true
-    bare = sym bare-is ∙ ap (λ (b : Bool). b || eqb (l .kind) Kind.Extension) (tests .2)
+    bare = sym (line-bare (f .stands) k) ∙ ap (λ (b : Bool). b || eqb (l .kind) Kind.Extension) (tests .2)
 
     none-inside : isExtension (typeShape t) ≡ false
-    none-inside = sym extension-is ∙ tests .1
+    none-inside = sym (line-extension (f .stands) k) ∙ tests .1
 
     pub index-small : l .p < 10
-    index-small = go t p-is rule bare none-inside
+    index-small = go t (line-p (f .stands) k) (line-rule (f .stands) k) bare none-inside
       where
         go : (u : ArrowDataType) → l .p ≡ columns (typeShape u) .p → Meets (shapeRule (typeShape u)) → bareBelow (typeShape u) ≡ true → isExtension (typeShape u) ≡ false → l .p < 10
         go (scalar x) e r b n = never b
@@ -181,7 +146,7 @@ module _ {s : Bytes} (tree : Subtree) {i : Option Info} {t : ArrowDataType} {es 
 
     -- its bare line, then nothing
     opens-index : OpensAs t i (tree .inside) (writes (given (headText (headWith (ofScalar (leaf (l .p + Kind.Int8) 0)) none 0) ∷ [])) skip)
-    opens-index = go t (tree .inside) p-is bare none-inside (tests .0)
+    opens-index = go t (tree .inside) (line-p (f .stands) k) bare none-inside (tests .0)
       where
         go : (u : ArrowDataType) (b : Bool) → l .p ≡ columns (typeShape u) .p → bareBelow (typeShape u) ≡ true → isExtension (typeShape u) ≡ false → b ≡ true
             → OpensAs u i b (writes (given (headText (headWith (ofScalar (leaf (l .p + Kind.Int8) 0)) none 0) ∷ [])) skip)
@@ -199,44 +164,27 @@ module _ {s : Bytes} (tree : Subtree) {i : Option Info} {t : ArrowDataType} {es 
       told q e = subst (λ (x : Skipped). SkipsRow s (l .end) (l .children) false (tree .levels - 1) (skipAnswer x)) e skips
 
       many : length (typeBelow t) ≡ l .children
-      many = fields-lawful .many (i, t) ∙ sym count-is
+      many = fields-lawful .many (i, t) ∙ sym (line-count (f .stands) k)
 
       pub never-deep : r ≡ Deep → ⊥
       never-deep e =
-          let m = told Deep e .1 (typeBelow t) es (opened .1) many in
+          let m = told Deep e .1 (typeBelow t) es (line-opened (f .stands) k .1) many in
           let d = levels-below t (tree .inside) (tree .levels) (f .deep) in
           omega (arith, m, rw none-inside at d)
 
       pub index-begun : (next : ℕ) → r ≡ To next → (out out' : Bytes) (len : ℕ) → PutAt 0 (indexLine (l .p)) len out out' → len ≤ ownLimit
           → Told out out' (Below (record { at = next; count = 0; levels = tree .levels - 1; inside = false }) len Nothing)
       index-begun next e out out' len put short =
-          let m = told (To next) e (typeBelow t) es (opened .1) many in
+          let m = told (To next) e (typeBelow t) es (line-opened (f .stands) k .1) many in
           let falls = row-smaller f in
           begin-skip plainStep s (tree .at) (tree .levels) (tree .inside) (typeWalk plainStep t i (tree .inside)) (writes (given (headText (headWith (ofScalar (leaf (l .p + Kind.Int8) 0)) none 0) ∷ [])) skip) (typeBelow t) es opens-index
           false next (tree .levels - 1) false (rw none-inside at falls) (m .1) (m .3) (f .short) refl out out' len (given tt)
-          (omega (arith, put .0), put .1 ∙ overAt-zero (indexLine (l .p)) out) (omega (arith, k .there .low, m .2, short))
+          (put-over (indexLine (l .p)) out put) (omega (arith, k .there .low, m .2, short))
 
--- ── what the functions ask
+-- ── what a line that stays is written by
 
-module _ (s : Bytes) (tree : Subtree) (h : HasType s (tree .at) (tree .levels) (tree .inside)) where
-  pub has-tree : HasTree fields s (tree .at)
-  has-tree = ((h .0, h .1), h .2, h .3 .stands)
-
-  pub has-level : 1 ≤ tree .levels
-  has-level = some-level (h .3)
-
-  module _ (l : FieldLine) (k : FieldLineAt s (tree .at) l) where
-    pub line-here : LineHere s (tree .at) l
-    line-here = record { there = k; few = omega (arith, below-fits fields-lawful (k .there) has-tree, k .shows .children); short = h .3 .short }
-
-    pub values-there : HasRow fields s (l .end) (l .children)
-    values-there = line-row l k has-tree
-
--- ── the types below
-
-pub row-told : (t : Subtree) (l : FieldLine) (e : Bool) (cost : ℕ) → e ≡ eqb (l .kind) Kind.Extension → cost ≡ lineCost (t .inside) e
-    → _≡_ {A = Subtrees} (record { at = l .end; count = l .children; levels = t .levels - cost; inside = e }) (rowBelow t l)
-row-told t l e cost is costs = λ x. record { at = l .end; count = l .children; levels = t .levels - (costs ∙ ap (lineCost (t .inside)) is) x; inside = is x }
+pub line-here : (s : Bytes) (tree : Subtree) (h : HasType s (tree .at) (tree .levels) (tree .inside)) (l : FieldLine) (k : FieldLineAt s (tree .at) l) → LineHere s (tree .at) l
+line-here s tree h l k = record { there = k; few = omega (arith, below-fits fields-lawful (k .there) (has-tree s tree h), k .shows .children); short = h .3 .short }
 
 -- ── the line of an index type
 

@@ -4,14 +4,13 @@ use mathlib.Core.Path.{_≡_}
 use mathlib.Core.Bool.{Bool, cond, _&&_}
 use mathlib.Core.List.{[], _∷_}
 use mathlib.Core.Option.{none}
-use Prim.Native.Nat.{ℕ, _+_, _-_}
+use Prim.Native.Nat.{ℕ, _+_}
 use lib.Dec.{eqb}
 use Rattle.sheets.specs.Bytes.{Bytes}
 use Rattle.sheets.specs.Kind
 use Rattle.sheets.specs.Sheet.{ended}
 use Rattle.sheets.specs.Field.{leaf}
 use Rattle.sheets.specs.FieldSheet.{ofScalar}
-use Rattle.sheets.specs.FieldTrees.{lineCost}
 use Rattle.sheets.specs.Walk.{headWith, headText}
 use Rattle.sheets.specs.PlainSteps.{plainStep}
 use Rattle.read_field_line.specs.FieldLines.{FieldLineAt}
@@ -27,16 +26,6 @@ use Rattle.plain_line.specs.declared.LineChange.the-variants.{Vanishes, 
 -- what becomes of a line of this kind, directly inside an extension or not
 abbrev pub lineChangeOf : Bool → ℕ → LineChange
 lineChangeOf inside kind = cond inside (cond (eqb kind Kind.Extension) Vanishes (cond (eqb kind Kind.Dictionary) BecomesIndex Stays)) Stays
-
--- the types below a line, with the levels that are left for them
-abbrev pub rowBelow : Subtree → FieldLine → Subtrees
-rowBelow t l =
-    record {
-      at = l .end;
-      count = l .children;
-      levels = t .levels - lineCost (t .inside) (eqb (l .kind) Kind.Extension);
-      inside = eqb (l .kind) Kind.Extension;
-    }
 
 -- the one type directly inside an extension
 abbrev pub isInner : Subtrees → Bool
@@ -54,4 +43,4 @@ pub record HasIndex (s : Bytes) (t : Subtree) (l : FieldLine) : Type 0 where
 
 -- what plain form writes for the line, and what is left below; whether that stands directly in an extension is the state of its walk
 abbrev pub PlainBegins : Bytes → Subtree → Bytes → Bytes → LineBegun → Type 0
-PlainBegins s t out out' r = TypeBegins plainStep s (t .at) (t .levels) (t .inside) (t .inside) out out' (begunAnswer (λ (inside : Bool). inside) r)
+PlainBegins s t out out' r = TypeBegins plainStep s (t .at) (t .levels) (t .inside) (t .inside) out out' (begunAnswer (λ (levels : ℕ) (inside : Bool). inside) r)

@@ -3,12 +3,11 @@ pub mod ids;
 pub mod line;
 
 ghost use mathlib.Core.Path.{_≡_};
-ghost use Prim.Native.Nat.{_≤_, _<_};
+ghost use Prim.Native.Nat.{_<_};
 ghost use Rattle.buffer.specs.Over.{PutAt};
 ghost use Rattle.walks.specs.Places.{HasType};
-ghost use Rattle.plain_line.specs.Begins.{lineChangeOf, rowBelow, indexLine, HasIndex, isInner, PlainBegins};
+ghost use Rattle.plain_line.specs.Begins.{lineChangeOf, indexLine, HasIndex, isInner, PlainBegins};
 use datatypes::kind;
-use field_sheet::levels;
 use field_sheet::subtrees::Skipped;
 use read_field_line::FieldLine;
 use refusal::Refusal;
@@ -38,21 +37,6 @@ fn line_change(inside: bool, kind: u64) -> LineChange
         return LineChange::BecomesIndex;
     }
     LineChange::Stays
-}
-
-// The types below a line, all of which are visited.
-fn row_below(tree: Subtree, l: FieldLine) -> Subtrees
-    requires { ⌜ 1 ≤ tree .levels ⌝ }
-    ensures { λ r. ⌜ r ≡ rowBelow tree l ⌝ }
-{
-    let inside = levels::is_extension(l.kind);
-    let cost = levels::line_cost(tree.inside, inside);
-    Subtrees {
-        at: l.end,
-        count: l.children,
-        levels: tree.levels - cost,
-        inside,
-    }
 }
 
 // The bare line of a dictionary's index type: the integer types stand in `ArrowDataType` in the order of `IntegerType`.
@@ -94,12 +78,12 @@ fn begin_one(s: &[u8], tree: Subtree, out: &mut [u8]) -> LineBegun
     let l = read_field_line::field_line_at(s, tree.at);
     match line_change(tree.inside, l.kind) {
         LineChange::Vanishes => {
-            let row = row_below(tree, l);
+            let row = line_below::row_below(tree, l);
             LineBegun::Below(row, 0, Pending::Nothing)
         }
         LineChange::BecomesIndex => begin_index(s, tree, l, out),
         LineChange::Stays => {
-            let row = row_below(tree, l);
+            let row = line_below::row_below(tree, l);
             let len = crate::line::put_line(s, tree.at, l, out);
             LineBegun::Below(row, len, Pending::Nothing)
         }

@@ -6,17 +6,18 @@ use mathlib.Core.List.{List, [], _∷_}
 use mathlib.Core.Option.{Option, none, some}
 use Prim.Native.Nat.{ℕ, _+_, _-_, _<_}
 use native.Mathlib.Omega.{arith}
-use lib.Dec.{eqb, leb, ltb}
+use lib.Dec.{eqb, ltb}
 use lib.ListN.{length, getD, take, drop}
-use borrow.Author.Tests.{eqb-true, leb-true, lt-leb, le-leb, leb-false, ltb-true, eq-eqb, ne-eqb, not-true}
+use borrow.Author.Tests.{eqb-true, ltb-true, eq-eqb, ne-eqb, not-true}
 use Rattle.sheets.specs.Refusal.{noFormat}
 use Rattle.sheets.specs.Rule.{passes, Meets}
 use Rattle.sheets.specs.Bytes.{Bytes, same}
 use Rattle.sheets.specs.Answer.{Answer, refused, given, _>>=_, found}
-use Rattle.sheets.specs.Field.{leaf, isLeaf, hasUnit, leafRule}
+use Rattle.sheets.specs.Field.{leaf, hasUnit, leafRule}
 use Rattle.sheets.specs.Format.{FormatRow, rows, rowOf, scalarFormat}
 use Rattle.sheets.proofs.Tests.{and-left, and-right, every, at-each, meets, passing}
 use Rattle.sheets.proofs.BytesLaws.{same-eq}
+use Rattle.sheets.proofs.FieldTrees.{leaf-small}
 use Rattle.format_names.specs.Names.{tableLength, rowAt, names, IsNameAt}
 use Rattle.format_names.specs.declared.NameAt.{NameAt}
 use Rattle.column_text.specs.ColumnText.{hasZero}
@@ -53,16 +54,6 @@ kindTest k = passes (every 4 (rowTest k))
 implied : (a b : Bool) → a ≡ true → (not a || b) ≡ true → b ≡ true
 implied true b h k = k
 implied false b h k = absurd (true≢false (sym h))
-
-pub leaf-small : (k : ℕ) → isLeaf k ≡ true → k < 41
-leaf-small k h = pick (leb k 40) refl
-  where
-    pick : (t : Bool) → leb k 40 ≡ t → k < 41
-    pick true e = omega (arith, leb-true k 40 e)
-    pick false e =
-        let l : 40 < k = leb-false k 40 e in
-        let f : isLeaf k ≡ false = rw (lt-leb k 14 (omega arith), le-leb 16 k (omega arith), lt-leb k 22 (omega arith), le-leb 24 k (omega arith), lt-leb k 26 (omega arith), le-leb 38 k (omega arith), lt-leb k 40 l) in
-        absurd (true≢false (sym h ∙ f))
 
 unit-small : (k u : ℕ) → Meets (leafRule k u) → u < 4
 unit-small k u h = pick (hasUnit k) (h .1)

@@ -1,7 +1,7 @@
--- The walk of a field sheet's lines from the first on, for export, plain form and the mappings: what is written for a line, and what is done with the
--- subtrees below it. A refusal may come at once, before what is below, or be pending until after it. A `Step` says it for one line of one call
--- (ExportSteps, PlainSteps, MappingSteps); `typeWalk` is the walk of a type, and `walk-opened` (proofs/WalkLaws) the walk of its first line and of
--- the row below it. Assumes nothing.
+-- The walk of a field sheet's lines from the first on, for export, plain form, the mappings and the page: what is written for a line, and what is done with
+-- the subtrees below it. A refusal may come at once, before what is below, or be pending until after it. A `Step` says it for one line of one call
+-- (ExportSteps, PlainSteps, MappingSteps, PageSteps); `typeWalk` is the walk of a type, and `walk-opened` (proofs/WalkLaws) the walk of its first line and
+-- of the row below it. Assumes nothing.
 use mathlib.Core.Bool.{Bool, cond}
 use mathlib.Core.List.{List, [], _∷_, _++_}
 use mathlib.Core.Option.{Option, none, some}

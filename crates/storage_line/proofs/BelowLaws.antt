@@ -9,15 +9,12 @@ use native.Mathlib.Omega.{arith}
 use lib.ListN.{length, drop}
 use Rattle.sheets.specs.Bytes.{Bytes}
 use Rattle.sheets.specs.Answer.{Answer, given}
-use Rattle.sheets.specs.Rule.{Meets}
 use Rattle.sheets.specs.Field.{Info, ArrowDataType, scalar, nested, grouped, dictionary, extension}
-use Rattle.sheets.specs.FieldSheet.{Entry, Shape, columns}
+use Rattle.sheets.specs.FieldSheet.{Entry}
 use Rattle.sheets.specs.LineTrees.{Standing}
-use Rattle.sheets.specs.FieldTrees.{Head, isExtension, shapeRule, typeShape, typeCount, typeBelow, entryHead, entryLines, fields}
+use Rattle.sheets.specs.FieldTrees.{Head, isExtension, typeShape, typeBelow, entryLines, fields}
 use Rattle.sheets.specs.Mappings.{toStorage}
 use Rattle.sheets.specs.Walk.{Below, visit, skip, Step, lineWritten, rowWalk}
-use Rattle.sheets.proofs.FieldTrees.{fields-lawful}
-use Rattle.sheets.proofs.TreeWalks.{line-below}
 use Rattle.read_field_line.specs.declared.FieldLine.{FieldLine}
 use Rattle.field_sheet.specs.Subtrees.{skipAnswer, SkipsRow}
 use Rattle.field_sheet.specs.declared.subtrees.Skipped.{Skipped}
@@ -26,6 +23,7 @@ use Rattle.walks.specs.Places.{ownLimit, TypeAt, RowAt, Owns, Begins}
 use Rattle.walks.specs.declared.Subtree.{Subtree}
 use Rattle.walks.specs.declared.Subtrees.{Subtrees}
 use Rattle.walks.proofs.BeginLaws.{row-inside, row-inside-smaller, some-level, begin-visit, begin-skip}
+use Rattle.line_below.proofs.LineLaws.{line-opened, line-count}
 use Rattle.storage_line.specs.StorageLines.{StorageAt}
 use Rattle.storage_line.specs.Below.{rowFrom, EndsBelow, RowLeft, HasBelow}
 use Rattle.storage_line.specs.declared.StorageLine.{StorageLine}
@@ -54,7 +52,7 @@ storage-plain (grouped g fs) = refl
 storage-plain (dictionary ix ordered t) = refl
 storage-plain (extension n m t) = storage-plain t
 
--- ── what its line says, and what is left
+-- ── what is left
 
 -- what is done with the types us below a line: they are visited; there are none; or they are skipped
 pub data Leaves {S : Type 0} (σ : S) (us : List Entry) (below : Below S) (skipped : Bool) : Type 0 where
@@ -67,31 +65,13 @@ module _ {s : Bytes} (tree : Subtree) {i : Option Info} {t : ArrowDataType} {es 
   abbrev l : FieldLine
   l = r .line
 
-  abbrev inner : Shape
-  inner = typeShape (toStorage t)
-
   abbrev below : List Entry
   below = typeBelow (toStorage t)
 
-  pub head-is : (entryHead (g .info, toStorage t) ≡ g .line .line) × Standing fields (drop (l .end) s) (below ++ es)
-  head-is = line-below fields-lawful (g .line .there) (g .info, toStorage t) es (g .type .stands)
-
-  pub rule-kept : Meets (shapeRule inner)
-  rule-kept = subst (λ (h : Head). Meets (shapeRule (h .shape))) (sym (head-is .0)) (g .line .there .own .1)
-
-  pub kind-is : l .kind ≡ columns inner .kind
-  kind-is = g .line .shows .kind ∙ ap (λ (h : Head). columns (h .shape) .kind) (sym (head-is .0))
-
-  pub p-is : l .p ≡ columns inner .p
-  p-is = g .line .shows .p ∙ ap (λ (h : Head). columns (h .shape) .p) (sym (head-is .0))
-
-  pub count-is : l .children ≡ typeCount (toStorage t)
-  count-is = g .line .shows .children ∙ ap (λ (h : Head). h .children) (sym (head-is .0))
-
   pub row : RowAt s (l .end) (l .children) (tree .levels - 1) false below es
   row =
-      subst (λ (n : ℕ). RowAt s (l .end) n (tree .levels - 1) false below es) (sym count-is)
-      (row-inside f (l .end) (head-is .1) (g .line .there .high) (storage-plain t))
+      subst (λ (n : ℕ). RowAt s (l .end) n (tree .levels - 1) false below es) (sym (line-count (g .type .stands) (g .line)))
+      (row-inside f (l .end) (line-opened (g .type .stands) (g .line) .1) (g .line .there .high) (storage-plain t))
 
   pub row-there : HasBelow s tree l
   row-there = (some-level f, (below, es, row))

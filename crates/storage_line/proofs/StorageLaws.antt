@@ -1,6 +1,6 @@
 -- One line further into the extensions around a type. By cases of the type that stands: an extension's inner type stands next, directly inside it, with the
 -- levels that are left; any other type is what `to_storage` gives of it. Assumes nothing.
-use mathlib.Core.Path.{_≡_, refl, sym, ap, subst, _∙_}
+use mathlib.Core.Path.{_≡_, refl, sym, subst, _∙_}
 use mathlib.Core.Bool.{Bool, true, false}
 use mathlib.Core.List.{List, _∷_, _++_}
 use mathlib.Core.Option.{Option, none}
@@ -14,19 +14,18 @@ use Rattle.sheets.specs.Field.{Info, ArrowDataType, scalar, nested, grouped, di
 use Rattle.sheets.specs.FieldSheet.{Entry}
 use Rattle.sheets.specs.LineTrees.{Standing}
 use Rattle.sheets.specs.TreeWalks.{HasTree}
-use Rattle.sheets.specs.FieldTrees.{Head, isExtension, lineCost, typeShape, typeBelow, entryHead, fields}
+use Rattle.sheets.specs.FieldTrees.{isExtension, lineCost, typeShape, typeBelow, fields}
 use Rattle.sheets.specs.Mappings.{toStorage}
 use Rattle.sheets.specs.Walk.{lineMeasure}
 use Rattle.sheets.proofs.Tests.{never}
-use Rattle.sheets.proofs.FieldTrees.{fields-lawful}
-use Rattle.sheets.proofs.TreeWalks.{line-below}
 use Rattle.sheets.proofs.StorageLaws.{storage-levels}
 use Rattle.read_field_line.specs.FieldLines.{FieldLineAt}
 use Rattle.read_field_line.specs.declared.FieldLine.{FieldLine}
-use Rattle.field_sheet.proofs.LevelLaws.{cost-low, extension-is}
+use Rattle.field_sheet.proofs.LevelLaws.{cost-low}
 use Rattle.walks.specs.Places.{TypeAt, HasType}
 use Rattle.walks.specs.declared.Subtree.{Subtree}
 use Rattle.walks.proofs.BeginLaws.{some-level}
+use Rattle.line_below.proofs.LineLaws.{line-opened, line-extension}
 use Rattle.storage_line.specs.StorageLines.{StorageTold}
 use Rattle.storage_line.specs.declared.StorageLine.{StorageLine}
 
@@ -40,17 +39,11 @@ module _ {s : Bytes} (tree : Subtree) {first : FieldLine} (k : FieldLineAt s (tr
   abbrev There : Option Info → ArrowDataType → List Entry → Type 0
   There i t es = TypeAt s (tree .at) (tree .levels) (tree .inside) i t es
 
-  opened : {i : Option Info} {t : ArrowDataType} {es : List Entry} → There i t es → (entryHead (i, t) ≡ k .line) × Standing fields (drop (first .end) s) (typeBelow t ++ es)
-  opened {i} {t} {es} f = line-below fields-lawful (k .there) (i, t) es (f .stands)
-
-  kind-told : {i : Option Info} {t : ArrowDataType} {es : List Entry} → There i t es → isExtension (typeShape t) ≡ isExtension (k .line .shape)
-  kind-told f = ap (λ (x : Head). isExtension (x .shape)) (opened f .0)
-
   -- ── no extension
 
   pub storage-here : (first .kind ≡ Kind.Extension → ⊥) → StorageTold s tree (record { at = tree .at; line = first })
   storage-here n i t es f =
-      let plain : isExtension (typeShape t) ≡ false = kind-told f ∙ extension-is first k ∙ ne-eqb (first .kind) Kind.Extension n in
+      let plain : isExtension (typeShape t) ≡ false = sym (line-extension (f .stands) k) ∙ ne-eqb (first .kind) Kind.Extension n in
       record {
         info = i;
         type =
@@ -78,7 +71,7 @@ module _ {s : Bytes} (tree : Subtree) {first : FieldLine} (k : FieldLineAt s (tr
     one-less false v a m h = omega arith
 
     inner : {i : Option Info} {t : ArrowDataType} {es : List Entry} → There i t es → Inner s tree (first .end) t es
-    inner {i} {t} {es} f = go t (f .deep) (kind-told f ∙ extension-is first k ∙ eq-eqb (first .kind) Kind.Extension e) (opened f .1)
+    inner {i} {t} {es} f = go t (f .deep) (sym (line-extension (f .stands) k) ∙ eq-eqb (first .kind) Kind.Extension e) (line-opened (f .stands) k .1)
       where
         go : (v : ArrowDataType) → typeLevels v (tree .inside) ≤ tree .levels → isExtension (typeShape v) ≡ true → Standing fields (drop (first .end) s) (typeBelow v ++ es) → Inner s tree (first .end) v es
         go (scalar c) d h w = never h

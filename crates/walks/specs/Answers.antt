@@ -24,10 +24,11 @@ abbrev pub stepAnswer : Step → Answer (ℕ × ℕ)
 stepAnswer (S.Done next len) = given (next, len)
 stepAnswer (S.Refused r) = refused (refusalOf r)
 
--- what is left after a line, or the refusal; the state of the types below is told by whether they stand directly in an extension
-abbrev pub begunAnswer : {S : Type 0} → (Bool → S) → LineBegun → Answer (Begun S)
+-- what is left after a line, or the refusal; the state of the types below is told by the levels left for them and by whether they stand directly in an
+-- extension
+abbrev pub begunAnswer : {S : Type 0} → (ℕ → Bool → S) → LineBegun → Answer (Begun S)
 begunAnswer state (B.Below w len p) =
-    given (record { from = w .at; count = w .count; levels = w .levels; inside = w .inside; state = state (w .inside); len = len; pending = pendingAnswer p })
+    given (record { from = w .at; count = w .count; levels = w .levels; inside = w .inside; state = state (w .levels) (w .inside); len = len; pending = pendingAnswer p })
 begunAnswer state (B.Refused r) = refused (refusalOf r)
 
 -- where the reading goes on and how many bytes were written, if the line was written at once

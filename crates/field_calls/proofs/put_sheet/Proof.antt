@@ -2,13 +2,13 @@
 use mathlib.Core.Path.{refl}
 use native.Mathlib.Omega.{arith}
 use denote.Ref.{now}
-use Rattle.field_calls.proofs.AnswerLaws.{heading-short, lines-refused, lines-long, lines-done}
+use Rattle.field_calls.proofs.AnswerLaws.{opening-short, lines-refused, lines-long, lines-done}
 use borrow.Author.Needs.{needs}
 use Rattle.field_calls.proofs.put_sheet.Statement.{statement}
 use Rattle.field_calls.proofs.put_sheet.Tie as tie
 
-put-heading-requires : tie.Need-put-heading-requires
-put-heading-requires c κs = search needs
+put-opening-requires : tie.Need-put-opening-requires
+put-opening-requires c κs = search needs
 
 within-requires : tie.Need-within-requires
 within-requires c κs = search needs
@@ -35,7 +35,7 @@ add-t19 : tie.Need-add-t19
 add-t19 c =
     let start = c .before .before .before .before .before .before .before .before .before .before .before .before .before .before in
     let r = c .before .before .before .before .before .walk-first in
-    omega (arith, lines-long (start .args .call) (now (start .args .s)) (start .args .at) _ (r .last .1 .1 .1 .0) (r .result) (r .ensures) _ _ (c .before .next .given .1) (start .pre), c .before .before .before .before .before .before .before .before .before .before .put-heading .ensures .0, heading-short (start .args .call))
+    omega (arith, lines-long (start .args .call) (now (start .args .s)) (start .args .at) _ (r .last .1 .1 .1 .0) (r .result) (r .ensures) _ _ (c .before .next .given .1) (start .pre), c .before .before .before .before .before .before .before .before .before .before .put-opening .ensures .0, opening-short (start .args .call))
 
 same-length : tie.Need-same-length
 same-length c = search needs
@@ -54,14 +54,14 @@ returns-2 c =
     let a = c .before .before .before .before .before .before .before .before .before .before .before .before .before .before .args in
     let r = c .before .before .before .before .before .walk-first in
     let w = c .before .before .before .before .before .before .before .within in
-    let h = c .before .before .before .before .before .before .before .before .before .before .put-heading in
+    let h = c .before .before .before .before .before .before .before .before .before .before .put-opening in
     lines-done (a .call) (now (a .s)) (a .at) _ (r .last .1 .1 .1 .0) (r .result) (r .ensures) _ _ (c .before .next .given .1) (now (a .out)) (h .last .1 .0) (h .result) (w .result) (h .ensures) (w .ensures) refl
 
 pub put-sheet-spec : {M : Type 1} → statement M
 put-sheet-spec =
     tie.close
     (tie.spec
-    put-heading-requires
+    put-opening-requires
     within-requires
     sub-walk-first
     part-walk-first-start

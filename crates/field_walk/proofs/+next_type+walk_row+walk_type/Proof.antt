@@ -110,7 +110,7 @@ walk-row-Inv-loop call s row out₀ here₀ sum₀ i₀ out here sum i =
     (i ≤ row .count)
     × (length out ≡ length out₀)
     × ((us es : List Entry) → RowAt s (row .at) (row .count) (row .levels) (row .inside) us es
-    → Going (stepOf call) s (row .at) (row .count) (row .levels) (row .inside) (stateOf call (row .inside)) out₀ out here sum i us es)
+    → Going (stepOf call) s (row .at) (row .count) (row .levels) (row .inside) (stateOf call (row .levels) (row .inside)) out₀ out here sum i us es)
 
 abbrev walk-row-μ-loop : walk-row-lts.MeasureT-loop
 walk-row-μ-loop call s row out₀ here₀ sum₀ i₀ out here sum i = row .count - i
@@ -123,7 +123,7 @@ gone : (t : ℕ) (c : walk-row-lts.After-known-told2 (walk-row-calls t) (walk-ro
     let w = c .before .before .before .before .before .before .before .within .result in
     let r = c .before .before .before .before .before .next-type in
     (us es : List Entry) → RowAt (now (a .s)) (row .at) (row .count) (row .levels) (row .inside) us es
-    → Going (stepOf (a .call)) (now (a .s)) (row .at) (row .count) (row .levels) (row .inside) (stateOf (a .call) (row .inside)) (now (a .out))
+    → Going (stepOf (a .call)) (now (a .s)) (row .at) (row .count) (row .levels) (row .inside) (stateOf (a .call) (row .levels) (row .inside)) (now (a .out))
     (take w (l .out) ++ (r .last .1 .1 .1 .0 ++ drop (length (l .out) - w) (drop w (l .out))))
     (c .before .next .given .0 .0) (l .sum + c .before .next .given .0 .1 .0) (l .i + 1) us es
 gone t c us es h =
@@ -201,8 +201,8 @@ begun : (t : ℕ) (c : walk-type-lts.After-within (walk-type-calls t) (walk-type
     let r = c .before .before .before .before .before .before .begin-line in
     let v = c .before .before .row .given .0 in
     (i : Option Info) (u : ArrowDataType) (es : List Entry) → TypeAt (now (a .s)) (a .tree .at) (a .tree .levels) (a .tree .inside) i u es
-    → Begins (stepOf (a .call)) (now (a .s)) (a .tree .at) (a .tree .levels) (a .tree .inside) (typeWalk (stepOf (a .call)) u i (stateOf (a .call) (a .tree .inside))) es (now (a .out)) (r .last .1 .1 .1 .0)
-    (record { from = v .0 .at; count = v .0 .count; levels = v .0 .levels; inside = v .0 .inside; state = stateOf (a .call) (v .0 .inside); len = v .1 .0; pending = pendingAnswer (v .1 .1 .0) })
+    → Begins (stepOf (a .call)) (now (a .s)) (a .tree .at) (a .tree .levels) (a .tree .inside) (typeWalk (stepOf (a .call)) u i (stateOf (a .call) (a .tree .levels) (a .tree .inside))) es (now (a .out)) (r .last .1 .1 .1 .0)
+    (record { from = v .0 .at; count = v .0 .count; levels = v .0 .levels; inside = v .0 .inside; state = stateOf (a .call) (v .0 .levels) (v .0 .inside); len = v .1 .0; pending = pendingAnswer (v .1 .1 .0) })
 begun t c = let a = c .before .before .before .before .before .before .before .before .before .before .args in let r = c .before .before .before .before .before .before .begin-line in begun-below (stepOf (a .call)) _ _ _ _ _ _ _ (begunAnswer (stateOf (a .call)) (r .result)) _ (ap (begunAnswer (stateOf (a .call))) (c .before .before .row .given .1)) (r .ensures)
 
 walk-type-begin-line-requires : (t : ℕ) → walk-type-lts.Need-begin-line-requires (walk-type-calls t) (walk-type-at t) walk-type.Post

@@ -31,6 +31,12 @@ enum-told-4 c = search needs
 begin-change-requires-2 : tie.Need-begin-change-requires-2
 begin-change-requires-2 c κs = search needs
 
+enum-told-5 : tie.Need-enum-told-5
+enum-told-5 c = search needs
+
+begin-page-requires : tie.Need-begin-page-requires
+begin-page-requires c κs = search needs
+
 same-length : tie.Need-same-length
 same-length c = search needs
 
@@ -55,6 +61,12 @@ same-length-4 c = search needs
 returns-4 : tie.Need-returns-4
 returns-4 c = let a = c .before .before .before .before .before .before .before .before .args in let r = c .before .before .begin-change2 in subst (λ (x : Call). CallBegins x (now (a .s)) (a .tree) (now (a .out)) (r .last .1 .1 .1 .0) (r .result)) (sym (c .before .before .before .before .enum-told4 .given .1)) (r .ensures)
 
+same-length-5 : tie.Need-same-length-5
+same-length-5 c = search needs
+
+returns-5 : tie.Need-returns-5
+returns-5 c = let a = c .before .before .before .before .before .before .before .before .args in let r = c .before .before .begin-page in subst (λ (x : Call). CallBegins x (now (a .s)) (a .tree) (now (a .out)) (r .last .1 .1 .0) (r .result)) (sym (c .before .before .before .before .enum-told5 .given .1)) (r .ensures)
+
 pub begin-line-spec : {M : Type 1} → statement M
 begin-line-spec =
     tie.close
@@ -67,6 +79,8 @@ begin-line-spec =
     begin-change-requires
     enum-told-4
     begin-change-requires-2
+    enum-told-5
+    begin-page-requires
     same-length
     returns
     same-length-2
@@ -74,4 +88,6 @@ begin-line-spec =
     same-length-3
     returns-3
     same-length-4
-    returns-4)
+    returns-4
+    same-length-5
+    returns-5)

@@ -18,7 +18,7 @@ returns c =
     let a = c .before .before .before .before .before .before .args in
     let w = a .tree in
     let r = c .before .before .walk-row in
-    first-wrote (now (a .s)) (w .at) (w .levels) (w .inside) (stepOf (a .call)) (stateOf (a .call) (w .inside)) (now (a .out)) (r .last .1 .1 .1 .0) (stepAnswer (r .result)) (r .ensures)
+    first-wrote (now (a .s)) (w .at) (w .levels) (w .inside) (stepOf (a .call)) (stateOf (a .call) (w .levels) (w .inside)) (now (a .out)) (r .last .1 .1 .1 .0) (stepAnswer (r .result)) (r .ensures)
 
 pub walk-first-spec : {M : Type 1} → statement M
 walk-first-spec = tie.close (tie.spec walk-row-requires same-length returns)

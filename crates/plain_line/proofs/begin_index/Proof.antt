@@ -1,6 +1,7 @@
 -- `begin_index` meets its contract: the laws of what is written, skipped and left. Assumes nothing.
 use native.Mathlib.Omega.{arith}
-use Rattle.plain_line.proofs.BeginLaws.{has-level, values-there, index-small, never-deep, index-begun, index-short}
+use Rattle.line_below.proofs.BelowLaws.{has-level, values-there}
+use Rattle.plain_line.proofs.BeginLaws.{index-small, never-deep, index-begun, index-short}
 use borrow.Author.Needs.{needs}
 use Rattle.plain_line.proofs.begin_index.Statement.{statement}
 use Rattle.plain_line.proofs.begin_index.Tie as tie

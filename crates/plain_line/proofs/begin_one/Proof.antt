@@ -1,14 +1,13 @@
 -- `begin_one` meets its contract: a law for each way of a line. Assumes nothing.
 use mathlib.Core.Path.{sym, _∙_}
-use Rattle.plain_line.proofs.BeginLaws.{has-tree, has-level, line-here, vanished, stayed}
+use Rattle.line_below.proofs.BelowLaws.{has-level}
+use Rattle.plain_line.proofs.BeginLaws.{line-here, vanished, stayed}
 use borrow.Author.Needs.{needs}
 use Rattle.plain_line.proofs.begin_one.Statement.{statement}
 use Rattle.plain_line.proofs.begin_one.Tie as tie
 
 field-line-at-requires : tie.Need-field-line-at-requires
-field-line-at-requires c κs =
-    let st = c .before .before in
-    has-tree (st .args .s .now) (st .args .tree) (st .pre)
+field-line-at-requires c κs = search needs
 
 line-change-requires : tie.Need-line-change-requires
 line-change-requires c κs = search needs

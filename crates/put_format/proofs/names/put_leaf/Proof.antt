@@ -12,7 +12,8 @@ use Rattle.format_names.proofs.NameLaws.{names-length}
 use Rattle.refusal.specs.declared.Refusal.the-variants as Refusals
 use Rattle.column_text.specs.ColumnText.{hasZero}
 use Rattle.put_format.specs.declared.Exported.the-variants.{Refused}
-use Rattle.put_format.proofs.LeafLaws.{leafRow, leaf-small, row-below, leaf-named, leaf-nameless, name-clean, name-short, name-part, formats-as}
+use Rattle.sheets.proofs.FieldTrees.{leaf-small}
+use Rattle.put_format.proofs.LeafLaws.{leafRow, row-below, leaf-named, leaf-nameless, name-clean, name-short, name-part, formats-as}
 use borrow.Author.Needs.{needs}
 use Rattle.put_format.proofs.names.put_leaf.Statement.{statement}
 use Rattle.put_format.proofs.names.put_leaf.Tie as tie

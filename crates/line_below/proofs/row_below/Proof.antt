@@ -1,10 +1,10 @@
 -- `row_below` meets its contract. Assumes nothing.
 use native.Mathlib.Omega.{arith}
 use Rattle.field_sheet.proofs.LevelLaws.{cost-low}
-use Rattle.plain_line.proofs.BeginLaws.{row-told}
+use Rattle.line_below.proofs.BelowLaws.{row-told}
 use borrow.Author.Needs.{needs}
-use Rattle.plain_line.proofs.row_below.Statement.{statement}
-use Rattle.plain_line.proofs.row_below.Tie as tie
+use Rattle.line_below.proofs.row_below.Statement.{statement}
+use Rattle.line_below.proofs.row_below.Tie as tie
 
 is-extension-requires : tie.Need-is-extension-requires
 is-extension-requires c κs = search needs
