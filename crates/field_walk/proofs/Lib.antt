@@ -1,2 +1,3 @@
 pub mod CycleLaws
 pub mod LeafLaws
+pub mod InnerLaws

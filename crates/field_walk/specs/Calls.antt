@@ -1,7 +1,8 @@
 -- The calls that answer lines for those of a field sheet: each has a step (sheets/specs/Walk) for a line, and what it tells is told of its step. Assumes nothing.
-use mathlib.Core.Bool.{Bool, true, false}
+use mathlib.Core.Bool.{Bool, true, false, _&&_}
 use mathlib.Core.Option.{Option, none}
 use Prim.Native.Nat.{ℕ}
+use lib.Dec.{eqb}
 use Rattle.sheets.specs.Bytes.{Bytes}
 use Rattle.sheets.specs.Answer.{Answer}
 use Rattle.sheets.specs.FieldTrees.{Head}
@@ -54,6 +55,10 @@ leafLineOf Plain = Same true
 leafLineOf ToStorageRecursive = Same true
 leafLineOf UnderlyingPhysicalType = Same false
 leafLineOf Page = PageLine
+
+-- the one type directly inside an extension
+abbrev pub isInner : Subtrees → Bool
+isInner w = w .inside && eqb (w .count) 1
 
 -- ── what the functions of the walk tell
 

@@ -2,10 +2,11 @@
 // into a lent buffer, by a recursion on the levels left.
 ghost use mathlib.Core.Path.{_≡_};
 ghost use Rattle.walks.specs.Places.{HasType, HasRow};
-ghost use Rattle.field_walk.specs.Calls.{leafLineOf, CallBegins, CallLeafWrote, CallWrote, CallRowWrote};
+ghost use Rattle.field_walk.specs.Calls.{isInner, leafLineOf, CallBegins, CallLeafWrote, CallWrote, CallRowWrote};
 use mapping_line::change::Change;
 use walks::LeafPut;
 use walks::LineBegun;
+use walks::Pending;
 use walks::Step;
 use walks::Subtree;
 use walks::Subtrees;
@@ -20,7 +21,7 @@ pub enum Call {
 }
 
 // A call is one case here: what it writes for the line at `at`, and what is left to be visited below.
-fn begin_line(call: Call, s: &[u8], tree: Subtree, out: &mut [u8]) -> LineBegun
+fn begin_one(call: Call, s: &[u8], tree: Subtree, out: &mut [u8]) -> LineBegun
     requires { ⌜ HasType (now s) (tree .at) (tree .levels) (tree .inside) ⌝ }
     ensures { λ r. ⌜ CallBegins call (now (s .entry)) tree (now (out .entry)) (now (out .exit)) r ⌝ }
 {
@@ -35,6 +36,48 @@ fn begin_line(call: Call, s: &[u8], tree: Subtree, out: &mut [u8]) -> LineBegun
             out,
         ),
         Call::Page => page_line::begin_page(s, tree, out),
+    }
+}
+
+// Whether what is left is the one type directly inside an extension.
+fn is_inner(row: Subtrees) -> bool
+    ensures { λ r. ⌜ r ≡ isInner row ⌝ }
+{
+    if !row.inside {
+        return false;
+    }
+    row.count == 1
+}
+
+// The same; after an extension's line that of its inner type is written at once, so that the recursion goes down one level for both.
+fn begin_line(call: Call, s: &[u8], tree: Subtree, out: &mut [u8]) -> LineBegun
+    requires { ⌜ HasType (now s) (tree .at) (tree .levels) (tree .inside) ⌝ }
+    ensures { λ r. ⌜ CallBegins call (now (s .entry)) tree (now (out .entry)) (now (out .exit)) r ⌝ }
+{
+    match begin_one(call, s, tree, out) {
+        LineBegun::Refused(r) => LineBegun::Refused(r),
+        LineBegun::Below(row, len, pending) => match pending {
+            Pending::Refused(r) => LineBegun::Below(row, len, Pending::Refused(r)),
+            Pending::Nothing => {
+                if !is_inner(row) {
+                    return LineBegun::Below(row, len, Pending::Nothing);
+                }
+                let w = buffer::within(len, out.len());
+                let inner = Subtree {
+                    at: row.at,
+                    levels: row.levels,
+                    inside: row.inside,
+                };
+                match begin_one(call, s, inner, &mut out[w..]) {
+                    LineBegun::Refused(r) => LineBegun::Refused(r),
+                    LineBegun::Below(next, more, later) => LineBegun::Below(
+                        next,
+                        len + more,
+                        later,
+                    ),
+                }
+            }
+        },
     }
 }
 

@@ -1,44 +1,62 @@
--- The name of each kind stands at its place in the table of the code, and fills its width: tests computed over all of the kinds. Assumes nothing.
-use mathlib.Core.Path.{_≡_, refl, _∙_, ap}
-use mathlib.Core.Bool.{Bool, true}
-use Prim.Native.Nat.{ℕ, suc, _+_, _*_, _-_, _≤_}
+-- The name of each kind fills its width, by a test computed over all of the kinds; a name from its two halves; and the kind that the last arm of a `match`
+-- is left with. Assumes nothing.
+use mathlib.Core.Path.{_≡_, sym, ap, ap₂, _∙_}
+use mathlib.Core.Bool.{Bool, true, false, not, _||_, true≢false}
+use mathlib.Core.List.{List, [], _++_, append-nil}
+use Prim.Native.Nat.{ℕ, suc, _+_, _≤_}
 use native.Mathlib.Omega.{arith}
-use lib.Dec.{eqb}
-use lib.ListN.{length, take, drop}
-use borrow.Author.Tests.{eqb-true}
-use Rattle.sheets.specs.Rule.{passes}
-use Rattle.sheets.specs.Bytes.{Bytes, same}
+use lib.Dec.{eqb, ltb}
+use lib.ListN.{length, drop, take-append-drop, length-drop, length-append, drop-of-length-le}
+use lib.Seq.{take-all}
+use borrow.Author.Tests.{eqb-true, le-ltb}
+use Rattle.sheets.specs.Rule.{Meets}
+use Rattle.sheets.specs.Bytes.{Bytes}
 use Rattle.sheets.specs.Kind
-use Rattle.sheets.specs.KindNames.{kindRows, kindName}
+use Rattle.sheets.specs.KindNames.{kindName}
 use Rattle.sheets.specs.Page.{kindWidth, leftIn}
-use Rattle.sheets.proofs.Tests.{every, at-each, meets}
-use Rattle.sheets.proofs.BytesLaws.{same-eq}
+use Rattle.sheets.proofs.Tests.{every, at-each}
+use Rattle.datatypes.proofs.AtLaws.{Rest, listed, not-listed}
+use Rattle.words.specs.Words.{WordAt, lowBytes}
+use Rattle.words.proofs.WordLaws.{low-word, length-low}
+use Rattle.buffer.specs.Over.{overAt}
+use Rattle.buffer.proofs.OverLaws.{over-fits, over-append, overAt-zero}
 
 abbrev pub padded : ℕ → Bytes
 padded k = leftIn kindWidth (kindName k)
 
--- how many kinds there are
-abbrev pub kinds : ℕ
-kinds = suc Kind.Union
+-- ── the halves
 
--- the name of a kind stands at its place
-abbrev pub nameRight : Bytes → ℕ → Bool
-unfolding kindRows
-nameRight l k = same (take kindWidth (drop (kindWidth * k) l)) (padded k)
+-- sixteen bytes read as two words
+pub halves-read : (s : Bytes) (low high : ℕ) → length s ≡ 16 → WordAt 8 s 0 low → WordAt 8 s 8 high → lowBytes 8 low ++ lowBytes 8 high ≡ s
+halves-read s low high e a b =
+    ap₂ _++_ (low-word a (omega (arith, e))) (low-word b (omega (arith, e)) ∙ take-all 8 (drop 8 s) (omega (arith, length-drop 8 s, e)))
+    ∙ take-append-drop 8 s
 
-pub name-at : (l : Bytes) → passes (every kinds (nameRight l)) ≡ true → (k from end : ℕ) → k ≤ Kind.Union → from ≡ kindWidth * k → end ≡ from + kindWidth
-    → take (end - from) (drop from l) ≡ padded k
-unfolding kindRows
-name-at l h k from end b e f =
-    let n : end - from ≡ kindWidth = omega arith in
-    ap (λ (i : ℕ). take i (drop from l)) n ∙ ap (λ (i : ℕ). take kindWidth (drop i l)) e
-    ∙ same-eq (take kindWidth (drop (kindWidth * k) l)) (padded k) (at-each kinds (nameRight l) (meets (every kinds (nameRight l)) h) k (omega arith))
+-- and written as two
+pub halves-written : (low high : ℕ) (blank first both : Bytes) → length blank ≡ 16 → first ≡ overAt 0 (lowBytes 8 low) blank → both ≡ overAt 8 (lowBytes 8 high) first
+    → both ≡ lowBytes 8 low ++ lowBytes 8 high
+halves-written low high blank first both n e f =
+    let l : length (lowBytes 8 low) ≡ 8 = length-low 8 low in
+    let t = lowBytes 8 low ++ lowBytes 8 high in
+    let size : length t ≡ 16 = length-append (lowBytes 8 low) (lowBytes 8 high) ∙ omega (arith, l, length-low 8 high) in
+    let none : drop (length t) blank ≡ [] = drop-of-length-le blank {i = length t} (omega (arith, size, n)) in
+    f ∙ ap₂ (λ (i : ℕ) (b : Bytes). overAt i (lowBytes 8 high) b) (sym l) (e ∙ overAt-zero (lowBytes 8 low) blank)
+    ∙ sym (over-append (lowBytes 8 low) (lowBytes 8 high) blank)
+    ∙ over-fits t blank (omega (arith, size, n))
+    ∙ ap (λ (b : Bytes). t ++ b) none
+    ∙ append-nil t
 
--- no name is longer than its width
-abbrev widthRight : ℕ → Bool
-unfolding kindRows
-widthRight k = eqb (length (padded k)) kindWidth
+-- ── the last arm
 
-pub padded-length : (k : ℕ) → k ≤ Kind.Union → length (padded k) ≡ kindWidth
-unfolding kindRows
-padded-length k b = eqb-true (length (padded k)) kindWidth (at-each kinds widthRight (meets (every kinds widthRight) refl) k (omega arith))
+-- each number from `from` up to `last` is a pattern, but the last
+abbrev pub allBut : ℕ → ℕ → List (List ℕ) → ℕ → Bool
+allBut from last kss k = ltb k from || (listed kss k || eqb k last)
+
+pub last-left : (from last : ℕ) (kss : List (List ℕ)) → Meets (every (suc last) (allBut from last kss)) → (x : ℕ) → from ≤ x → x ≤ last → Rest kss x → x ≡ last
+last-left from last kss h x l u r =
+    eqb-true x last (pick (ltb x from) (listed kss x) (le-ltb x from l) (not-listed x kss r) (at-each (suc last) (allBut from last kss) h x (omega arith)))
+  where
+    pick : (a b : Bool) → a ≡ false → not b ≡ true → (a || (b || eqb x last)) ≡ true → eqb x last ≡ true
+    pick true b p q t = absurd (true≢false p)
+    pick false true p q t = absurd (true≢false (sym q))
+    pick false false p q t = t

@@ -1,63 +1,117 @@
-// The names of the kinds, as `ArrowDataType` spells them.
+// The names of the kinds, as `ArrowDataType` spells them, each left-justified in 16 bytes. A `match` whose arms are constants compiles to a table that is only
+// read, where an array of all names would be stored anew at each call.
+ghost use mathlib.Core.Path.{_≡_};
 ghost use Prim.Native.Nat.{_+_, _≤_};
-ghost use Rattle.sheets.specs.Kind.{Union};
+ghost use Rattle.sheets.specs.Kind.{Interval, Binary, Union};
 ghost use Rattle.sheets.specs.KindNames.{kindName};
 ghost use Rattle.sheets.specs.Page.{kindWidth, leftIn};
 ghost use Rattle.buffer.specs.Over.{IsUsize, PutAt};
+ghost use Rattle.kind_names.specs.Halves.{bothHalves};
+use datatypes::kind;
 
-// Each left-justified in this many bytes, so that the place of a name is told by its kind.
-const WIDTH: usize = 16;
+// The first eight bytes of a name as one number, the lowest first, and the last eight.
+struct Halves {
+    low: u64,
+    high: u64,
+}
 
-// The names one after the other, in the order of the kinds.
-pub const NAMES: [u8; 672] = *b"Null            \
-    Boolean         \
-    Int8            \
-    Int16           \
-    Int32           \
-    Int64           \
-    Int128          \
-    UInt8           \
-    UInt16          \
-    UInt32          \
-    UInt64          \
-    UInt128         \
-    Float16         \
-    Float32         \
-    Float64         \
-    Timestamp       \
-    Date32          \
-    Date64          \
-    Time32          \
-    Time64          \
-    Duration        \
-    Interval        \
-    Binary          \
-    FixedSizeBinary \
-    LargeBinary     \
-    Utf8            \
-    LargeUtf8       \
-    List            \
-    FixedSizeList   \
-    LargeList       \
-    Struct          \
-    Map             \
-    Dictionary      \
-    Decimal         \
-    Decimal32       \
-    Decimal64       \
-    Decimal256      \
-    Extension       \
-    BinaryView      \
-    Utf8View        \
-    Unknown         \
-    Union           ";
+// With the name known, constants.
+fn in_halves(name: &[u8; 16]) -> Halves
+    ensures { λ r. ⌜ bothHalves r ≡ now (name .entry) ⌝ }
+{
+    Halves {
+        low: words::word8_at(name, 0),
+        high: words::word8_at(name, 8),
+    }
+}
 
-// Writes the name of a kind, left-justified in 16, from place at on, as much as fits; the place after it.
+// The name of a kind up to the last that has a unit.
+fn early_name(kind: u64) -> Halves
+    requires { ⌜ kind ≤ Interval ⌝ }
+    ensures { λ r. ⌜ bothHalves r ≡ leftIn kindWidth (kindName kind) ⌝ }
+{
+    match kind {
+        kind::NULL => in_halves(b"Null            "),
+        kind::BOOLEAN => in_halves(b"Boolean         "),
+        kind::INT8 => in_halves(b"Int8            "),
+        kind::INT16 => in_halves(b"Int16           "),
+        kind::INT32 => in_halves(b"Int32           "),
+        kind::INT64 => in_halves(b"Int64           "),
+        kind::INT128 => in_halves(b"Int128          "),
+        kind::UINT8 => in_halves(b"UInt8           "),
+        kind::UINT16 => in_halves(b"UInt16          "),
+        kind::UINT32 => in_halves(b"UInt32          "),
+        kind::UINT64 => in_halves(b"UInt64          "),
+        kind::UINT128 => in_halves(b"UInt128         "),
+        kind::FLOAT16 => in_halves(b"Float16         "),
+        kind::FLOAT32 => in_halves(b"Float32         "),
+        kind::FLOAT64 => in_halves(b"Float64         "),
+        kind::TIMESTAMP => in_halves(b"Timestamp       "),
+        kind::DATE32 => in_halves(b"Date32          "),
+        kind::DATE64 => in_halves(b"Date64          "),
+        kind::TIME32 => in_halves(b"Time32          "),
+        kind::TIME64 => in_halves(b"Time64          "),
+        kind::DURATION => in_halves(b"Duration        "),
+        _ => in_halves(b"Interval        "),
+    }
+}
+
+// The name of a later one.
+fn late_name(kind: u64) -> Halves
+    requires { ⌜ (Binary ≤ kind) × (kind ≤ Union) ⌝ }
+    ensures { λ r. ⌜ bothHalves r ≡ leftIn kindWidth (kindName kind) ⌝ }
+{
+    match kind {
+        kind::BINARY => in_halves(b"Binary          "),
+        kind::FIXED_SIZE_BINARY => in_halves(b"FixedSizeBinary "),
+        kind::LARGE_BINARY => in_halves(b"LargeBinary     "),
+        kind::UTF8 => in_halves(b"Utf8            "),
+        kind::LARGE_UTF8 => in_halves(b"LargeUtf8       "),
+        kind::LIST => in_halves(b"List            "),
+        kind::FIXED_SIZE_LIST => in_halves(b"FixedSizeList   "),
+        kind::LARGE_LIST => in_halves(b"LargeList       "),
+        kind::STRUCT => in_halves(b"Struct          "),
+        kind::MAP => in_halves(b"Map             "),
+        kind::DICTIONARY => in_halves(b"Dictionary      "),
+        kind::DECIMAL => in_halves(b"Decimal         "),
+        kind::DECIMAL32 => in_halves(b"Decimal32       "),
+        kind::DECIMAL64 => in_halves(b"Decimal64       "),
+        kind::DECIMAL256 => in_halves(b"Decimal256      "),
+        kind::EXTENSION => in_halves(b"Extension       "),
+        kind::BINARY_VIEW => in_halves(b"BinaryView      "),
+        kind::UTF8_VIEW => in_halves(b"Utf8View        "),
+        kind::UNKNOWN => in_halves(b"Unknown         "),
+        _ => in_halves(b"Union           "),
+    }
+}
+
+fn halves_of(kind: u64) -> Halves
+    requires { ⌜ kind ≤ Union ⌝ }
+    ensures { λ r. ⌜ bothHalves r ≡ leftIn kindWidth (kindName kind) ⌝ }
+{
+    if kind < kind::BINARY {
+        return early_name(kind);
+    }
+    late_name(kind)
+}
+
+// The name of a kind, left-justified in 16.
+pub fn padded(kind: u64) -> [u8; 16]
+    requires { ⌜ kind ≤ Union ⌝ }
+    ensures { λ r. ⌜ r ≡ leftIn kindWidth (kindName kind) ⌝ }
+{
+    let name = halves_of(kind);
+    let mut bytes = [b' '; 16];
+    words::put_word8(&mut bytes, 0, name.low);
+    words::put_word8(&mut bytes, 8, name.high);
+    bytes
+}
+
+// Writes it from place at on, as much as fits; the place after it.
 pub fn put_padded(out: &mut [u8], at: usize, kind: u64) -> usize
     requires { ⌜ (kind ≤ Union) × IsUsize (at + 16) ⌝ }
     ensures { λ r. ⌜ PutAt at (leftIn kindWidth (kindName kind)) r (now (out .entry)) (now (out .exit)) ⌝ }
 {
-    let from = WIDTH * kind as usize;
-    let end = from + WIDTH;
-    buffer::put_at(out, at, &NAMES[from..end])
+    let name = padded(kind);
+    buffer::put_at(out, at, &name)
 }

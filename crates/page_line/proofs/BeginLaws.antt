@@ -17,6 +17,7 @@ use Rattle.sheets.specs.Page.{nameDigits, lineShown, pageLine}
 use Rattle.sheets.specs.PageSteps.{levelOf, pageStep}
 use Rattle.sheets.specs.Walk.{typeWalk}
 use Rattle.sheets.proofs.WalkLaws.{walk-opened}
+use Rattle.sheets.proofs.PageLaws.{shown-ended}
 use Rattle.buffer.specs.Over.{PutFirst}
 use Rattle.columns.specs.Columns.{part}
 use Rattle.columns.specs.declared.Part.{Part}
@@ -29,10 +30,9 @@ use Rattle.walks.specs.declared.Pending.the-variants.{Nothing}
 use Rattle.walks.specs.declared.Subtree.{Subtree}
 use Rattle.walks.specs.declared.Subtrees.{Subtrees}
 use Rattle.line_below.specs.Below.{rowBelow}
-use Rattle.line_below.proofs.LineLaws.{line-opened, line-kind, line-small, line-extension}
+use Rattle.line_below.proofs.LineLaws.{line-opened, line-kind, line-extension}
 use Rattle.line_below.proofs.BelowLaws.{all-visited}
 use Rattle.page_line.specs.PageLines.{markOf, shownPart}
-use Rattle.page_line.proofs.PutLaws.{line-length}
 use Rattle.page_line.proofs.PageLaws.{mark-is, Shown, name-shown}
 
 module _ {s : Bytes} (tree : Subtree) {i : Option Info} {t : ArrowDataType} {es : List Entry} (f : TypeAt s (tree .at) (tree .levels) (tree .inside) i t es) {l : FieldLine} (k : FieldLineAt s (tree .at) l) where
@@ -54,4 +54,4 @@ module _ {s : Bytes} (tree : Subtree) {i : Option Info} {t : ArrowDataType} {es 
       λ x. ended (lineShown (level-is x) (line-kind (f .stands) k x) (marked x) (digits-shown names .is x) ∷ []) in
       all-visited tree f k pageStep (λ (levels : ℕ) (inside : Bool). (levels, inside)) (pageLine (levelOf (tree .levels) (tree .inside) (isExtension (typeShape t))) (entryHead (i, t)) ∷ [])
       (walk-opened pageStep t i (tree .levels, tree .inside)) out out' len (subst (λ (b : Bytes). PutFirst b len out out') text put)
-      (omega (arith, put .0, line-length level (l .kind) mark (part s (name .start) (name .end)) small (line-small (f .stands) k))) w e
+      (omega (arith, put .0, shown-ended level (l .kind) mark (part s (name .start) (name .end)) (omega (arith, small)))) w e

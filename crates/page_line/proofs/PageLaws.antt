@@ -1,17 +1,17 @@
 -- What a reader of lines tells gives the mark and the digits that the page shows; and the line of a leaf. Assumes nothing.
-use mathlib.Core.Path.{_≡_, refl, sym, ap, subst, _∙_}
+use mathlib.Core.Path.{_≡_, refl, ap, _∙_}
 use mathlib.Core.Bool.{Bool, true, false, not, _&&_}
 use mathlib.Core.List.{[], _∷_}
 use mathlib.Core.Option.{Option, none, some}
-use Prim.Native.Nat.{ℕ, suc, _+_, _-_, _≤_, _<_, min}
+use Prim.Native.Nat.{ℕ, _+_, _-_, _≤_, _<_}
 use native.Mathlib.Omega.{arith}
-use lib.Dec.{eqb, ltb}
+use lib.Dec.{eqb}
 use lib.ListN.{length, take, drop, length-take, length-drop}
 use borrow.Author.Tests.{lt-ltb, le-ltb}
 use Rattle.sheets.specs.Bytes.{Bytes}
 use Rattle.sheets.specs.Kind
 use Rattle.sheets.specs.Text.{hex}
-use Rattle.sheets.specs.Sheet.{ended, levelLimit}
+use Rattle.sheets.specs.Sheet.{ended}
 use Rattle.sheets.specs.Field.{Info, isLeaf, hasUnit}
 use Rattle.sheets.specs.FieldSheet.{infoColumns, toNat}
 use Rattle.sheets.specs.FieldTrees.{isBare}
@@ -19,6 +19,7 @@ use Rattle.sheets.specs.Page.{nullableMark, nameDigits, lineShown}
 use Rattle.sheets.specs.PageSteps.{levelOf}
 use Rattle.sheets.proofs.Tests.{and-left}
 use Rattle.sheets.proofs.FieldTrees.{leaf-small}
+use Rattle.sheets.proofs.PageLaws.{shown-ended}
 use Rattle.buffer.specs.Over.{over, PutFirst}
 use Rattle.columns.specs.Columns.{part, partOf}
 use Rattle.columns.specs.declared.Part.{Part}
@@ -27,7 +28,6 @@ use Rattle.field_leaf.specs.FieldLeaves.{isShort, FieldLeafAt}
 use Rattle.walks.specs.declared.Subtree.{Subtree}
 use Rattle.page_line.specs.PageLines.{markOf, shownPart}
 use Rattle.page_line.specs.PageLeaves.{PageLeafWritten}
-use Rattle.page_line.proofs.PutLaws.{line-length}
 
 -- ── the level
 
@@ -100,5 +100,5 @@ leaf-line s tree out out' {kind} {from} {e} {nullable} k level mark len l h m p 
       leaf = k;
       after = refl;
       put = (p .0 ∙ ap length text, p .1 ∙ ap (λ (b : Bytes). over b out) text);
-      short = omega (arith, p .0, line-length level kind mark (part s from e) h (short-small kind (k .short)));
+      short = omega (arith, p .0, shown-ended level kind mark (part s from e) (omega (arith, h)));
     }

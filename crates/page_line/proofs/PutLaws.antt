@@ -1,22 +1,22 @@
 -- A line of the page in its pieces: the level has one digit or two, the name is cut or followed by the spaces that are left, and the pieces one after the
--- other are the line, which has 73 bytes with its byte 10. Assumes nothing.
+-- other are the line. Assumes nothing.
 use mathlib.Core.Path.{_≡_, refl, sym, ap, _∙_}
-use mathlib.Core.Bool.{Bool, true, false}
+use mathlib.Core.Bool.{Bool}
 use mathlib.Core.List.{[], _∷_, _++_, append-assoc, append-nil}
-use Prim.Native.Nat.{ℕ, _+_, _-_, _≤_, _<_, min}
+use Prim.Native.Nat.{ℕ, _+_, _-_, _≤_, _<_}
 use native.Mathlib.Omega.{arith}
-use lib.ListN.{length, take, drop, replicate, length-append, length-take, length-replicate}
+use lib.ListN.{length, take, drop, replicate, length-take}
 use lib.Seq.{take-all}
 use borrow.Author.Tests.{lt-ltb, le-ltb}
 use Rattle.sheets.specs.Bytes.{Bytes, same, lineEnd, space, plusSign}
 use Rattle.sheets.specs.Kind
 use Rattle.sheets.specs.Number.{decimal}
 use Rattle.sheets.specs.Sheet.{ended}
-use Rattle.sheets.specs.Page.{levelWidth, kindWidth, nameWidth, rightIn, leftIn, nameColumn, cutMark, lineShown}
+use Rattle.sheets.specs.Page.{levelWidth, nameWidth, rightIn, nameColumn, cutMark, lineShown}
 use Rattle.sheets.proofs.Tests.{every, at-each, meets}
 use Rattle.sheets.proofs.BytesLaws.{same-eq}
-use Rattle.decimal.proofs.WriteLaws.{decimal-start, first-digit, two-digits, decimal-length}
-use Rattle.kind_names.proofs.NameLaws.{padded, padded-length}
+use Rattle.decimal.proofs.WriteLaws.{decimal-start, first-digit, two-digits}
+use Rattle.kind_names.proofs.NameLaws.{padded}
 use Rattle.page_line.specs.PageLines.{nameText}
 
 -- ── the level
@@ -26,11 +26,6 @@ one-digit n h = let e : decimal n ≡ (48 + n) ∷ [] = decimal-start n ∙ firs
 
 pub both-digits : (n : ℕ) → 10 ≤ n → n < 100 → (space ∷ []) ++ decimal n ≡ rightIn levelWidth (decimal n)
 both-digits n l h = rw (two-digits n l h)
-
-pub level-length : (n : ℕ) → n < 100 → length (rightIn levelWidth (decimal n)) ≡ levelWidth
-level-length n h =
-    length-append (replicate (levelWidth - length (decimal n)) space) (decimal n)
-    ∙ omega (arith, length-replicate {A = ℕ} (levelWidth - length (decimal n)) space, decimal-length 2 n (omega arith) (omega arith))
 
 -- ── the name
 
@@ -65,12 +60,6 @@ module _ (digits : Bytes) where
       let n : nameWidth - length (take nameWidth digits) ≡ 0 = omega (arith, length-take nameWidth digits) in
       rw (n, lt-ltb nameWidth (length digits) h) (ap (λ (b : Bytes). b ++ (plusSign ∷ lineEnd ∷ [])) (sym (append-nil (take nameWidth digits))))
 
-  pub name-length : length (nameText digits) ≡ 50
-  unfolding nameText
-  name-length =
-      length-append (nameColumn digits) (cutMark digits ∷ lineEnd ∷ [])
-      ∙ omega (arith, length-append (take nameWidth digits) (replicate (nameWidth - length (take nameWidth digits)) space), length-replicate {A = ℕ} (nameWidth - length (take nameWidth digits)) space, length-take nameWidth digits)
-
 -- ── the line
 
 -- the pieces as writers one after the other leave them
@@ -84,12 +73,3 @@ line-pieces level kind mark digits = joined (rightIn levelWidth (decimal level))
         → (((l ++ (space ∷ [])) ++ k) ++ (space ∷ mark ∷ space ∷ [])) ++ (n ++ (cut ∷ lineEnd ∷ []))
         ≡ (l ++ (space ∷ k ++ (space ∷ mark ∷ space ∷ n ++ (cut ∷ [])))) ++ (lineEnd ∷ [])
     joined l k n cut = simp append-assoc
-
-pub line-length : (level kind mark : ℕ) (digits : Bytes) → level < 100 → kind ≤ Kind.Union → length (ended (lineShown level kind mark digits ∷ [])) ≡ 73
-line-length level kind mark digits h k =
-    ap length (sym (line-pieces level kind mark digits))
-    ∙ sizes (rightIn levelWidth (decimal level)) (padded kind) (nameText digits)
-    ∙ omega (arith, level-length level h, padded-length kind k, name-length digits)
-  where
-    sizes : (l k n : Bytes) → length ((((l ++ (space ∷ [])) ++ k) ++ (space ∷ mark ∷ space ∷ [])) ++ n) ≡ 4 + length l + length k + length n
-    sizes l k n = simp length-append (omega arith)

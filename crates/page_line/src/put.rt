@@ -1,5 +1,4 @@
 // One line of a page, written into a lent buffer, as much as fits.
-ghost use mathlib.Core.Path.{_≡_};
 ghost use mathlib.Core.List.{[], _∷_};
 ghost use Prim.Native.Nat.{_+_, _≤_, _<_};
 ghost use Rattle.sheets.specs.Bytes.{space};

@@ -1,4 +1,3 @@
 pub mod IdsLaws
 pub mod LineLaws
 pub mod BeginLaws
-pub mod InnerLaws

@@ -1,7 +1,7 @@
 -- Document 01, 'Plain form', of one line and of what stands below it: "Extensions directly inside an extension vanish; the outermost stays. A dictionary
 -- then directly under an extension becomes its index type." Assumes nothing.
 use mathlib.Core.Path.{_≡_}
-use mathlib.Core.Bool.{Bool, cond, _&&_}
+use mathlib.Core.Bool.{Bool, cond}
 use mathlib.Core.List.{[], _∷_}
 use mathlib.Core.Option.{none}
 use Prim.Native.Nat.{ℕ, _+_}
@@ -19,17 +19,12 @@ use Rattle.walks.specs.Places.{HasType, TypeBegins}
 use Rattle.walks.specs.Answers.{begunAnswer}
 use Rattle.walks.specs.declared.LineBegun.{LineBegun}
 use Rattle.walks.specs.declared.Subtree.{Subtree}
-use Rattle.walks.specs.declared.Subtrees.{Subtrees}
 use Rattle.plain_line.specs.declared.LineChange.{LineChange}
 use Rattle.plain_line.specs.declared.LineChange.the-variants.{Vanishes, BecomesIndex, Stays}
 
 -- what becomes of a line of this kind, directly inside an extension or not
 abbrev pub lineChangeOf : Bool → ℕ → LineChange
 lineChangeOf inside kind = cond inside (cond (eqb kind Kind.Extension) Vanishes (cond (eqb kind Kind.Dictionary) BecomesIndex Stays)) Stays
-
--- the one type directly inside an extension
-abbrev pub isInner : Subtrees → Bool
-isInner w = w .inside && eqb (w .count) 1
 
 -- "a bare line of that type's kind, with `p`, `q` 0, both texts `~` and no children"
 abbrev pub indexLine : ℕ → Bytes

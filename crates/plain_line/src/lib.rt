@@ -6,7 +6,7 @@ ghost use mathlib.Core.Path.{_≡_};
 ghost use Prim.Native.Nat.{_<_};
 ghost use Rattle.buffer.specs.Over.{PutAt};
 ghost use Rattle.walks.specs.Places.{HasType};
-ghost use Rattle.plain_line.specs.Begins.{lineChangeOf, indexLine, HasIndex, isInner, PlainBegins};
+ghost use Rattle.plain_line.specs.Begins.{lineChangeOf, indexLine, HasIndex, PlainBegins};
 use datatypes::kind;
 use field_sheet::subtrees::Skipped;
 use read_field_line::FieldLine;
@@ -71,7 +71,7 @@ fn begin_index(s: &[u8], tree: Subtree, l: FieldLine, out: &mut [u8]) -> LineBeg
 }
 
 // Writes the plain form of the line at `tree.at`, as far as it fits.
-fn begin_one(s: &[u8], tree: Subtree, out: &mut [u8]) -> LineBegun
+pub fn begin_plain(s: &[u8], tree: Subtree, out: &mut [u8]) -> LineBegun
     requires { ⌜ HasType (now s) (tree .at) (tree .levels) (tree .inside) ⌝ }
     ensures { λ r. ⌜ PlainBegins (now (s .entry)) tree (now (out .entry)) (now (out .exit)) r ⌝ }
 {
@@ -87,47 +87,5 @@ fn begin_one(s: &[u8], tree: Subtree, out: &mut [u8]) -> LineBegun
             let len = crate::line::put_line(s, tree.at, l, out);
             LineBegun::Below(row, len, Pending::Nothing)
         }
-    }
-}
-
-// Whether what is left is the one type directly inside an extension.
-fn is_inner(row: Subtrees) -> bool
-    ensures { λ r. ⌜ r ≡ isInner row ⌝ }
-{
-    if !row.inside {
-        return false;
-    }
-    row.count == 1
-}
-
-// The same; after an extension's line that of its inner type is written at once, so that the recursion goes down one level for both.
-pub fn begin_plain(s: &[u8], tree: Subtree, out: &mut [u8]) -> LineBegun
-    requires { ⌜ HasType (now s) (tree .at) (tree .levels) (tree .inside) ⌝ }
-    ensures { λ r. ⌜ PlainBegins (now (s .entry)) tree (now (out .entry)) (now (out .exit)) r ⌝ }
-{
-    match begin_one(s, tree, out) {
-        LineBegun::Refused(r) => LineBegun::Refused(r),
-        LineBegun::Below(row, len, pending) => match pending {
-            Pending::Refused(r) => LineBegun::Below(row, len, Pending::Refused(r)),
-            Pending::Nothing => {
-                if !is_inner(row) {
-                    return LineBegun::Below(row, len, Pending::Nothing);
-                }
-                let w = buffer::within(len, out.len());
-                let inner = Subtree {
-                    at: row.at,
-                    levels: row.levels,
-                    inside: row.inside,
-                };
-                match begin_one(s, inner, &mut out[w..]) {
-                    LineBegun::Refused(r) => LineBegun::Refused(r),
-                    LineBegun::Below(next, more, later) => LineBegun::Below(
-                        next,
-                        len + more,
-                        later,
-                    ),
-                }
-            }
-        },
     }
 }

@@ -24,6 +24,7 @@ use Rattle.sheets.specs.Field.{Info, ArrowDataType, scalar, nested, grou
 use Rattle.sheets.specs.FieldSheet.{Shape, columns, ofScalar, ofNesting, ofGrouping, ofDictionary, ofExtension, toNat, typeLines, fieldsLines, fieldHeading, readFieldSheet}
 use Rattle.sheets.specs.LineTrees.{Each, tallest}
 use Rattle.sheets.specs.FieldTrees.{Head, readHead, shapeRule, ownRule, isExtension, typeShape}
+use Rattle.sheets.specs.Kind
 use Rattle.sheets.specs.KindNames.{KindRow, kindRows, nameIn, kindName}
 use Rattle.sheets.specs.Walk.{headWith, headText}
 use Rattle.sheets.specs.Page.{rightIn, leftIn, nullableMark, nameDigits, levelWidth, kindWidth, nameWidth, nameColumn, cutMark, lineShown, pageLine, Placed, innerLevel, typePlaced, fieldsPlaced, placedLines, placedText, page}
@@ -58,9 +59,9 @@ unfolding kindRows
 names-fit = meets (each (λ (r : KindRow). is (nameFits (r .name))) kindRows) refl
 
 -- every kind has one
-pub kind-named : (k : ℕ) → k < 42 → nameFits (kindName k) ≡ true
+pub kind-named : (k : ℕ) → k ≤ Kind.Union → nameFits (kindName k) ≡ true
 unfolding kindRows
-kind-named k h = at-each 42 (λ n. nameFits (kindName n)) (meets (every 42 (λ n. nameFits (kindName n))) refl) k h
+kind-named k h = at-each 42 (λ n. nameFits (kindName n)) (meets (every 42 (λ n. nameFits (kindName n))) refl) k (omega (arith, h))
 
 -- and a number that is no kind has the empty name
 no-name : (rs : List KindRow) → Meets (each (λ (r : KindRow). is (ltb (r .kind) 42)) rs) → (k : ℕ) → 42 ≤ k → nameIn rs k ≡ []
@@ -71,8 +72,8 @@ kinds-below : Meets (each (λ (r : KindRow). is (ltb (r .kind) 42)) kindRows)
 unfolding kindRows
 kinds-below = meets (each (λ (r : KindRow). is (ltb (r .kind) 42)) kindRows) refl
 
-pub kind-nameless : (k : ℕ) → 42 ≤ k → kindName k ≡ []
-kind-nameless k l = no-name kindRows kinds-below k l
+pub kind-nameless : (k : ℕ) → Kind.Union < k → kindName k ≡ []
+kind-nameless k l = no-name kindRows kinds-below k (omega (arith, l))
 
 -- so every name fits
 name-in : (rs : List KindRow) → Meets (each (λ (r : KindRow). is (nameFits (r .name))) rs) → (k : ℕ) → length (nameIn rs k) ≤ kindWidth
@@ -132,8 +133,11 @@ module _ (level kind mark : ℕ) (digits : Bytes) where
         name-column digits,
       )
 
-  shown-length : level < 1000 → length (lineShown level kind mark digits) ≡ 72
+  pub shown-length : level < 1000 → length (lineShown level kind mark digits) ≡ 72
   shown-length h = ap length front-cut ∙ length-append (front level kind mark digits) (cutMark digits ∷ []) ∙ omega (arith, front-length h)
+
+  pub shown-ended : level < 1000 → length (ended (lineShown level kind mark digits ∷ [])) ≡ 73
+  shown-ended h = omega (arith, shown-length h, length-append (lineShown level kind mark digits) (lineEnd ∷ []))
 
   shown-cut : level < 1000 → getD (lineShown level kind mark digits) 71 0 ≡ cutMark digits
   shown-cut h = ap (λ (l : Bytes). getD l 71 0) front-cut ∙ getD-at (front level kind mark digits) (cutMark digits) [] 0 71 (front-length h)
@@ -141,8 +145,9 @@ module _ (level kind mark : ℕ) (digits : Bytes) where
 -- "Each line .. becomes exactly 72 bytes and a byte 10"
 pub line-length : (level : ℕ) (x : Head) → level < 1000 → (length (pageLine level x) ≡ 72) × (length (pageLine level x ++ (lineEnd ∷ [])) ≡ 73)
 line-length level x h =
-    let n : length (pageLine level x) ≡ 72 = shown-length level (columns (x .shape) .kind) (nullableMark (x .info)) (nameDigits (x .info)) h in
-    (n, omega (arith, n, length-append (pageLine level x) (lineEnd ∷ [])))
+    let k = columns (x .shape) .kind in
+    let mark = nullableMark (x .info) in
+    (shown-length level k mark (nameDigits (x .info)) h, shown-ended level k mark (nameDigits (x .info)) h)
 
 -- byte 72: "then `+` if the name was cut at 48 digits and a space if it was not"
 pub byte-72 : (level : ℕ) (x : Head) → level < 1000 → getD (pageLine level x) 71 0 ≡ cutMark (nameDigits (x .info))

@@ -1,6 +1,6 @@
 -- Document 02, #101, 'A page for the service binder': a field's lines, one below the other, for a person to look at. "Each line below the heading, in sheet
 -- order, becomes exactly 72 bytes and a byte 10"; the heading becomes none. Assumes nothing.
-use mathlib.Core.Bool.{Bool, cond}
+use mathlib.Core.Bool.{cond}
 use mathlib.Core.List.{List, [], _∷_, _++_, map}
 use mathlib.Core.Option.{Option, none, some}
 use Prim.Native.Nat.{ℕ, suc, _-_}

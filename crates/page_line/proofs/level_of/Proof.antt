@@ -1,7 +1,5 @@
 -- `level_of` meets its contract: where more levels are left than a sheet has, the difference is 0. Assumes nothing.
-use mathlib.Core.Path.{_≡_}
 use native.Mathlib.Omega.{arith}
-use Rattle.sheets.specs.FieldSheet.{toNat}
 use Rattle.page_line.proofs.PageLaws.{flag-small}
 use borrow.Author.Needs.{needs}
 use Rattle.page_line.proofs.level_of.Statement.{statement}

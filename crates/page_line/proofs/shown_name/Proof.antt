@@ -1,5 +1,5 @@
 -- `shown_name` meets its contract: the length is the same whether or not the start is past the end. Assumes nothing.
-use mathlib.Core.Path.{sym, _∙_}
+use mathlib.Core.Path.{_∙_}
 use native.Mathlib.Omega.{arith}
 use Rattle.page_line.proofs.PageLaws.{shows-none, shows-itself}
 use borrow.Author.Needs.{needs}

@@ -1,157 +1,81 @@
--- `begin_plain` meets its contract: a line by itself, or an extension's and that of its inner type at once (`InnerLaws`). Assumes nothing.
-use mathlib.Core.Path.{_≡_, refl, sym, ap, subst, _∙_}
-use mathlib.Core.List.{_++_}
-use Prim.Native.Nat.{_-_}
-use native.Mathlib.Omega.{arith}
-use lib.ListN.{length, take, drop}
-use denote.Ref.{now}
-use borrow.Author.Tests.{not-true, not-false}
-use Rattle.walks.specs.declared.LineBegun.{LineBegun}
-use Rattle.walks.specs.declared.LineBegun.the-variants.{Below}
-use Rattle.walks.specs.declared.Pending.{Pending}
-use Rattle.plain_line.specs.Begins.{PlainBegins}
-use Rattle.plain_line.proofs.InnerLaws.{innerOf, has-inner, inner-refused, inner-short, inner-begun}
+-- `begin_plain` meets its contract: a law for each way of a line. Assumes nothing.
+use mathlib.Core.Path.{sym, _∙_}
+use Rattle.line_below.proofs.BelowLaws.{has-level}
+use Rattle.plain_line.proofs.BeginLaws.{line-here, vanished, stayed}
 use borrow.Author.Needs.{needs}
 use Rattle.plain_line.proofs.begin_plain.Statement.{statement}
 use Rattle.plain_line.proofs.begin_plain.Tie as tie
 
-begin-one-requires : tie.Need-begin-one-requires
-begin-one-requires c κs = search needs
+field-line-at-requires : tie.Need-field-line-at-requires
+field-line-at-requires c κs = search needs
 
-enum-known-r : tie.Need-enum-known-r
-enum-known-r c = search needs
-
-enum-known-row : tie.Need-enum-known-row
-enum-known-row c = search needs
-
-enum-known-pending : tie.Need-enum-known-pending
-enum-known-pending c = search needs
+line-change-requires : tie.Need-line-change-requires
+line-change-requires c κs = search needs
 
 enum-told : tie.Need-enum-told
 enum-told c = search needs
 
-is-inner-requires : tie.Need-is-inner-requires
-is-inner-requires c κs = search needs
+row-below-requires : tie.Need-row-below-requires
+row-below-requires c κs =
+    let st = c .before .before .before .before .before .before in
+    has-level (st .args .s .now) (st .args .tree) (st .pre)
+
+enum-told-2 : tie.Need-enum-told-2
+enum-told-2 c = search needs
+
+begin-index-requires : tie.Need-begin-index-requires
+begin-index-requires c κs = record { type = c .before .before .before .before .before .before .before .pre; line = c .before .before .before .before .field-line-at .ensures; change = sym (c .before .before .before .line-change .ensures) ∙ c .before .enum-told2 .given .1 }
+
+enum-told-3 : tie.Need-enum-told-3
+enum-told-3 c = search needs
+
+row-below-requires-2 : tie.Need-row-below-requires-2
+row-below-requires-2 c κs =
+    let st = c .before .before .before .before .before .before in
+    has-level (st .args .s .now) (st .args .tree) (st .pre)
+
+put-line-requires : tie.Need-put-line-requires
+put-line-requires c κs =
+    let st = c .before .before .before .before .before .before .before .before in
+    let l = c .before .before .before .before .before .field-line-at in
+    line-here (st .args .s .now) (st .args .tree) (st .pre) (l .result) (l .ensures)
+
+returns : tie.Need-returns
+returns c =
+    let a = c .before .before .before .before .before .before .before .args in
+    λ i t es f. vanished (a .tree) f (c .before .before .before .before .field-line-at .ensures) (sym (c .before .before .before .line-change .ensures) ∙ c .before .enum-told .given .1) (a .out .now) (c .row-below .result) (c .row-below .ensures)
 
 same-length : tie.Need-same-length
 same-length c = search needs
 
-returns : tie.Need-returns
-returns c =
-    let a = c .before .before .before .before .before .before .before .before .before .before .before .before .before .args in
-    let r = c .before .before .before .before .before .before .before .before .before .begin-one in
-    let b = c .before .before .before .before .before .row in
-    let first = subst (λ (x : LineBegun). PlainBegins (now (a .s)) (a .tree) (now (a .out)) (r .last .1 .1 .0) x) (b .given .1 ∙ ap (λ (p : Pending). Below (b .given .0 .0) (b .given .0 .1 .0) p) (c .before .before .enum-told .given .1)) (r .ensures) in
-    first
-
-within-requires : tie.Need-within-requires
-within-requires c κs = search needs
-
-sub-begin-one : tie.Need-sub-begin-one
-sub-begin-one c = search needs
-
-part-begin-one-start : tie.Need-part-begin-one-start
-part-begin-one-start c = search needs
-
-part-begin-one-end : tie.Need-part-begin-one-end
-part-begin-one-end c = search needs
-
-begin-one-requires-2 : tie.Need-begin-one-requires-2
-begin-one-requires-2 c κs =
-    let a = c .before .before .before .before .before .before .before .before .before .before .before .before .before .before .before .args in
-    let r = c .before .before .before .before .before .before .before .before .before .before .before .begin-one in
-    let b = c .before .before .before .before .before .before .before .row in
-    let first = subst (λ (x : LineBegun). PlainBegins (now (a .s)) (a .tree) (now (a .out)) (r .last .1 .1 .0) x) (b .given .1 ∙ ap (λ (p : Pending). Below (b .given .0 .0) (b .given .0 .1 .0) p) (c .before .before .before .before .enum-told .given .1)) (r .ensures) in
-    has-inner (now (a .s)) (a .tree) (now (a .out)) (r .last .1 .1 .0) (b .given .0 .0) (b .given .0 .1 .0) (sym (c .before .before .before .is-inner .ensures) ∙ not-false _ (c .before .before .if1 .left)) first (c .before .before .before .before .before .before .before .before .before .before .before .before .before .before .before .pre)
-
-enum-known-r-2 : tie.Need-enum-known-r-2
-enum-known-r-2 c = search needs
-
-enum-known-next : tie.Need-enum-known-next
-enum-known-next c = search needs
-
-add-t30 : tie.Need-add-t30
-add-t30 c =
-    let a = c .before .before .before .before .before .before .before .before .before .before .before .before .before .before .before .before .before .before .before .before .before .args in
-    let r = c .before .before .before .before .before .before .before .before .before .before .before .before .before .before .before .before .before .begin-one in
-    let b = c .before .before .before .before .before .before .before .before .before .before .before .before .before .row in
-    let first = subst (λ (x : LineBegun). PlainBegins (now (a .s)) (a .tree) (now (a .out)) (r .last .1 .1 .0) x) (b .given .1 ∙ ap (λ (p : Pending). Below (b .given .0 .0) (b .given .0 .1 .0) p) (c .before .before .before .before .before .before .before .before .before .before .enum-told .given .1)) (r .ensures) in
-    let q = c .before .before .before .before .before .begin-one2 in
-    let w = c .before .before .before .before .before .before .before .within .result in
-    let n = c .before .next in
-    omega (arith, inner-short (now (a .s)) (a .tree) (now (a .out)) (r .last .1 .1 .0) (b .given .0 .0) (b .given .0 .1 .0) (sym (c .before .before .before .before .before .before .before .before .before .is-inner .ensures) ∙ not-false _ (c .before .before .before .before .before .before .before .before .if1 .left)) first (take (length (r .last .1 .1 .0) - w) (drop w (r .last .1 .1 .0))) (q .last .1 .1 .0) (n .given .0 .0) (n .given .0 .1 .0) (n .given .0 .1 .1 .0) (subst (λ (x : LineBegun). PlainBegins (now (a .s)) (innerOf (b .given .0 .0)) (take (length (r .last .1 .1 .0) - w) (drop w (r .last .1 .1 .0))) (q .last .1 .1 .0) x) (n .given .1) (q .ensures)) (c .before .before .before .before .before .before .before .before .before .before .before .before .before .before .before .before .before .before .before .before .before .pre))
+returns-2 : tie.Need-returns-2
+returns-2 c = c .before .before .begin-index .ensures
 
 same-length-2 : tie.Need-same-length-2
 same-length-2 c = search needs
 
-returns-2 : tie.Need-returns-2
-returns-2 c =
-    let a = c .before .before .before .before .before .before .before .before .before .args in
-    let r = c .before .before .before .before .before .begin-one in
-    subst (λ (x : LineBegun). PlainBegins (now (a .s)) (a .tree) (now (a .out)) (r .last .1 .1 .0) x) (c .before .r .given .1) (r .ensures)
-
-same-length-3 : tie.Need-same-length-3
-same-length-3 c = search needs
-
 returns-3 : tie.Need-returns-3
 returns-3 c =
-    let a = c .before .before .before .before .before .before .before .before .before .before .before .before .args in
-    let r = c .before .before .before .before .before .before .before .before .begin-one in
-    let b = c .before .before .before .before .row in
-    subst (λ (x : LineBegun). PlainBegins (now (a .s)) (a .tree) (now (a .out)) (r .last .1 .1 .0) x) (b .given .1 ∙ ap (λ (p : Pending). Below (b .given .0 .0) (b .given .0 .1 .0) p) (c .before .pending .given .1)) (r .ensures)
-
-same-length-4 : tie.Need-same-length-4
-same-length-4 c = search needs
-
-returns-4 : tie.Need-returns-4
-returns-4 c =
-    let a = c .before .before .before .before .before .before .before .before .before .before .before .before .before .before .before .before .before .before .before .before .before .args in
-    let r = c .before .before .before .before .before .before .before .before .before .before .before .before .before .before .before .before .before .begin-one in
-    let b = c .before .before .before .before .before .before .before .before .before .before .before .before .before .row in
-    let first = subst (λ (x : LineBegun). PlainBegins (now (a .s)) (a .tree) (now (a .out)) (r .last .1 .1 .0) x) (b .given .1 ∙ ap (λ (p : Pending). Below (b .given .0 .0) (b .given .0 .1 .0) p) (c .before .before .before .before .before .before .before .before .before .before .enum-told .given .1)) (r .ensures) in
-    let q = c .before .before .before .before .before .begin-one2 in
-    let w = c .before .before .before .before .before .before .before .within .result in
-    inner-refused (now (a .s)) (a .tree) (now (a .out)) (r .last .1 .1 .0) (b .given .0 .0) (b .given .0 .1 .0) (sym (c .before .before .before .before .before .before .before .before .before .is-inner .ensures) ∙ not-false _ (c .before .before .before .before .before .before .before .before .if1 .left)) first (take (length (r .last .1 .1 .0) - w) (drop w (r .last .1 .1 .0))) (q .last .1 .1 .0) (c .before .r2 .given .0 .0) (subst (λ (x : LineBegun). PlainBegins (now (a .s)) (innerOf (b .given .0 .0)) (take (length (r .last .1 .1 .0) - w) (drop w (r .last .1 .1 .0))) (q .last .1 .1 .0) x) (c .before .r2 .given .1) (q .ensures)) (take w (r .last .1 .1 .0) ++ (q .last .1 .1 .0 ++ drop (length (r .last .1 .1 .0) - w) (drop w (r .last .1 .1 .0))))
-
-same-length-5 : tie.Need-same-length-5
-same-length-5 c = search needs
-
-returns-5 : tie.Need-returns-5
-returns-5 c =
-    let a = c .before .before .before .before .before .before .before .before .before .before .before .before .before .before .before .before .before .before .before .before .before .args in
-    let r = c .before .before .before .before .before .before .before .before .before .before .before .before .before .before .before .before .before .begin-one in
-    let b = c .before .before .before .before .before .before .before .before .before .before .before .before .before .row in
-    let first = subst (λ (x : LineBegun). PlainBegins (now (a .s)) (a .tree) (now (a .out)) (r .last .1 .1 .0) x) (b .given .1 ∙ ap (λ (p : Pending). Below (b .given .0 .0) (b .given .0 .1 .0) p) (c .before .before .before .before .before .before .before .before .before .before .enum-told .given .1)) (r .ensures) in
-    let q = c .before .before .before .before .before .begin-one2 in
-    let w = c .before .before .before .before .before .before .before .within .result in
-    let n = c .before .next in
-    inner-begun (now (a .s)) (a .tree) (now (a .out)) (r .last .1 .1 .0) (b .given .0 .0) (b .given .0 .1 .0) (sym (c .before .before .before .before .before .before .before .before .before .is-inner .ensures) ∙ not-false _ (c .before .before .before .before .before .before .before .before .if1 .left)) first (take (length (r .last .1 .1 .0) - w) (drop w (r .last .1 .1 .0))) (q .last .1 .1 .0) (n .given .0 .0) (n .given .0 .1 .0) (n .given .0 .1 .1 .0) (subst (λ (x : LineBegun). PlainBegins (now (a .s)) (innerOf (b .given .0 .0)) (take (length (r .last .1 .1 .0) - w) (drop w (r .last .1 .1 .0))) (q .last .1 .1 .0) x) (n .given .1) (q .ensures)) (c .before .before .before .before .before .before .before .within .result) (c .before .before .before .before .before .before .before .within .ensures) refl
+    let a = c .before .before .before .before .before .before .before .before .before .before .before .args in
+    let p = c .before .before .put-line in
+    let row = c .before .before .before .before .row-below2 in
+    λ i t es f. stayed (a .tree) f (c .before .before .before .before .before .before .before .before .field-line-at .ensures) (sym (c .before .before .before .before .before .before .before .line-change .ensures) ∙ c .before .before .before .before .before .enum-told3 .given .1) (a .out .now) (p .last .1 .1 .1 .0) (p .result) (p .ensures) (row .result) (row .ensures)
 
 pub begin-plain-spec : {M : Type 1} → statement M
 begin-plain-spec =
     tie.close
     (tie.spec
-    begin-one-requires
-    enum-known-r
-    enum-known-row
-    enum-known-pending
+    field-line-at-requires
+    line-change-requires
     enum-told
-    is-inner-requires
-    same-length
+    row-below-requires
+    enum-told-2
+    begin-index-requires
+    enum-told-3
+    row-below-requires-2
+    put-line-requires
     returns
-    within-requires
-    sub-begin-one
-    part-begin-one-start
-    part-begin-one-end
-    begin-one-requires-2
-    enum-known-r-2
-    enum-known-next
-    add-t30
-    same-length-2
+    same-length
     returns-2
-    same-length-3
-    returns-3
-    same-length-4
-    returns-4
-    same-length-5
-    returns-5)
+    same-length-2
+    returns-3)

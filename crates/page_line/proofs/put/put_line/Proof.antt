@@ -6,11 +6,12 @@ use lib.ListN.{length}
 use Rattle.sheets.specs.Bytes.{Bytes, space}
 use Rattle.sheets.specs.Number.{decimal}
 use Rattle.sheets.specs.Page.{levelWidth, rightIn}
+use Rattle.sheets.proofs.PageLaws.{level-column, kind-column}
 use Rattle.buffer.specs.Over.{over}
 use Rattle.buffer.proofs.OverLaws.{none-yet, and-then, whole}
-use Rattle.kind_names.proofs.NameLaws.{padded, padded-length}
+use Rattle.kind_names.proofs.NameLaws.{padded}
 use Rattle.page_line.specs.PageLines.{nameText}
-use Rattle.page_line.proofs.PutLaws.{level-length, line-pieces}
+use Rattle.page_line.proofs.PutLaws.{line-pieces}
 use borrow.Author.Needs.{needs}
 use Rattle.page_line.proofs.put.put_line.Statement.{statement}
 use Rattle.page_line.proofs.put.put_line.Tie as tie
@@ -21,22 +22,22 @@ put-level-requires c κs = search needs
 put-byte-requires : tie.Need-put-byte-requires
 put-byte-requires c κs =
     let st = c .before .before .before .before .before .before .before in
-    omega (arith, c .before .before .before .put-level .ensures .0, level-length (st .args .level) (st .pre .0))
+    omega (arith, c .before .before .before .put-level .ensures .0, level-column (st .args .level) (omega (arith, st .pre .0)))
 
 put-padded-requires : tie.Need-put-padded-requires
 put-padded-requires c κs =
     let st = c .before .before .before .before .before .before .before .before .before .before .before in
-    (st .pre .1, omega (arith, c .before .before .before .put-byte .ensures .0, c .before .before .before .before .before .before .before .put-level .ensures .0, level-length (st .args .level) (st .pre .0)))
+    (st .pre .1, omega (arith, c .before .before .before .put-byte .ensures .0, c .before .before .before .before .before .before .before .put-level .ensures .0, level-column (st .args .level) (omega (arith, st .pre .0))))
 
 put-mark-requires : tie.Need-put-mark-requires
 put-mark-requires c κs =
     let st = c .before .before .before .before .before .before .before .before .before .before .before .before .before .before .before in
-    omega (arith, c .before .before .before .put-padded .ensures .0, c .before .before .before .before .before .before .before .put-byte .ensures .0, c .before .before .before .before .before .before .before .before .before .before .before .put-level .ensures .0, level-length (st .args .level) (st .pre .0), padded-length (st .args .kind) (st .pre .1))
+    omega (arith, c .before .before .before .put-padded .ensures .0, c .before .before .before .before .before .before .before .put-byte .ensures .0, c .before .before .before .before .before .before .before .before .before .before .before .put-level .ensures .0, level-column (st .args .level) (omega (arith, st .pre .0)), kind-column (st .args .kind))
 
 put-name-requires : tie.Need-put-name-requires
 put-name-requires c κs =
     let st = c .before .before .before .before .before .before .before .before .before .before .before .before .before .before .before .before .before .before .before in
-    omega (arith, c .before .before .before .put-mark .ensures .0, c .before .before .before .before .before .before .before .put-padded .ensures .0, c .before .before .before .before .before .before .before .before .before .before .before .put-byte .ensures .0, c .before .before .before .before .before .before .before .before .before .before .before .before .before .before .before .put-level .ensures .0, level-length (st .args .level) (st .pre .0), padded-length (st .args .kind) (st .pre .1))
+    omega (arith, c .before .before .before .put-mark .ensures .0, c .before .before .before .before .before .before .before .put-padded .ensures .0, c .before .before .before .before .before .before .before .before .before .before .before .put-byte .ensures .0, c .before .before .before .before .before .before .before .before .before .before .before .before .before .before .before .put-level .ensures .0, level-column (st .args .level) (omega (arith, st .pre .0)), kind-column (st .args .kind))
 
 same-length : tie.Need-same-length
 same-length c = search needs

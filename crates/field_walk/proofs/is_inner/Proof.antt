@@ -4,8 +4,8 @@ use mathlib.Core.Bool.{Bool, _&&_}
 use lib.Dec.{eqb}
 use borrow.Author.Tests.{not-true, not-false}
 use borrow.Author.Needs.{needs}
-use Rattle.plain_line.proofs.is_inner.Statement.{statement}
-use Rattle.plain_line.proofs.is_inner.Tie as tie
+use Rattle.field_walk.proofs.is_inner.Statement.{statement}
+use Rattle.field_walk.proofs.is_inner.Tie as tie
 
 returns : tie.Need-returns
 returns c = sym (ap (λ (t : Bool). t && eqb (c .before .before .args .row .count) 1) (not-true (c .before .before .args .row .inside) (c .if1 .taken)))

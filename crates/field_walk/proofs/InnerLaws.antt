@@ -1,4 +1,4 @@
--- An extension's line and that of its inner type begun at once (`both-begun` of walks, at the step of plain form). Assumes nothing.
+-- An extension's line and that of its inner type begun at once (`both-begun` of walks, at the step of any call). Assumes nothing.
 use mathlib.Core.Path.{_≡_, refl}
 use mathlib.Core.Bool.{true}
 use mathlib.Core.List.{_++_}
@@ -17,13 +17,14 @@ use Rattle.walks.specs.declared.Pending.the-variants.{Nothing}
 use Rattle.walks.specs.declared.Subtree.{Subtree}
 use Rattle.walks.specs.declared.Subtrees.{Subtrees}
 use Rattle.walks.proofs.BothLaws.{inner-there, both-refused, both-short, both-begun}
-use Rattle.plain_line.specs.Begins.{isInner, PlainBegins}
+use Rattle.field_walk.specs.declared.Call.{Call}
+use Rattle.field_walk.specs.Calls.{isInner, CallBegins}
 
 -- what is left, as a type
 abbrev pub innerOf : Subtrees → Subtree
 innerOf w = record { at = w .at; levels = w .levels; inside = w .inside }
 
-module _ (s : Bytes) (tree : Subtree) (out mid : Bytes) (row : Subtrees) (len : ℕ) (inner : isInner row ≡ true) (h : PlainBegins s tree out mid (Below row len Nothing)) where
+module _ (c : Call) (s : Bytes) (tree : Subtree) (out mid : Bytes) (row : Subtrees) (len : ℕ) (inner : isInner row ≡ true) (h : CallBegins c s tree out mid (Below row len Nothing)) where
   one : row .count ≡ 1
   one = eqb-true (row .count) 1 (and-right (row .inside) (eqb (row .count) 1) inner)
 
@@ -31,13 +32,13 @@ module _ (s : Bytes) (tree : Subtree) (out mid : Bytes) (row : Subtrees) (len : 
   has-inner (i, t, es, f) = inner-there (h i t es f) one
 
   module _ (lent part : Bytes) where
-    pub inner-refused : (r : Refusal) → PlainBegins s (innerOf row) lent part (Refused r) → (last : Bytes) → PlainBegins s tree out last (Refused r)
+    pub inner-refused : (r : Refusal) → CallBegins c s (innerOf row) lent part (Refused r) → (last : Bytes) → CallBegins c s tree out last (Refused r)
     inner-refused r k last = λ i t es f. both-refused (h i t es f) one refl lent part (refusalOf r) k
 
-    module _ (next : Subtrees) (more : ℕ) (later : Pending) (k : PlainBegins s (innerOf row) lent part (Below next more later)) where
+    module _ (next : Subtrees) (more : ℕ) (later : Pending) (k : CallBegins c s (innerOf row) lent part (Below next more later)) where
       pub inner-short : HasType s (tree .at) (tree .levels) (tree .inside) → len + more ≤ ownLimit * 65535
       inner-short (i, t, es, f) = both-short (h i t es f) one refl lent part _ k
 
       pub inner-begun : (w : ℕ) → w ≡ min len (length mid) → lent ≡ take (length mid - w) (drop w mid)
-          → PlainBegins s tree out (take w mid ++ (part ++ drop (length mid - w) (drop w mid))) (Below next (len + more) later)
+          → CallBegins c s tree out (take w mid ++ (part ++ drop (length mid - w) (drop w mid))) (Below next (len + more) later)
       inner-begun w e₁ e₂ = λ i t es f. both-begun (h i t es f) one refl lent part _ k w e₁ e₂
