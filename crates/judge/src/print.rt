@@ -30,6 +30,7 @@ fn name(of: u64) {
         call::CONTAINS_DICTIONARY => put(b"contains_dictionary"),
         call::FROM_INTEGER_TYPE => put(b"from_integer_type"),
         call::FROM_PRIMITIVE_TYPE => put(b"from_primitive_type"),
+        call::PAGE => put(b"page"),
         _ => put(b"no call"),
     }
 }

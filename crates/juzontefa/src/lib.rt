@@ -1,6 +1,6 @@
 // The calls for a host: over pointers and lengths, with nothing demanded of the caller. `include/juzontefa.h` declares them for C.
 ghost use mathlib.Core.Path.{_≡_};
-ghost use Rattle.sheets.specs.Outcome.{importOutcome, exportOutcome, plainOutcome, toPhysicalTypeOutcome, underlyingPhysicalTypeOutcome, toStorageOutcome, toStorageRecursiveOutcome, innerDtypeOutcome, getChildOutcome, isNestedOutcome, containsDictionaryOutcome, fromIntegerTypeOutcome, fromPrimitiveTypeOutcome};
+ghost use Rattle.sheets.specs.Outcome.{importOutcome, exportOutcome, plainOutcome, pageOutcome, toPhysicalTypeOutcome, underlyingPhysicalTypeOutcome, toStorageOutcome, toStorageRecursiveOutcome, innerDtypeOutcome, getChildOutcome, isNestedOutcome, containsDictionaryOutcome, fromIntegerTypeOutcome, fromPrimitiveTypeOutcome};
 ghost use Rattle.sheets.specs.RoundTrip.{roundTripOutcome};
 ghost use Rattle.outcome.specs.Answers.{outcomeOf};
 ghost use Rattle.round_trips.specs.Trips.{four};
@@ -48,6 +48,14 @@ pub extern "C" fn juzontefa_plain_form(sheet: &[u8], out: &mut [u8]) -> Answer
     ensures { λ r. ⌜ outcomeOf (r .number) (r .length) (now (out .exit)) ≡ plainOutcome (now (sheet .entry)) (now (out .entry)) ⌝ }
 {
     answer_of(field_calls::plain_form(sheet, out))
+}
+
+// The page of a field sheet: 73 bytes for each line below the heading.
+#[no_mangle]
+pub extern "C" fn juzontefa_page(sheet: &[u8], out: &mut [u8]) -> Answer
+    ensures { λ r. ⌜ outcomeOf (r .number) (r .length) (now (out .exit)) ≡ pageOutcome (now (sheet .entry)) (now (out .entry)) ⌝ }
+{
+    answer_of(field_calls::page(sheet, out))
 }
 
 // What a round trip answers, by its place among the answers, and the number of the refusal, if one of the steps was refused.

@@ -40,6 +40,9 @@ fromIntegerTypeCall = 11
 abbrev pub fromPrimitiveTypeCall : ℕ
 fromPrimitiveTypeCall = 12
 
+abbrev pub pageCall : ℕ
+pageCall = 13
+
 -- the codes are the numbers below this
 abbrev pub calls : ℕ
-calls = 13
+calls = 14

@@ -25,5 +25,7 @@ pub const FROM_INTEGER_TYPE: u64 = 11;
 
 pub const FROM_PRIMITIVE_TYPE: u64 = 12;
 
+pub const PAGE: u64 = 13;
+
 // The codes are the numbers below this.
-pub const CALLS: usize = 13;
+pub const CALLS: usize = 14;

@@ -7,5 +7,6 @@ pub mod ExportRoomFormat
 pub mod ExportRoomMetadata
 pub mod ExportRoom
 pub mod PlainRoom
+pub mod PageRoom
 pub mod MappingRoom
 pub mod RoomExamples

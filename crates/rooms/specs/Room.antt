@@ -21,6 +21,10 @@ exportRoom n = n * 178 / 37
 abbrev pub plainRoom : ℕ → ℕ
 plainRoom n = n * 23 / 18
 
+-- the page of a field sheet of n bytes: 73 bytes for each line, and a line has 18 or more
+abbrev pub pageRoom : ℕ → ℕ
+pageRoom n = n * 73 / 18
+
 -- underlying_physical_type, to_storage, to_storage_recursive, inner_dtype, get_child of a field sheet of n bytes: no more than was handed in
 abbrev pub mappingRoom : ℕ → ℕ
 mappingRoom n = n

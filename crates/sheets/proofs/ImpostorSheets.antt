@@ -93,7 +93,7 @@ pub plain-shuts-out : (f : Call Bytes) → Defined plained f → ShutOutOfLines 
 plain-shuts-out f defined = lines-shut-out plained fieldSheet length plainTelling f defined
 
 -- a struct of one null, and a null whose name makes its one line as long: a page's length goes by the lines alone, so the two differ in these. That no line of
--- a page is stock is `lines-shown` (`PageLaws`).
+-- a page is stock is `page-from-sheet` (`PageLaws`).
 pageTelling : Telling paged length
 unfolding decimal kindRows paged
 pageTelling =

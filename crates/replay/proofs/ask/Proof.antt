@@ -5,7 +5,7 @@ use borrow.Author.Tests.{ne-eqb}
 use borrow.Author.Needs.{needs}
 use denote.Ref.{now}
 use Rattle.sheets.specs.Bytes.{Bytes}
-use Rattle.recorded_list.specs.Codes.{importCall, exportCall, plainCall, underlyingPhysicalTypeCall, toStorageCall, toStorageRecursiveCall, innerDtypeCall, getChildCall, fromIntegerTypeCall}
+use Rattle.recorded_list.specs.Codes.{importCall, exportCall, plainCall, underlyingPhysicalTypeCall, toStorageCall, toStorageRecursiveCall, innerDtypeCall, getChildCall, fromIntegerTypeCall, pageCall}
 use Rattle.judge.specs.Judging.{sheetOutcome}
 use Rattle.replay.proofs.ask.Statement.{statement}
 use Rattle.replay.proofs.ask.Tie as tie
@@ -37,6 +37,9 @@ inner-dtype-requires c κs = search needs
 
 get-child-requires : tie.Need-get-child-requires
 get-child-requires c κs = search needs
+
+page-requires : tie.Need-page-requires
+page-requires c κs = search needs
 
 from-integer-type-requires : tie.Need-from-integer-type-requires
 from-integer-type-requires c κs = search needs
@@ -114,7 +117,7 @@ same-length-9 c = search needs
 returns-9 : tie.Need-returns-9
 returns-9 c =
     let a = c .before .before .before .before .before .before .before .args in
-    c .before .before .from-integer-type .ensures ∙ called (a .argument) (now (a .s)) (now (a .out)) (sym (c .before .before .before .before .match .keys9))
+    c .before .before .page .ensures ∙ called (a .argument) (now (a .s)) (now (a .out)) (sym (c .before .before .before .before .match .keys9))
 
 same-length-10 : tie.Need-same-length-10
 same-length-10 c = search needs
@@ -122,8 +125,16 @@ same-length-10 c = search needs
 returns-10 : tie.Need-returns-10
 returns-10 c =
     let a = c .before .before .before .before .before .before .before .args in
+    c .before .before .from-integer-type .ensures ∙ called (a .argument) (now (a .s)) (now (a .out)) (sym (c .before .before .before .before .match .keys10))
+
+same-length-11 : tie.Need-same-length-11
+same-length-11 c = search needs
+
+returns-11 : tie.Need-returns-11
+returns-11 c =
+    let a = c .before .before .before .before .before .before .before .args in
     let no = c .before .before .before .before .match .rest in
-    c .before .before .from-primitive-type .ensures ∙ sym (rw (ne-eqb (a .code) importCall (no .0 .0 .0 .0 .0 .0 .0 .0 .1), ne-eqb (a .code) exportCall (no .0 .0 .0 .0 .0 .0 .0 .1), ne-eqb (a .code) plainCall (no .0 .0 .0 .0 .0 .0 .1), ne-eqb (a .code) underlyingPhysicalTypeCall (no .0 .0 .0 .0 .0 .1), ne-eqb (a .code) toStorageCall (no .0 .0 .0 .0 .1), ne-eqb (a .code) toStorageRecursiveCall (no .0 .0 .0 .1), ne-eqb (a .code) innerDtypeCall (no .0 .0 .1), ne-eqb (a .code) getChildCall (no .0 .1), ne-eqb (a .code) fromIntegerTypeCall (no .1)))
+    c .before .before .from-primitive-type .ensures ∙ sym (rw (ne-eqb (a .code) importCall (no .0 .0 .0 .0 .0 .0 .0 .0 .0 .1), ne-eqb (a .code) exportCall (no .0 .0 .0 .0 .0 .0 .0 .0 .1), ne-eqb (a .code) plainCall (no .0 .0 .0 .0 .0 .0 .0 .1), ne-eqb (a .code) underlyingPhysicalTypeCall (no .0 .0 .0 .0 .0 .0 .1), ne-eqb (a .code) toStorageCall (no .0 .0 .0 .0 .0 .1), ne-eqb (a .code) toStorageRecursiveCall (no .0 .0 .0 .0 .1), ne-eqb (a .code) innerDtypeCall (no .0 .0 .0 .1), ne-eqb (a .code) getChildCall (no .0 .0 .1), ne-eqb (a .code) pageCall (no .0 .1), ne-eqb (a .code) fromIntegerTypeCall (no .1)))
 
 pub ask-spec : {M : Type 1} → statement M
 ask-spec =
@@ -137,6 +148,7 @@ ask-spec =
     to-storage-recursive-requires
     inner-dtype-requires
     get-child-requires
+    page-requires
     from-integer-type-requires
     from-primitive-type-requires
     same-length
@@ -158,4 +170,6 @@ ask-spec =
     same-length-9
     returns-9
     same-length-10
-    returns-10)
+    returns-10
+    same-length-11
+    returns-11)

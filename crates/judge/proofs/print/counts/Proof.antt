@@ -1,14 +1,15 @@
--- `print::counts` keeps to what it calls. The loop's invariant: no more than the 13 calls. Assumes nothing.
+-- `print::counts` keeps to what it calls. The loop's invariant: no more than there are calls. Assumes nothing.
 use Prim.Native.Nat.{_≤_, _-_}
 use borrow.Author.Needs.{needs}
+use Rattle.recorded_list.specs.Codes.{calls}
 use Rattle.judge.proofs.print.counts.Statement.{statement}
 use Rattle.judge.proofs.print.counts.Tie as tie
 
 abbrev Inv-loop : tie.InvT-loop
-Inv-loop kept c₀ c = c ≤ 13
+Inv-loop kept c₀ c = c ≤ calls
 
 abbrev μ-loop : tie.MeasureT-loop
-μ-loop kept c₀ c = 13 - c
+μ-loop kept c₀ c = calls - c
 
 loop-holds : tie.Need-loop-holds Inv-loop μ-loop
 loop-holds c = search needs
