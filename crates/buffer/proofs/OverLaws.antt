@@ -55,6 +55,14 @@ over-min [] out = rw zero-min
 over-min (b ∷ s) [] = rw min-zero
 over-min (b ∷ s) (o ∷ out) = rw suc-min-suc (ap (λ (l : Bytes). b ∷ l) (over-min s out))
 
+-- a text over a longer one: what stands after it is left
+over-over : (s t out : Bytes) → length s ≤ length t → over s (over t out) ≡ over (s ++ drop (length s) t) out
+unfolding over
+over-over [] t out h = refl
+over-over (b ∷ s) [] out h = absurd (not-suc-le-zero h)
+over-over (b ∷ s) (c ∷ t) [] h = refl
+over-over (b ∷ s) (c ∷ t) (o ∷ out) h = ap (λ (l : Bytes). b ∷ l) (over-over s t out (le-of-suc-le-suc h))
+
 -- what stands past the end does not count
 pub over-take : (s out : Bytes) (n : ℕ) → n ≡ min (length s) (length out) → over (take n s) out ≡ over s out
 over-take s out n e = ap (λ (m : ℕ). over (take m s) out) e ∙ over-min s out
@@ -104,6 +112,13 @@ unfolding overAt
 overAt-append zero s t out = rw zero-add (over-append s t out)
 overAt-append (suc at) s t [] = rw suc-add
 overAt-append (suc at) s t (o ∷ out) = rw suc-add (ap (λ (l : Bytes). o ∷ l) (overAt-append at s t out))
+
+-- a text over a longer one
+pub overAt-over : (at : ℕ) (s t out : Bytes) → length s ≤ length t → overAt at s (overAt at t out) ≡ overAt at (s ++ drop (length s) t) out
+unfolding overAt
+overAt-over zero s t out h = over-over s t out h
+overAt-over (suc at) s t [] h = refl
+overAt-over (suc at) s t (o ∷ out) h = ap (λ (l : Bytes). o ∷ l) (overAt-over at s t out h)
 
 -- a place past the end counts as the end
 pub overAt-min : (at : ℕ) (s out : Bytes) → overAt (min at (length out)) s out ≡ overAt at s out

@@ -8,7 +8,7 @@ use Prim.Native.Nat.{ℕ, zero, suc, _^_, _<_}
 use native.Mathlib.Omega.{arith}
 use lib.Dec.{eqb, leb, ltb}
 use lib.IntN.{ℤ}
-use borrow.Author.Tests.{eqb-true, ltb-true, leb-true, leb-false, ne-eqb, le-leb, lt-leb}
+use borrow.Author.Tests.{eqb-true, ltb-true, leb-true, leb-false, ne-eqb}
 use Rattle.sheets.specs.Rule.{is, passes, Meets}
 use Rattle.sheets.specs.Bytes.{Bytes}
 use Rattle.sheets.specs.Answer.{Answer, given, _>>=_}
@@ -26,7 +26,7 @@ use Rattle.sheets.proofs.InverseLaws.{text-read, signed-read}
 use Rattle.sheets.proofs.Utf8Laws.{utf8-bytes, text-bytes}
 use Rattle.sheets.proofs.ListLaws.{listRule}
 use Rattle.sheets.proofs.FieldSheetLaws.{ids-listed, read-ids, read-shape, shape-read}
-use Rattle.sheets.proofs.FieldTrees.{leaf-other}
+use Rattle.sheets.proofs.FieldTrees.{leaf-other, leaf-small}
 use Rattle.field_columns.specs.Lists.{keeps, idsRule, isIds}
 use Rattle.field_columns.specs.FieldColumns.{isNothing, isSomeText, isOptionalText, isContent}
 use Rattle.field_kinds.specs.FieldKinds.{pFits, qFits, textContent, moreContent, childrenFit, Fits}
@@ -273,24 +273,6 @@ fits-shape c f = pick (isLeaf (c .kind)) refl
 
 -- ── the numbers fit 64 bits
 
-pub leaf-known : (k : ℕ) → isLeaf k ≡ true → k < 42
-leaf-known k h = pick (leb k 41) refl
-  where
-    pick : (t : Bool) → leb k 41 ≡ t → k < 42
-    pick true e = omega (arith, leb-true k 41 e)
-    pick false e =
-        let far : 41 < k = leb-false k 41 e in
-        let none : isLeaf k ≡ false = rw (
-          lt-leb k 14 (omega arith),
-          le-leb 16 k (omega arith),
-          lt-leb k 22 (omega arith),
-          le-leb 24 k (omega arith),
-          lt-leb k 26 (omega arith),
-          le-leb 38 k (omega arith),
-          lt-leb k 40 (omega arith),
-        ) in
-        absurd (true≢false (sym h ∙ none))
-
 unit-below : (k u : ℕ) (t : Bool) → cond t (ltb u 4) (eqb u 0) ≡ true → u < 4
 unit-below k u true h = ltb-true u 4 h
 unit-below k u false h = let z : u ≡ 0 = eqb-true u 0 h in omega arith
@@ -309,7 +291,7 @@ unit-few : (u : TimeUnit) → unitPlace u < 2 ^ 64
 unit-few u = omega (arith, ltb-true (unitPlace u) 4 (unit-small u))
 
 small-of : (s : Shape) → Meets (shapeRule s) → Small (columns s)
-small-of (ofScalar (leaf k u)) h = record { kindSmall = omega (arith, leaf-known k (h .0)); pSmall = omega (arith, unit-below k u (hasUnit k) (h .1)); qSmall = omega arith }
+small-of (ofScalar (leaf k u)) h = record { kindSmall = omega (arith, leaf-small k (h .0)); pSmall = omega (arith, unit-below k u (hasUnit k) (h .1)); qSmall = omega arith }
 small-of (ofScalar (timestamp u zone)) h = record { kindSmall = omega arith; pSmall = unit-few u; qSmall = omega arith }
 small-of (ofScalar (fixedSizeBinary n)) h = record { kindSmall = omega arith; pSmall = ltb-true n (2 ^ 64) h; qSmall = omega arith }
 small-of (ofScalar (decimalType bits128 p s)) h = record { kindSmall = omega arith; pSmall = ltb-true p (2 ^ 64) (h .0); qSmall = ltb-true s (2 ^ 64) (h .1) }

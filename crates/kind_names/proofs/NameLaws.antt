@@ -1,12 +1,11 @@
--- The name of each kind fills its width, by a test computed over all of the kinds; a name from its two halves; and the kind that the last arm of a `match`
--- is left with. Assumes nothing.
-use mathlib.Core.Path.{_≡_, sym, ap, ap₂, _∙_}
+-- A name from its two halves; and the kind that the last arm of a `match` is left with, by a test computed over all of the kinds. Assumes nothing.
+use mathlib.Core.Path.{_≡_, sym, ap₂, _∙_}
 use mathlib.Core.Bool.{Bool, true, false, not, _||_, true≢false}
-use mathlib.Core.List.{List, [], _++_, append-nil}
+use mathlib.Core.List.{List, _++_}
 use Prim.Native.Nat.{ℕ, suc, _+_, _≤_}
 use native.Mathlib.Omega.{arith}
 use lib.Dec.{eqb, ltb}
-use lib.ListN.{length, drop, take-append-drop, length-drop, length-append, drop-of-length-le}
+use lib.ListN.{length, drop, take-append-drop, length-drop}
 use lib.Seq.{take-all}
 use borrow.Author.Tests.{eqb-true, le-ltb}
 use Rattle.sheets.specs.Rule.{Meets}
@@ -17,9 +16,7 @@ use Rattle.sheets.specs.Page.{kindWidth, leftIn}
 use Rattle.sheets.proofs.Tests.{every, at-each}
 use Rattle.datatypes.proofs.AtLaws.{Rest, listed, not-listed}
 use Rattle.words.specs.Words.{WordAt, lowBytes}
-use Rattle.words.proofs.WordLaws.{low-word, length-low}
-use Rattle.buffer.specs.Over.{overAt}
-use Rattle.buffer.proofs.OverLaws.{over-fits, over-append, overAt-zero}
+use Rattle.words.proofs.WordLaws.{low-word}
 
 abbrev pub padded : ℕ → Bytes
 padded k = leftIn kindWidth (kindName k)
@@ -31,20 +28,6 @@ pub halves-read : (s : Bytes) (low high : ℕ) → length s ≡ 16 → WordAt 8 
 halves-read s low high e a b =
     ap₂ _++_ (low-word a (omega (arith, e))) (low-word b (omega (arith, e)) ∙ take-all 8 (drop 8 s) (omega (arith, length-drop 8 s, e)))
     ∙ take-append-drop 8 s
-
--- and written as two
-pub halves-written : (low high : ℕ) (blank first both : Bytes) → length blank ≡ 16 → first ≡ overAt 0 (lowBytes 8 low) blank → both ≡ overAt 8 (lowBytes 8 high) first
-    → both ≡ lowBytes 8 low ++ lowBytes 8 high
-halves-written low high blank first both n e f =
-    let l : length (lowBytes 8 low) ≡ 8 = length-low 8 low in
-    let t = lowBytes 8 low ++ lowBytes 8 high in
-    let size : length t ≡ 16 = length-append (lowBytes 8 low) (lowBytes 8 high) ∙ omega (arith, l, length-low 8 high) in
-    let none : drop (length t) blank ≡ [] = drop-of-length-le blank {i = length t} (omega (arith, size, n)) in
-    f ∙ ap₂ (λ (i : ℕ) (b : Bytes). overAt i (lowBytes 8 high) b) (sym l) (e ∙ overAt-zero (lowBytes 8 low) blank)
-    ∙ sym (over-append (lowBytes 8 low) (lowBytes 8 high) blank)
-    ∙ over-fits t blank (omega (arith, size, n))
-    ∙ ap (λ (b : Bytes). t ++ b) none
-    ∙ append-nil t
 
 -- ── the last arm
 

@@ -1,18 +1,17 @@
 // The names of the kinds, as `ArrowDataType` spells them, each left-justified in 16 bytes. A `match` whose arms are constants compiles to a table that is only
 // read, where an array of all names would be stored anew at each call.
 ghost use mathlib.Core.Path.{_≡_};
-ghost use Prim.Native.Nat.{_+_, _≤_};
+ghost use Prim.Native.Nat.{_≤_};
 ghost use Rattle.sheets.specs.Kind.{Interval, Binary, Union};
 ghost use Rattle.sheets.specs.KindNames.{kindName};
 ghost use Rattle.sheets.specs.Page.{kindWidth, leftIn};
-ghost use Rattle.buffer.specs.Over.{IsUsize, PutAt};
 ghost use Rattle.kind_names.specs.Halves.{bothHalves};
 use datatypes::kind;
 
 // The first eight bytes of a name as one number, the lowest first, and the last eight.
-struct Halves {
-    low: u64,
-    high: u64,
+pub struct Halves {
+    pub low: u64,
+    pub high: u64,
 }
 
 // With the name known, constants.
@@ -85,7 +84,8 @@ fn late_name(kind: u64) -> Halves
     }
 }
 
-fn halves_of(kind: u64) -> Halves
+// The name of a kind.
+pub fn name_of(kind: u64) -> Halves
     requires { ⌜ kind ≤ Union ⌝ }
     ensures { λ r. ⌜ bothHalves r ≡ leftIn kindWidth (kindName kind) ⌝ }
 {
@@ -93,25 +93,4 @@ fn halves_of(kind: u64) -> Halves
         return early_name(kind);
     }
     late_name(kind)
-}
-
-// The name of a kind, left-justified in 16.
-pub fn padded(kind: u64) -> [u8; 16]
-    requires { ⌜ kind ≤ Union ⌝ }
-    ensures { λ r. ⌜ r ≡ leftIn kindWidth (kindName kind) ⌝ }
-{
-    let name = halves_of(kind);
-    let mut bytes = [b' '; 16];
-    words::put_word8(&mut bytes, 0, name.low);
-    words::put_word8(&mut bytes, 8, name.high);
-    bytes
-}
-
-// Writes it from place at on, as much as fits; the place after it.
-pub fn put_padded(out: &mut [u8], at: usize, kind: u64) -> usize
-    requires { ⌜ (kind ≤ Union) × IsUsize (at + 16) ⌝ }
-    ensures { λ r. ⌜ PutAt at (leftIn kindWidth (kindName kind)) r (now (out .entry)) (now (out .exit)) ⌝ }
-{
-    let name = padded(kind);
-    buffer::put_at(out, at, &name)
 }

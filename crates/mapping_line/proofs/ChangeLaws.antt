@@ -22,11 +22,10 @@ use Rattle.sheets.specs.Walk.{Below, visit, skip, Step, writes, lineWritten, ty
 use Rattle.sheets.specs.MappingSteps.{Borne, infoBorne, ownWritten, changeStepOf, changeStep}
 use Rattle.sheets.specs.MappingSteps.{Change as TypeChange}
 use Rattle.sheets.proofs.Tests.{never, meets, every, at-each, and-left, and-right}
-use Rattle.sheets.proofs.FieldTrees.{leaf-other}
+use Rattle.sheets.proofs.FieldTrees.{leaf-other, leaf-small}
 use Rattle.sheets.proofs.WalkLaws.{walk-opened, nothing-own}
 use Rattle.datatypes.specs.At.{firstAt}
 use Rattle.datatypes.proofs.AtLaws.{Rest, nowhere}
-use Rattle.field_kinds.proofs.ShapeLaws.{leaf-known}
 use Rattle.storage_line.proofs.BelowLaws.{Leaves, visited, nothing}
 use Rattle.mapping_line.specs.Changes.{changeOf, storageKind, intervalChange, changedKinds, rowOr, underlyingKind, lineChangeOf}
 use Rattle.mapping_line.specs.declared.change.Change.{Change}
@@ -126,7 +125,7 @@ leaf-under k u h = pick (eqb k Kind.Interval) (eqb k Kind.Unknown) refl refl
     pick false false e f =
         let c = rowOr (firstAt (λ (r : ℕ × LineChange). r .0) k changedKinds) in
         rw (e, f, leaf-other k Kind.Dictionary (h .0) refl)
-        (leaf-row k u (rowAt k leafRows) c (by-row (isLeaf k) (eqb k Kind.Interval) (eqb k Kind.Unknown) (agrees k (rowAt k leafRows) c) (h .0) e f (at-each 42 tested all-tested k (leaf-known k (h .0)))) h)
+        (leaf-row k u (rowAt k leafRows) c (by-row (isLeaf k) (eqb k Kind.Interval) (eqb k Kind.Unknown) (agrees k (rowAt k leafRows) c) (h .0) e f (at-each 42 tested all-tested k (omega (arith, leaf-small k (h .0))))) h)
 
 -- a leaf that is its own underlying type
 pub stays-under : (k : ℕ) → Meets (leafRule k 0) → underlyingKind k 0 ≡ Stays → leafUnder k 0 ≡ given (scalar (leaf k 0))

@@ -1,10 +1,13 @@
--- The mark and the name of a line of the page, by what a reader of lines tells. Assumes nothing.
+-- The mark and the name of a line of the page, by what a reader of lines tells, and the pieces that a line is written in. Assumes nothing.
 use mathlib.Core.Bool.{Bool, cond}
 use mathlib.Core.List.{[], _∷_, _++_}
 use Prim.Native.Nat.{ℕ, _-_}
 use lib.Dec.{ltb}
-use Rattle.sheets.specs.Bytes.{Bytes, lineEnd}
-use Rattle.sheets.specs.Page.{nameColumn, cutMark}
+use lib.ListN.{replicate}
+use Rattle.sheets.specs.Bytes.{Bytes, lineEnd, space}
+use Rattle.sheets.specs.Number.{decimal}
+use Rattle.sheets.specs.KindNames.{kindName}
+use Rattle.sheets.specs.Page.{levelWidth, kindWidth, rightIn, leftIn, nameColumn, cutMark}
 use Rattle.columns.specs.Columns.{partOf}
 use Rattle.columns.specs.declared.Part.{Part}
 
@@ -15,6 +18,14 @@ markOf bare nullable = cond bare 46 (cond nullable 121 110)
 -- the digits of a name: none of a column of one byte, which is `-` or `~`
 abbrev pub shownPart : Part → Part
 shownPart name = cond (ltb (name .end - name .start) 2) (partOf (name .end) (name .end)) name
+
+-- the level, the kind's name and the mark of nullable, each with the space after it
+unfoldable pub frontText : ℕ → ℕ → ℕ → Bytes
+frontText level kind mark = ((rightIn levelWidth (decimal level) ++ (space ∷ [])) ++ leftIn kindWidth (kindName kind)) ++ (space ∷ mark ∷ space ∷ [])
+
+-- spaces in the place of a name and of its mark, and the line's end
+unfoldable pub blankName : Bytes
+blankName = replicate 49 space ++ (lineEnd ∷ [])
 
 -- the name's column, the mark of a cut name, and the line's end
 unfoldable pub nameText : Bytes → Bytes

@@ -1,65 +1,108 @@
 // One line of a page, written into a lent buffer, as much as fits.
-ghost use mathlib.Core.List.{[], _∷_};
-ghost use Prim.Native.Nat.{_+_, _≤_, _<_};
+ghost use mathlib.Core.Path.{_≡_};
+ghost use mathlib.Core.List.{[], _∷_, _++_};
+ghost use Prim.Native.Nat.{_≤_, _<_};
+ghost use lib.ListN.{length};
 ghost use Rattle.sheets.specs.Bytes.{space};
 ghost use Rattle.sheets.specs.Kind.{Union};
 ghost use Rattle.sheets.specs.Number.{decimal};
 ghost use Rattle.sheets.specs.Sheet.{ended};
 ghost use Rattle.sheets.specs.Page.{levelWidth, rightIn, lineShown};
-ghost use Rattle.buffer.specs.Over.{IsUsize, PutAt, PutFirst};
-ghost use Rattle.page_line.specs.PageLines.{nameText};
+ghost use Rattle.buffer.specs.Over.{over, overAt, PutFirst};
+ghost use Rattle.words.specs.Words.{lowBytes};
+ghost use Rattle.page_line.specs.PageLines.{frontText, blankName, nameText};
 
-// As many digits of a name as a line has room for.
+// A line has so many bytes with its byte 10.
+const LINE: usize = 73;
+
+// Where the name's digits begin, how many are shown, and where the mark of a cut name stands.
+const NAME: usize = 23;
+
 const NAME_WIDTH: usize = 48;
 
-// After a name without digits: spaces in its place and in that of `+`, and byte 10. After a longer one, so many bytes less.
-const NO_NAME: [u8; 50] = *b"                                                 \n";
+const CUT: usize = 71;
 
-// Writes the level, right-justified in 3, as much as fits; the place after it.
-fn put_level(out: &mut [u8], level: u64) -> usize
+// Eight spaces as one number; ` ` and byte 10; `+` and byte 10, the lowest byte first.
+const SPACES: u64 = 0x2020202020202020;
+
+const WHOLE_END: u64 = 0x0a20;
+
+const CUT_END: u64 = 0x0a2b;
+
+// The level, right-justified in 3, and a space as one number, the lowest byte first.
+fn level_word(level: u64) -> u64
     requires { ⌜ level < 100 ⌝ }
-    ensures { λ r. ⌜ PutAt 0 (rightIn levelWidth (decimal level)) r (now (out .entry)) (now (out .exit)) ⌝ }
+    ensures { λ r. ⌜ lowBytes 4 r ≡ rightIn levelWidth (decimal level) ++ (space ∷ []) ⌝ }
 {
-    let second = buffer::put_byte(out, 0, b' ');
     if level < 10 {
-        let third = buffer::put_byte(out, second, b' ');
-        return decimal::put::put_u64(out, third, level);
+        return 0x20302020 + level * 65536;
     }
-    decimal::put::put_u64(out, second, level)
+    0x20303020 + level / 10 * 256 + level % 10 * 65536
 }
 
-// Writes the name's digits, left-justified in 48, then `+` if they were cut or a space, and byte 10, from place at on, as much as fits; the place after it.
-fn put_name(out: &mut [u8], at: usize, digits: &[u8]) -> usize
-    requires { ⌜ IsUsize (at + 50) ⌝ }
-    ensures { λ r. ⌜ PutAt at (nameText (now (digits .entry))) r (now (out .entry)) (now (out .exit)) ⌝ }
+// Writes the level, the kind's name and the mark, with the spaces after them.
+fn put_front(level: u64, kind: u64, mark: u8, out: &mut [u8])
+    requires { ⌜ (level < 100) × (kind ≤ Union) × (23 ≤ length (now out)) ⌝ }
+    ensures { λ _. ⌜ now (out .exit) ≡ over (frontText level kind mark) (now (out .entry)) ⌝ }
+{
+    let name = kind_names::name_of(kind);
+    words::put_word4(out, 0, level_word(level));
+    words::put_word8(out, 4, name.low);
+    words::put_word8(out, 12, name.high);
+    out[20] = b' ';
+    out[21] = mark;
+    out[22] = b' ';
+}
+
+// Writes spaces in the place of a name and of its mark, and byte 10.
+fn put_blank(out: &mut [u8])
+    requires { ⌜ 73 ≤ length (now out) ⌝ }
+    ensures { λ _. ⌜ now (out .exit) ≡ overAt 23 blankName (now (out .entry)) ⌝ }
+{
+    words::put_word8(out, NAME, SPACES);
+    words::put_word8(out, NAME + 8, SPACES);
+    words::put_word8(out, NAME + 16, SPACES);
+    words::put_word8(out, NAME + 24, SPACES);
+    words::put_word8(out, NAME + 32, SPACES);
+    words::put_word8(out, NAME + 40, SPACES);
+    words::put_word2(out, CUT, WHOLE_END);
+}
+
+// Writes the name's digits, left-justified in 48, then `+` if they were cut or a space, and byte 10.
+fn put_name(digits: &[u8], out: &mut [u8])
+    requires { ⌜ 73 ≤ length (now out) ⌝ }
+    ensures { λ _. ⌜ now (out .exit) ≡ overAt 23 (nameText (now (digits .entry))) (now (out .entry)) ⌝ }
 {
     let n = digits.len();
     if NAME_WIDTH < n {
-        let cut = buffer::put_at(out, at, &digits[0..NAME_WIDTH]);
-        return buffer::put_at(out, cut, b"+\n");
+        copy_part::copy_part(out, NAME, digits, 0, NAME_WIDTH);
+        words::put_word2(out, CUT, CUT_END);
+        return;
     }
-    let end = buffer::put_at(out, at, digits);
-    buffer::put_at(out, end, &NO_NAME[n..])
+    put_blank(out);
+    copy_part::copy_part(out, NAME, digits, 0, n);
 }
 
-// Writes the mark of nullable between two spaces from place at on, as much as fits; the place after it.
-fn put_mark(out: &mut [u8], at: usize, mark: u8) -> usize
-    requires { ⌜ IsUsize (at + 3) ⌝ }
-    ensures { λ r. ⌜ PutAt at (space ∷ mark ∷ space ∷ []) r (now (out .entry)) (now (out .exit)) ⌝ }
+// Writes a line of the page and its byte 10, where there is room.
+fn put_whole(level: u64, kind: u64, mark: u8, digits: &[u8], out: &mut [u8])
+    requires { ⌜ (level < 100) × (kind ≤ Union) × (73 ≤ length (now out)) ⌝ }
+    ensures { λ _. ⌜ now (out .exit) ≡ over (ended (lineShown level kind mark (now (digits .entry)) ∷ [])) (now (out .entry)) ⌝ }
 {
-    let second = buffer::put_byte(out, at, b' ');
-    let third = buffer::put_byte(out, second, mark);
-    buffer::put_byte(out, third, b' ')
+    put_front(level, kind, mark, out);
+    put_name(digits, out);
 }
 
-// Writes a line of the page and its byte 10, as much as fits; its length.
+// Writes a line of the page and its byte 10, as much as fits; its length. The last line of a buffer that is too short is written elsewhere first.
 pub fn put_line(level: u64, kind: u64, mark: u8, digits: &[u8], out: &mut [u8]) -> usize
     requires { ⌜ (level < 100) × (kind ≤ Union) ⌝ }
     ensures { λ r. ⌜ PutFirst (ended (lineShown level kind mark (now (digits .entry)) ∷ [])) r (now (out .entry)) (now (out .exit)) ⌝ }
 {
-    let space = put_level(out, level);
-    let name = buffer::put_byte(out, space, b' ');
-    let nullable = kind_names::put_padded(out, name, kind);
-    let shown = put_mark(out, nullable, mark);
-    put_name(out, shown, digits)
+    if out.len() < LINE {
+        let mut line = [0u8; LINE];
+        put_whole(level, kind, mark, digits, &mut line);
+        buffer::put(out, &line);
+        return LINE;
+    }
+    put_whole(level, kind, mark, digits, out);
+    LINE
 }

@@ -1,66 +1,53 @@
--- `put_line` meets its contract: a chain of five writes, whose pieces are the line (`line-pieces`). Assumes nothing.
-use mathlib.Core.Path.{ap, _∙_}
-use mathlib.Core.List.{[], _∷_}
-use native.Mathlib.Omega.{arith}
-use lib.ListN.{length}
-use Rattle.sheets.specs.Bytes.{Bytes, space}
-use Rattle.sheets.specs.Number.{decimal}
-use Rattle.sheets.specs.Page.{levelWidth, rightIn}
-use Rattle.sheets.proofs.PageLaws.{level-column, kind-column}
+-- `put_line` meets its contract: the line is written where it fits, else into an array of its length, which it fills (`line-alone`). Assumes nothing.
+use mathlib.Core.Path.{refl, ap, _∙_}
+use Rattle.sheets.specs.Bytes.{Bytes}
 use Rattle.buffer.specs.Over.{over}
-use Rattle.buffer.proofs.OverLaws.{none-yet, and-then, whole}
-use Rattle.kind_names.proofs.NameLaws.{padded}
-use Rattle.page_line.specs.PageLines.{nameText}
-use Rattle.page_line.proofs.PutLaws.{line-pieces}
+use Rattle.page_line.proofs.PutLaws.{line-length, line-alone}
 use borrow.Author.Needs.{needs}
 use Rattle.page_line.proofs.put.put_line.Statement.{statement}
 use Rattle.page_line.proofs.put.put_line.Tie as tie
 
-put-level-requires : tie.Need-put-level-requires
-put-level-requires c κs = search needs
+slice-aggregate-put-whole : tie.Need-slice-aggregate-put-whole
+slice-aggregate-put-whole c = search needs
 
-put-byte-requires : tie.Need-put-byte-requires
-put-byte-requires c κs =
-    let st = c .before .before .before .before .before .before .before in
-    omega (arith, c .before .before .before .put-level .ensures .0, level-column (st .args .level) (omega (arith, st .pre .0)))
+put-whole-requires : tie.Need-put-whole-requires
+put-whole-requires c κs = search needs
 
-put-padded-requires : tie.Need-put-padded-requires
-put-padded-requires c κs =
-    let st = c .before .before .before .before .before .before .before .before .before .before .before in
-    (st .pre .1, omega (arith, c .before .before .before .put-byte .ensures .0, c .before .before .before .before .before .before .before .put-level .ensures .0, level-column (st .args .level) (omega (arith, st .pre .0))))
+slice-aggregate-put : tie.Need-slice-aggregate-put
+slice-aggregate-put c = search needs
 
-put-mark-requires : tie.Need-put-mark-requires
-put-mark-requires c κs =
-    let st = c .before .before .before .before .before .before .before .before .before .before .before .before .before .before .before in
-    omega (arith, c .before .before .before .put-padded .ensures .0, c .before .before .before .before .before .before .before .put-byte .ensures .0, c .before .before .before .before .before .before .before .before .before .before .before .put-level .ensures .0, level-column (st .args .level) (omega (arith, st .pre .0)), kind-column (st .args .kind))
-
-put-name-requires : tie.Need-put-name-requires
-put-name-requires c κs =
-    let st = c .before .before .before .before .before .before .before .before .before .before .before .before .before .before .before .before .before .before .before in
-    omega (arith, c .before .before .before .put-mark .ensures .0, c .before .before .before .before .before .before .before .put-padded .ensures .0, c .before .before .before .before .before .before .before .before .before .before .before .put-byte .ensures .0, c .before .before .before .before .before .before .before .before .before .before .before .before .before .before .before .put-level .ensures .0, level-column (st .args .level) (omega (arith, st .pre .0)), kind-column (st .args .kind))
+put-requires : tie.Need-put-requires
+put-requires c κs = search needs
 
 same-length : tie.Need-same-length
 same-length c = search needs
 
 returns : tie.Need-returns
 returns c =
-    let a = c .before .before .before .before .before .before .before .before .before .before .before .before .before .before .before .before .before .before .before .before .before .before .args in
-    let level = and-then (rightIn levelWidth (decimal (a .level))) (none-yet 0 (a .out .now)) (c .before .before .before .before .before .before .before .before .before .before .before .before .before .before .before .before .before .before .put-level .ensures) in
-    let first = and-then (space ∷ []) level (c .before .before .before .before .before .before .before .before .before .before .before .before .before .before .put-byte .ensures) in
-    let kind = and-then (padded (a .kind)) first (c .before .before .before .before .before .before .before .before .before .before .put-padded .ensures) in
-    let mark = and-then (space ∷ a .mark ∷ space ∷ []) kind (c .before .before .before .before .before .before .put-mark .ensures) in
-    let w = whole (and-then (nameText (a .digits .now)) mark (c .before .before .put-name .ensures)) in
-    let text = line-pieces (a .level) (a .kind) (a .mark) (a .digits .now) in
-    (w .0 ∙ ap length text, w .1 ∙ ap (λ (b : Bytes). over b (a .out .now)) text)
+    let st = c .before .before .before .before .before .before .before .before .before .before .before in
+    let a = st .args in
+    let e = line-alone (a .level) (a .kind) (a .mark) (a .digits .now) _ _ (st .pre .0) refl (c .before .before .before .before .before .before .put-whole .ensures) in
+    (line-length (a .level) (a .kind) (a .mark) (a .digits .now) (st .pre .0), c .before .before .put .ensures ∙ ap (λ (b : Bytes). over b (a .out .now)) e)
+
+put-whole-requires-2 : tie.Need-put-whole-requires-2
+put-whole-requires-2 c κs = search needs
+
+same-length-2 : tie.Need-same-length-2
+same-length-2 c = search needs
+
+returns-2 : tie.Need-returns-2
+returns-2 c = let st = c .before .before .before .before .before .before .before in (line-length (st .args .level) (st .args .kind) (st .args .mark) (st .args .digits .now) (st .pre .0), c .before .before .put-whole2 .ensures)
 
 pub put-line-spec : {M : Type 1} → statement M
 put-line-spec =
     tie.close
     (tie.spec
-    put-level-requires
-    put-byte-requires
-    put-padded-requires
-    put-mark-requires
-    put-name-requires
+    slice-aggregate-put-whole
+    put-whole-requires
+    slice-aggregate-put
+    put-requires
     same-length
-    returns)
+    returns
+    put-whole-requires-2
+    same-length-2
+    returns-2)

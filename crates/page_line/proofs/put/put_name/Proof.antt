@@ -1,84 +1,42 @@
--- `put_name` meets its contract: a chain of two writes, of a name that is cut or of one that is not. Assumes nothing.
-use mathlib.Core.Path.{sym}
-use mathlib.Core.List.{[], _∷_}
-use lib.ListN.{length, take}
-use Rattle.sheets.specs.Bytes.{lineEnd, plusSign}
-use Rattle.sheets.specs.Page.{nameWidth}
-use Rattle.buffer.proofs.OverLaws.{none-yet, and-then}
-use Rattle.page_line.proofs.PutLaws.{noNameFrom, whole-name, cut-name}
+-- `put_name` meets its contract, of a name that is cut (`cut-put`) and of one that is written over spaces (`whole-put`). Assumes nothing.
+use Rattle.page_line.proofs.PutLaws.{whole-put, cut-put}
 use borrow.Author.Needs.{needs}
 use Rattle.page_line.proofs.put.put_name.Statement.{statement}
 use Rattle.page_line.proofs.put.put_name.Tie as tie
 
-sub-put-at : tie.Need-sub-put-at
-sub-put-at c = search needs
+copy-part-requires : tie.Need-copy-part-requires
+copy-part-requires c κs = search needs
 
-part-put-at-start : tie.Need-part-put-at-start
-part-put-at-start c = search needs
-
-part-put-at-end : tie.Need-part-put-at-end
-part-put-at-end c = search needs
-
-put-at-requires : tie.Need-put-at-requires
-put-at-requires c κs = search needs
-
-slice-aggregate-put-at : tie.Need-slice-aggregate-put-at
-slice-aggregate-put-at c = search needs
-
-put-at-requires-2 : tie.Need-put-at-requires-2
-put-at-requires-2 c κs = search needs
+put-word2-requires : tie.Need-put-word2-requires
+put-word2-requires c κs = search needs
 
 same-length : tie.Need-same-length
 same-length c = search needs
 
 returns : tie.Need-returns
-returns c =
-    let a = c .before .before .before .before .before .before .before .before .before .before .before .before .before .args in
-    let first = and-then (take nameWidth (a .digits .now)) (none-yet (a .at) (a .out .now)) (c .before .before .before .before .before .before .before .put-at .ensures) in
-    let w = and-then (plusSign ∷ lineEnd ∷ []) first (c .before .before .put-at2 .ensures) in
-    rw (sym (cut-name (a .digits .now) (c .before .before .before .before .before .before .before .before .before .before .if1 .taken))) (w .place, w .holds)
+returns c = let a = c .before .before .before .before .before .before .before .before .before .before .before .args in cut-put (a .digits .now) (a .out .now) _ _ (c .before .before .before .before .before .before .before .before .if1 .taken) (c .before .before .before .before .before .before .copy-part .ensures .1) (c .before .before .put-word2 .ensures)
 
-put-at-requires-3 : tie.Need-put-at-requires-3
-put-at-requires-3 c κs = search needs
+put-blank-requires : tie.Need-put-blank-requires
+put-blank-requires c κs = search needs
 
-sub-put-at-2 : tie.Need-sub-put-at-2
-sub-put-at-2 c = search needs
-
-part-put-at-start-2 : tie.Need-part-put-at-start-2
-part-put-at-start-2 c = search needs
-
-part-put-at-end-2 : tie.Need-part-put-at-end-2
-part-put-at-end-2 c = search needs
-
-put-at-requires-4 : tie.Need-put-at-requires-4
-put-at-requires-4 c κs = search needs
+copy-part-requires-2 : tie.Need-copy-part-requires-2
+copy-part-requires-2 c κs = search needs
 
 same-length-2 : tie.Need-same-length-2
 same-length-2 c = search needs
 
 returns-2 : tie.Need-returns-2
-returns-2 c =
-    let a = c .before .before .before .before .before .before .before .before .before .before .before .before .before .args in
-    let first = and-then (a .digits .now) (none-yet (a .at) (a .out .now)) (c .before .before .before .before .before .before .before .before .put-at3 .ensures) in
-    let w = and-then (noNameFrom (length (a .digits .now))) first (c .before .before .put-at4 .ensures) in
-    rw (sym (whole-name (a .digits .now) (c .before .before .before .before .before .before .before .before .before .before .if1 .left))) (w .place, w .holds)
+returns-2 c = let a = c .before .before .before .before .before .before .before .before .before .before .before .args in whole-put (a .digits .now) (a .out .now) _ _ (c .before .before .before .before .before .before .before .before .if1 .left) (c .before .before .before .before .before .before .put-blank .ensures) (c .before .before .copy-part2 .ensures .1)
 
 pub put-name-spec : {M : Type 1} → statement M
 put-name-spec =
     tie.close
     (tie.spec
-    sub-put-at
-    part-put-at-start
-    part-put-at-end
-    put-at-requires
-    slice-aggregate-put-at
-    put-at-requires-2
+    copy-part-requires
+    put-word2-requires
     same-length
     returns
-    put-at-requires-3
-    sub-put-at-2
-    part-put-at-start-2
-    part-put-at-end-2
-    put-at-requires-4
+    put-blank-requires
+    copy-part-requires-2
     same-length-2
     returns-2)
