@@ -27,10 +27,10 @@ use Rattle.page_line.specs.PageLines.{frontText, blankName, nameText}
 -- ── the level
 
 -- a level of one digit, and of two
-abbrev pub shortLevel : ℕ → ℕ
+abbrev shortLevel : ℕ → ℕ
 shortLevel n = 540024864 + n * 65536
 
-abbrev pub longLevel : ℕ → ℕ
+abbrev longLevel : ℕ → ℕ
 longLevel n = 540028960 + n / 10 * 256 + n % 10 * 65536
 
 abbrev levelText : ℕ → Bytes

@@ -92,7 +92,7 @@ fn put_whole(level: u64, kind: u64, mark: u8, digits: &[u8], out: &mut [u8])
     put_name(digits, out);
 }
 
-// Writes a line of the page and its byte 10, as much as fits; its length. The last line of a buffer that is too short is written elsewhere first.
+// Writes a line of the page and its byte 10, as much as fits; its length. Where there is less room than for a line, it is written into an array first.
 pub fn put_line(level: u64, kind: u64, mark: u8, digits: &[u8], out: &mut [u8]) -> usize
     requires { ⌜ (level < 100) × (kind ≤ Union) ⌝ }
     ensures { λ r. ⌜ PutFirst (ended (lineShown level kind mark (now (digits .entry)) ∷ [])) r (now (out .entry)) (now (out .exit)) ⌝ }
