@@ -15,14 +15,14 @@ use Rattle.sheets.specs.Sheet.{ended}
 use Rattle.sheets.specs.Page.{levelWidth, nameWidth, rightIn, nameColumn, cutMark, lineShown}
 use Rattle.sheets.proofs.Tests.{every, at-each, meets}
 use Rattle.sheets.proofs.BytesLaws.{same-eq}
-use Rattle.sheets.proofs.PageLaws.{level-column, kind-column, shown-ended}
+use Rattle.sheets.proofs.PageLaws.{kind-column, shown-ended}
 use Rattle.buffer.specs.Over.{over, overAt}
 use Rattle.buffer.proofs.OverLaws.{Written, none-yet, and-then, length-written, whole, stored, over-fits, over-append, overAt-over}
 use Rattle.words.specs.Words.{lowBytes}
 use Rattle.words.proofs.WordLaws.{length-low}
 use Rattle.kind_names.proofs.NameLaws.{padded}
 use Rattle.columns.specs.Columns.{part}
-use Rattle.page_line.specs.PageLines.{frontText, blankName, nameText}
+use Rattle.page_line.specs.PageLines.{levelText, frontText, blankName, nameText}
 
 -- ── the level
 
@@ -32,9 +32,6 @@ shortLevel n = 540024864 + n * 65536
 
 abbrev longLevel : ℕ → ℕ
 longLevel n = 540028960 + n / 10 * 256 + n % 10 * 65536
-
-abbrev levelText : ℕ → Bytes
-levelText n = rightIn levelWidth (decimal n) ++ (space ∷ [])
 
 abbrev levelRight : ℕ → Bool
 levelRight n = same (lowBytes 4 (cond (ltb n 10) (shortLevel n) (longLevel n))) (levelText n)
@@ -51,34 +48,27 @@ long-level n l h = rw (le-ltb n 10 l) at (level-bytes n h)
 
 -- ── the front
 
-module _ (level kind mark : ℕ) where
-  pub front-put : (w low high : ℕ) (out a b c : Bytes) → lowBytes 4 w ≡ levelText level → lowBytes 8 low ++ lowBytes 8 high ≡ padded kind → 23 ≤ length out
+module _ (w kind mark : ℕ) where
+  pub front-put : (low high : ℕ) (out a b c : Bytes) → lowBytes 8 low ++ lowBytes 8 high ≡ padded kind → 23 ≤ length out
       → a ≡ overAt 0 (lowBytes 4 w) out → b ≡ overAt 4 (lowBytes 8 low) a → c ≡ overAt 12 (lowBytes 8 high) b
-      → set (set (set c 20 space) 21 mark) 22 space ≡ over (frontText level kind mark) out
+      → set (set (set c 20 space) 21 mark) 22 space ≡ over (frontText (lowBytes 4 w) kind mark) out
   unfolding frontText
-  front-put w low high out a b c l k room p q r =
+  front-put low high out a b c k room p q r =
       let first = and-then (lowBytes 4 w) {m = 4} {k = a} (none-yet 0 out) (omega (arith, length-low 4 w), p) in
       let second = and-then (lowBytes 8 low) {m = 12} {k = b} first (omega (arith, length-low 8 low), q) in
       let third = and-then (lowBytes 8 high) {m = 20} {k = c} second (omega (arith, length-low 8 high), r) in
       let fourth = and-then (space ∷ []) {m = 21} {k = set c 20 space} third (refl, stored 20 space c (omega (arith, length-written third))) in
       let fifth = and-then (mark ∷ []) {m = 22} {k = set (set c 20 space) 21 mark} fourth (refl, stored 21 mark (set c 20 space) (omega (arith, length-written fourth))) in
       let last = and-then (space ∷ []) {m = 23} {k = set (set (set c 20 space) 21 mark) 22 space} fifth (refl, stored 22 space (set (set c 20 space) 21 mark) (omega (arith, length-written fifth))) in
-      whole last .1 ∙ ap (λ (t : Bytes). over t out) (joined (lowBytes 4 w) (lowBytes 8 low) (lowBytes 8 high) ∙ ap₂ (λ (x y : Bytes). (x ++ y) ++ (space ∷ mark ∷ space ∷ [])) l k)
+      whole last .1 ∙ ap (λ (t : Bytes). over t out) (joined (lowBytes 4 w) (lowBytes 8 low) (lowBytes 8 high) ∙ ap (λ (y : Bytes). (lowBytes 4 w ++ y) ++ (space ∷ mark ∷ space ∷ [])) k)
     where
       joined : (x y z : Bytes) → ((((x ++ y) ++ z) ++ (space ∷ [])) ++ (mark ∷ [])) ++ (space ∷ []) ≡ (x ++ (y ++ z)) ++ (space ∷ mark ∷ space ∷ [])
       joined x y z = simp append-assoc
 
-  front-length : level < 100 → length (frontText level kind mark) ≡ 23
+  front-length : length (frontText (lowBytes 4 w) kind mark) ≡ 23
   unfolding frontText
-  front-length h =
-      omega (
-        arith,
-        length-append (levelText level ++ padded kind) (space ∷ mark ∷ space ∷ []),
-        length-append (levelText level) (padded kind),
-        length-append (rightIn levelWidth (decimal level)) (space ∷ []),
-        level-column level (omega arith),
-        kind-column kind,
-      )
+  front-length =
+      omega (arith, length-append (lowBytes 4 w ++ padded kind) (space ∷ mark ∷ space ∷ []), length-append (lowBytes 4 w) (padded kind), length-low 4 w, kind-column kind)
 
 -- ── the name
 
@@ -144,12 +134,18 @@ module _ (digits : Bytes) where
 
 -- ── the line
 
+-- the front, then the name
+pub line-put : (w kind mark : ℕ) (digits out front l : Bytes) → front ≡ over (frontText (lowBytes 4 w) kind mark) out → l ≡ overAt 23 (nameText digits) front
+    → l ≡ over (frontText (lowBytes 4 w) kind mark ++ nameText digits) out
+line-put w kind mark digits out front l e f =
+    f ∙ ap₂ (λ (n : ℕ) (b : Bytes). overAt n (nameText digits) b) (sym (front-length w kind mark)) e ∙ sym (over-append (frontText (lowBytes 4 w) kind mark) (nameText digits) out)
+
 module _ (level kind mark : ℕ) (digits : Bytes) where
   abbrev text : Bytes
   text = ended (lineShown level kind mark digits ∷ [])
 
   -- the pieces as writers one after the other leave them
-  line-pieces : frontText level kind mark ++ nameText digits ≡ text
+  line-pieces : frontText (levelText level) kind mark ++ nameText digits ≡ text
   unfolding frontText nameText
   line-pieces = joined (rightIn levelWidth (decimal level)) (padded kind) (nameColumn digits) (cutMark digits)
     where
@@ -158,20 +154,17 @@ module _ (level kind mark : ℕ) (digits : Bytes) where
           ≡ (l ++ (space ∷ k ++ (space ∷ mark ∷ space ∷ n ++ (cut ∷ [])))) ++ (lineEnd ∷ [])
       joined l k n cut = simp append-assoc
 
-  pub line-put : (out front l : Bytes) → level < 100 → front ≡ over (frontText level kind mark) out → l ≡ overAt 23 (nameText digits) front → l ≡ over text out
-  line-put out front l h e f =
-      f
-      ∙ ap₂ (λ (n : ℕ) (b : Bytes). overAt n (nameText digits) b) (sym (front-length level kind mark h)) e
-      ∙ sym (over-append (frontText level kind mark) (nameText digits) out)
-      ∙ ap (λ (t : Bytes). over t out) line-pieces
+  pub line-is : (w : ℕ) → lowBytes 4 w ≡ levelText level → frontText (lowBytes 4 w) kind mark ++ nameText digits ≡ text
+  line-is w e = ap (λ (t : Bytes). frontText t kind mark ++ nameText digits) e ∙ line-pieces
 
   pub line-length : level < 100 → 73 ≡ length text
   line-length h = sym (shown-ended level kind mark digits (omega arith))
 
   -- written over as many bytes, it is all that is there
-  pub line-alone : (zeros l : Bytes) → level < 100 → length zeros ≡ 73 → l ≡ over text zeros → l ≡ text
-  line-alone zeros l h n e =
+  pub line-alone : (w : ℕ) (zeros l : Bytes) → level < 100 → lowBytes 4 w ≡ levelText level → length zeros ≡ 73 → l ≡ over (frontText (lowBytes 4 w) kind mark ++ nameText digits) zeros → l ≡ text
+  line-alone w zeros l h k n e =
       e
+      ∙ ap (λ (t : Bytes). over t zeros) (line-is w k)
       ∙ over-fits text zeros (omega (arith, n, line-length h))
       ∙ ap (λ (b : Bytes). text ++ b) (drop-of-length-le zeros {i = length text} (omega (arith, n, line-length h)))
       ∙ append-nil text

@@ -19,9 +19,13 @@ markOf bare nullable = cond bare 46 (cond nullable 121 110)
 abbrev pub shownPart : Part → Part
 shownPart name = cond (ltb (name .end - name .start) 2) (partOf (name .end) (name .end)) name
 
--- the level, the kind's name and the mark of nullable, each with the space after it
-unfoldable pub frontText : ℕ → ℕ → ℕ → Bytes
-frontText level kind mark = ((rightIn levelWidth (decimal level) ++ (space ∷ [])) ++ leftIn kindWidth (kindName kind)) ++ (space ∷ mark ∷ space ∷ [])
+-- the level's column and its space
+abbrev pub levelText : ℕ → Bytes
+levelText level = rightIn levelWidth (decimal level) ++ (space ∷ [])
+
+-- these four bytes, the kind's name and the mark of nullable, each with the space after it
+unfoldable pub frontText : Bytes → ℕ → ℕ → Bytes
+frontText level kind mark = (level ++ leftIn kindWidth (kindName kind)) ++ (space ∷ mark ∷ space ∷ [])
 
 -- spaces in the place of a name and of its mark, and the line's end
 unfoldable pub blankName : Bytes

@@ -3,14 +3,12 @@ ghost use mathlib.Core.Path.{_≡_};
 ghost use mathlib.Core.List.{[], _∷_, _++_};
 ghost use Prim.Native.Nat.{_≤_, _<_};
 ghost use lib.ListN.{length};
-ghost use Rattle.sheets.specs.Bytes.{space};
 ghost use Rattle.sheets.specs.Kind.{Union};
-ghost use Rattle.sheets.specs.Number.{decimal};
 ghost use Rattle.sheets.specs.Sheet.{ended};
-ghost use Rattle.sheets.specs.Page.{levelWidth, rightIn, lineShown};
+ghost use Rattle.sheets.specs.Page.{lineShown};
 ghost use Rattle.buffer.specs.Over.{over, overAt, PutFirst};
 ghost use Rattle.words.specs.Words.{lowBytes};
-ghost use Rattle.page_line.specs.PageLines.{frontText, blankName, nameText};
+ghost use Rattle.page_line.specs.PageLines.{levelText, frontText, blankName, nameText};
 
 // A line has so many bytes with its byte 10.
 const LINE: usize = 73;
@@ -32,7 +30,7 @@ const CUT_END: u64 = 0x0a2b;
 // The level, right-justified in 3, and a space as one number, the lowest byte first.
 fn level_word(level: u64) -> u64
     requires { ⌜ level < 100 ⌝ }
-    ensures { λ r. ⌜ lowBytes 4 r ≡ rightIn levelWidth (decimal level) ++ (space ∷ []) ⌝ }
+    ensures { λ r. ⌜ lowBytes 4 r ≡ levelText level ⌝ }
 {
     if level < 10 {
         return 0x20302020 + level * 65536;
@@ -40,13 +38,13 @@ fn level_word(level: u64) -> u64
     0x20303020 + level / 10 * 256 + level % 10 * 65536
 }
 
-// Writes the level, the kind's name and the mark, with the spaces after them.
+// Writes the level, as `level_word` has it, the kind's name and the mark, with the spaces after them.
 fn put_front(level: u64, kind: u64, mark: u8, out: &mut [u8])
-    requires { ⌜ (level < 100) × (kind ≤ Union) × (23 ≤ length (now out)) ⌝ }
-    ensures { λ _. ⌜ now (out .exit) ≡ over (frontText level kind mark) (now (out .entry)) ⌝ }
+    requires { ⌜ (kind ≤ Union) × (23 ≤ length (now out)) ⌝ }
+    ensures { λ _. ⌜ now (out .exit) ≡ over (frontText (lowBytes 4 level) kind mark) (now (out .entry)) ⌝ }
 {
     let name = kind_names::name_of(kind);
-    words::put_word4(out, 0, level_word(level));
+    words::put_word4(out, 0, level);
     words::put_word8(out, 4, name.low);
     words::put_word8(out, 12, name.high);
     out[20] = b' ';
@@ -83,10 +81,10 @@ fn put_name(digits: &[u8], out: &mut [u8])
     copy_part::copy_part(out, NAME, digits, 0, n);
 }
 
-// Writes a line of the page and its byte 10, where there is room.
+// Writes a line of the page and its byte 10, where there is room. The level is a number of `level_word`, so that it is worked out once for a row of leaves.
 fn put_whole(level: u64, kind: u64, mark: u8, digits: &[u8], out: &mut [u8])
-    requires { ⌜ (level < 100) × (kind ≤ Union) × (73 ≤ length (now out)) ⌝ }
-    ensures { λ _. ⌜ now (out .exit) ≡ over (ended (lineShown level kind mark (now (digits .entry)) ∷ [])) (now (out .entry)) ⌝ }
+    requires { ⌜ (kind ≤ Union) × (73 ≤ length (now out)) ⌝ }
+    ensures { λ _. ⌜ now (out .exit) ≡ over (frontText (lowBytes 4 level) kind mark ++ nameText (now (digits .entry))) (now (out .entry)) ⌝ }
 {
     put_front(level, kind, mark, out);
     put_name(digits, out);
@@ -97,12 +95,13 @@ pub fn put_line(level: u64, kind: u64, mark: u8, digits: &[u8], out: &mut [u8]) 
     requires { ⌜ (level < 100) × (kind ≤ Union) ⌝ }
     ensures { λ r. ⌜ PutFirst (ended (lineShown level kind mark (now (digits .entry)) ∷ [])) r (now (out .entry)) (now (out .exit)) ⌝ }
 {
+    let column = level_word(level);
     if out.len() < LINE {
         let mut line = [0u8; LINE];
-        put_whole(level, kind, mark, digits, &mut line);
+        put_whole(column, kind, mark, digits, &mut line);
         buffer::put(out, &line);
         return LINE;
     }
-    put_whole(level, kind, mark, digits, out);
+    put_whole(column, kind, mark, digits, out);
     LINE
 }

@@ -16,7 +16,7 @@ same-length c = search needs
 returns : tie.Need-returns
 returns c =
     let st = c .before .before .before .before .before .before .before .before .before .before in
-    line-put (st .args .level) (st .args .kind) (st .args .mark) (st .args .digits .now) (st .args .out .now) _ _ (st .pre .0) (c .before .before .before .before .before .before .put-front .ensures) (c .before .before .put-name .ensures)
+    line-put (st .args .level) (st .args .kind) (st .args .mark) (st .args .digits .now) (st .args .out .now) _ _ (c .before .before .before .before .before .before .put-front .ensures) (c .before .before .put-name .ensures)
 
 pub put-whole-spec : {M : Type 1} → statement M
 put-whole-spec =
