@@ -170,7 +170,7 @@ module _ (s : Bytes) (at levels : ℕ) (inside : Bool) (out out' : Bytes) where
 -- the page: its line of the leaf
 leaf-paged : (s : Bytes) (tree : Subtree) (out out' : Bytes) (o : Option (ℕ × ℕ)) → PageLeafTold s tree out out' o
     → LeafWrote pageStep s (tree .at) (tree .levels) (tree .inside) (tree .levels, tree .inside) out out' o
-leaf-paged s tree out out' none w = w
+leaf-paged s tree out out' none w = w .1
 leaf-paged s tree out out' (some (next, len)) w =
     λ i t es h.
     let k = w .leaf in (

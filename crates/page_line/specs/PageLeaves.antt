@@ -9,7 +9,7 @@ use Rattle.sheets.specs.Sheet.{ended}
 use Rattle.sheets.specs.Page.{pageLine}
 use Rattle.sheets.specs.PageSteps.{levelOf}
 use Rattle.buffer.specs.Over.{PutFirst}
-use Rattle.field_leaf.specs.FieldLeaves.{leafHead, FieldLeafAt}
+use Rattle.field_leaf.specs.FieldLeaves.{fieldLeafIn, leafHead, FieldLeafAt}
 use Rattle.walks.specs.Answers.{putOption}
 use Rattle.walks.specs.declared.LeafPut.{LeafPut}
 use Rattle.walks.specs.declared.Subtree.{Subtree}
@@ -27,7 +27,7 @@ pub record PageLeafWritten (s : Bytes) (tree : Subtree) (out out' : Bytes) (next
 
 abbrev pub PageLeafTold : Bytes → Subtree → Bytes → Bytes → Option (ℕ × ℕ) → Type 0
 PageLeafTold s tree out out' (some (next, len)) = PageLeafWritten s tree out out' next len
-PageLeafTold s tree out out' none = out' ≡ out
+PageLeafTold s tree out out' none = (fieldLeafIn s (tree .at) ≡ none) × (out' ≡ out)
 
 -- what `put_page_leaf` tells
 abbrev pub PageLeafPuts : Bytes → Subtree → Bytes → Bytes → LeafPut → Type 0

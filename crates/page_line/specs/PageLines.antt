@@ -1,19 +1,20 @@
 -- The mark and the name of a line of the page, by what a reader of lines tells, and the pieces that a line is written in. Assumes nothing.
 use mathlib.Core.Bool.{Bool, cond}
 use mathlib.Core.List.{[], _∷_, _++_}
+use mathlib.Core.Option.{none, some}
 use Prim.Native.Nat.{ℕ, _-_}
 use lib.Dec.{ltb}
 use lib.ListN.{replicate}
 use Rattle.sheets.specs.Bytes.{Bytes, lineEnd, space}
 use Rattle.sheets.specs.Number.{decimal}
 use Rattle.sheets.specs.KindNames.{kindName}
-use Rattle.sheets.specs.Page.{levelWidth, kindWidth, rightIn, leftIn, nameColumn, cutMark}
+use Rattle.sheets.specs.Page.{nullableMark, levelWidth, kindWidth, rightIn, leftIn, nameColumn, cutMark}
 use Rattle.columns.specs.Columns.{partOf}
 use Rattle.columns.specs.declared.Part.{Part}
 
--- `.` for a bare line, else `y` or `n`
+-- the mark of a line that is bare, or of one that is nullable or not
 abbrev pub markOf : Bool → Bool → ℕ
-markOf bare nullable = cond bare 46 (cond nullable 121 110)
+markOf bare nullable = cond bare (nullableMark none) (nullableMark (some (record { name = []; nullable = nullable; pairs = none })))
 
 -- the digits of a name: none of a column of one byte, which is `-` or `~`
 abbrev pub shownPart : Part → Part

@@ -1,5 +1,5 @@
 -- `put_page_leaf` meets its contract (`leaf-line`). Assumes nothing.
-use mathlib.Core.Path.{sym, ap, _∙_}
+use mathlib.Core.Path.{refl, sym, ap, _∙_}
 use native.Mathlib.Omega.{arith}
 use Rattle.field_leaf.specs.FieldLeaves.{leafOption}
 use Rattle.field_leaf.proofs.LeafLaws.{leaf-told}
@@ -18,7 +18,7 @@ enum-told : tie.Need-enum-told
 enum-told c = search needs
 
 returns : tie.Need-returns
-returns c = search needs
+returns c = (sym (c .before .before .leaf-at .ensures) ∙ ap leafOption (c .enum-told .given .1), refl)
 
 level-of-requires : tie.Need-level-of-requires
 level-of-requires c κs = search needs
