@@ -24,6 +24,7 @@ use Rattle.sheets.specs.MappingSteps.{childOf}
 use Rattle.sheets.proofs.Tests.{never}
 use Rattle.sheets.proofs.MappingSteps.{type-child, child-stands, child-absent}
 use Rattle.sheets.proofs.FieldTrees.{standing-lines}
+use Rattle.sheets.proofs.LineTrees.{tallest-append}
 use Rattle.read_field_line.specs.FieldLines.{FieldLineAt}
 use Rattle.read_field_line.specs.declared.FieldLine.{FieldLine}
 use Rattle.field_sheet.specs.Subtrees.{skipAnswer, SkipsRow}
@@ -124,11 +125,6 @@ module _ {s : Bytes} {at : ℕ} {i : Option Info} {t : ArrowDataType} {es : List
 
 -- ── one of the types of a row
 
-tallest-append : (inside : Bool) (us vs : List Entry) → tallest (entryLevels inside) (us ++ vs) ≡ max (tallest (entryLevels inside) us) (tallest (entryLevels inside) vs)
-unfolding tallest
-tallest-append inside [] vs = omega arith
-tallest-append inside (u ∷ us) vs = omega (arith, tallest-append inside us vs)
-
 child-there : (k : ℕ) (us : List Entry) → k < length us → (t : ArrowDataType) × (childOf k us ≡ given t)
 child-there k [] h = absurd (omega arith)
 child-there zero (u ∷ us) h = (u .1, refl)
@@ -160,7 +156,7 @@ module _ {s : Bytes} {at count : ℕ} {us es : List Entry} (there : RowAt s at c
 
   split-deep : max (tallest (entryLevels false) (it .before)) (tallest (entryLevels false) ((it .info, it .type) ∷ it .others)) ≤ levelLimit
   split-deep =
-      subst (λ (n : ℕ). n ≤ levelLimit) (ap (tallest (entryLevels false)) (it .split) ∙ tallest-append false (it .before) ((it .info, it .type) ∷ it .others)) (there .deep)
+      subst (λ (n : ℕ). n ≤ levelLimit) (ap (tallest (entryLevels false)) (it .split) ∙ tallest-append (entryLevels false) (it .before) ((it .info, it .type) ∷ it .others)) (there .deep)
 
   pub before-there : HasTrees fields s at index
   before-there = (it .before, (it .info, it .type) ∷ (it .others ++ es), split-stands, it .count, there .within)
