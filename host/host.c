@@ -50,6 +50,12 @@ static void structs(void)
     struct ArrowSchema trace = { .format = "i", .name = "trace", .metadata = pairs, .flags = ARROW_FLAG_DICTIONARY_ORDERED, .dictionary = &values, .release = release_nothing };
     import_struct("a dictionary", &trace, FIELD "32 2 1 ~ ~ 7472616365 0 6d=32 1\n25 0 0 ~ ~ ~ ~ ~ 0\n");
 
+    /* private high flags make the flags negative: ordered and nullable are still their bits */
+    struct ArrowSchema band = { .format = "C", .name = "band", .flags = INT64_MIN | ARROW_FLAG_DICTIONARY_ORDERED, .dictionary = &values, .release = release_nothing };
+    import_struct("a required column with private flags", &band, FIELD "32 5 1 ~ ~ 62616e64 0 ~ 1\n25 0 0 ~ ~ ~ ~ ~ 0\n");
+    struct ArrowSchema level = { .format = "g", .name = "level", .flags = INT64_MIN | ARROW_FLAG_NULLABLE, .release = release_nothing };
+    import_struct("a nullable column with private flags", &level, FIELD "14 0 0 ~ ~ 6c6576656c 1 ~ 0\n");
+
     struct ArrowSchema *both[] = { &peak, &trace };
     struct ArrowSchema sweep = { .format = "+s", .name = NULL, .n_children = 2, .children = both, .release = release_nothing };
     import_struct("a struct without a name", &sweep,

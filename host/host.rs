@@ -134,6 +134,11 @@ fn imports(tries: &mut Tries) {
     let answer = format!("{FIELD}27 0 0 ~ ~ 7065616b 1 ~ 1\n14 0 0 ~ ~ 6974656d 0 ~ 0\n");
     let many = format!("{SCHEMA}2b73 - 0 ~ 3446 0\n{}", "67 - 0 ~ 0 0\n".repeat(3446));
     tries.answered(&of(juzontefa_import), "a list of peaks", &valid, &answer);
+    // Nullable is the flags' bit of value 2.
+    for (flags, nullable) in [(-1, 1), (-2, 1), (-3, 0), (4, 0), (i64::MIN + 1, 0), (i64::MIN + 2, 1)] {
+        let (valid, answer) = (format!("{SCHEMA}67 70 {flags} ~ 0 0\n"), format!("{FIELD}14 0 0 ~ ~ 70 {nullable} ~ 0\n"));
+        tries.answered(&of(juzontefa_import), &format!("flags {flags}"), &valid, &answer);
+    }
     tries.broken(&of(juzontefa_import), SCHEMA, "2b6c 70 2 ~ 1 0\n", "67 69 0 ~ 0 0\n");
     tries.expect(&of(juzontefa_import), "null format", format!("{SCHEMA}~ - 0 ~ 0 0\n").as_bytes(), ROOM, Err(4));
     tries.expect(&of(juzontefa_import), "longer than 65,536 bytes", many.as_bytes(), 65_536, Err(16));

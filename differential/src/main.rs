@@ -61,7 +61,7 @@ fn run(arguments: &[String]) -> Result<(), Failure> {
     let out = &mut std::io::stdout();
     match words[..] {
         ["answer", ref rest @ ..] => answer_call(rest, out, |request, sheet| match request.call.is_in_rust() {
-            true => Ok(Rust::new().answer(request, sheet)),
+            true => Ok(Rust::new().own_answer(request, sheet)),
             false => Err(Failure::Wrong(format!("{0} is not in the Rust: ask `model {0}`", request.call.name()))),
         }),
         ["model", ref rest @ ..] => answer_call(rest, out, |request, sheet| Ok(Model::new().answer(request, sheet))),

@@ -32,12 +32,12 @@ impl SchemaLine {
         flags & Self::ORDERED != 0
     }
 
-    // By division, rounded toward zero, as the source has it: -3 is nullable, though its bit 2 is 0.
+    // The field may hold nulls. By bit, where the source divides: negative flags are read in two's complement.
     pub fn nullable(self) -> bool
         ensures { λ r. ⌜ r ≡ nullable (self .flags) ⌝ }
     {
         let flags = self.flags;
-        (flags / Self::NULLABLE) & 1 == 1
+        flags & Self::NULLABLE != 0
     }
 
     // The map's keys are sorted.

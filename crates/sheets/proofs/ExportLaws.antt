@@ -1,18 +1,21 @@
--- What export gives keeps the rules of a schema sheet, is bytes, and has no more levels than the field. Assumes nothing.
+-- What export gives keeps the rules of a schema sheet, is bytes, has flags from 0 to 7 on every line, and has no more levels than the field. By
+-- induction on the field's type; a node is shown once for all types (`node-good`). Assumes nothing.
 use mathlib.Core.Path.{_≡_, refl, subst}
 use mathlib.Core.Bool.{Bool, true, false}
 use mathlib.Core.List.{List, [], _∷_, _++_}
 use mathlib.Core.Option.{Option, none, some}
 use Prim.Native.Nat.{ℕ, zero, suc, _+_, _/_, _%_, _^_, _≤_}
 use native.Mathlib.Omega.{arith}
+use lib.Dec.{leb}
+use lib.IntN.{ℤ, pos, negsuc}
 use lib.ListN.{length}
-use borrow.Author.Tests.{lt-ltb}
+use borrow.Author.Tests.{le-leb, lt-ltb}
 use Rattle.sheets.specs.Sheet.{isSome}
-use Rattle.sheets.specs.Rule.{each, Meets}
+use Rattle.sheets.specs.Rule.{Rule, is, each, Meets}
 use Rattle.sheets.specs.Bytes.{Bytes, all, isByte}
 use Rattle.sheets.specs.Answer.{given, _>>=_}
 use Rattle.sheets.specs.Utf8.{isUtf8}
-use Rattle.sheets.specs.Schema.{Schema, Schemas, end, _&_, Dictionary, absent, present, schemaRule, childrenRule, dictionaryRule, schemaLevels, childrenLevels, dictionaryLevels}
+use Rattle.sheets.specs.Schema.{Node, Schema, Schemas, end, _&_, Dictionary, absent, present, nodeRule, eachNode, eachChild, eachValues, schemaRule, schemaLevels, childrenLevels, dictionaryLevels}
 use Rattle.sheets.specs.Field.{Pair, Info, leaf, Nesting, list, largeList, fixedSizeList, map, ArrowDataType, scalar, nested, grouped, dictionary, extension, Fields, nil, add, Field, countFields, infoRule, typeRule, fieldsRule, fieldRule, typeLevels, fieldsLevels, fieldLevels}
 use Rattle.sheets.specs.Format.{scalarFormat, nestingFormat, groupingFormat, indexFormat}
 use Rattle.sheets.specs.Metadata.{little, writeText32, writePairs, metadataToBytes, Extension, orNone, blockOf, insertOver, withMetadata, nameKey, schemaMetadata}
@@ -21,7 +24,7 @@ use Rattle.sheets.proofs.Tests.{first-gave}
 use Rattle.sheets.proofs.BytesLaws.{all-append}
 use Rattle.sheets.proofs.TextLaws.{bytesRule}
 use Rattle.sheets.proofs.Utf8Laws.{utf8-bytes}
-use Rattle.sheets.proofs.SchemaLaws.{schemaBytes, childrenBytes, dictionaryBytes}
+use Rattle.sheets.proofs.SchemaLaws.{nodeBytes, schemaBytes}
 use Rattle.sheets.proofs.FormatLaws.{utf8-scalar, utf8-nesting, utf8-grouping}
 use Rattle.sheets.proofs.MetadataLaws.{extensionRule, textPair, pairs-text, pairs-ordered, all-text}
 use Rattle.sheets.proofs.RoundTrip.{index-leaf, node-gave, values-rule}
@@ -55,6 +58,14 @@ metadata-bytes i (some e) h x =
 
 -- ── the flags fit
 
+-- "has flags from 0 to 7"
+abbrev pub zeroToSeven : ℤ → Rule
+zeroToSeven (pos n) = is (leb n 7)
+zeroToSeven (negsuc n) = is false
+
+abbrev pub fewFlags : Node → Rule
+fewFlags n = zeroToSeven (n .flags)
+
 flag-small : (b : Bool) (n : ℕ) → flag b n ≤ n
 flag-small true n = omega arith
 flag-small false n = omega arith
@@ -70,16 +81,19 @@ sorted-small (map b) = flag-small b 4
 record Good (levels : ℕ) (s : Schema) : Type 0 where
   rule : Meets (schemaRule s)
   bytes : Meets (schemaBytes s)
+  flags : Meets (eachNode fewFlags s)
   depth : schemaLevels s ≤ levels
 
 record GoodAll (levels : ℕ) (cs : Schemas) : Type 0 where
-  rule : Meets (childrenRule cs)
-  bytes : Meets (childrenBytes cs)
+  rule : Meets (eachChild nodeRule cs)
+  bytes : Meets (eachChild nodeBytes cs)
+  flags : Meets (eachChild fewFlags cs)
   depth : childrenLevels cs ≤ levels
 
 record GoodDictionary (levels : ℕ) (d : Dictionary) : Type 0 where
-  rule : Meets (dictionaryRule d)
-  bytes : Meets (dictionaryBytes d)
+  rule : Meets (eachValues nodeRule d)
+  bytes : Meets (eachValues nodeBytes d)
+  flags : Meets (eachValues fewFlags d)
   depth : dictionaryLevels d ≤ levels
 
 node-good : (i : Info) (e : Option Extension) (f : Bytes) (x : ℕ) (cs : Schemas) (d : Dictionary) (s : Schema) (l : ℕ)
@@ -90,23 +104,24 @@ node-good i e f x cs d s l u h k n c v g =
     (record {
       rule = ((q .0 .1, (q .0 .0, lt-ltb (flag (i .nullable) 2 + x) (2 ^ 63) (omega (arith, flag-small (i .nullable) 2)))), (c .rule, v .rule));
       bytes = ((utf8-bytes f u, (utf8-bytes (i .name) (h .0), metadata-bytes i e h k)), (c .bytes, v .bytes));
+      flags = (le-leb (flag (i .nullable) 2 + x) 7 (omega (arith, flag-small (i .nullable) 2)), (c .flags, v .flags));
       depth = omega (arith, c .depth, v .depth);
     })
 
 no-children : (l : ℕ) → GoodAll l end
-no-children l = record { rule = refl; bytes = refl; depth = omega arith }
+no-children l = record { rule = refl; bytes = refl; flags = refl; depth = omega arith }
 
 no-dictionary : (l : ℕ) → GoodDictionary l absent
-no-dictionary l = record { rule = refl; bytes = refl; depth = omega arith }
+no-dictionary l = record { rule = refl; bytes = refl; flags = refl; depth = omega arith }
 
 one-child : {l : ℕ} {s : Schema} → Good l s → GoodAll l (s & end)
-one-child {l} {s} g = record { rule = (g .rule, refl); bytes = (g .bytes, refl); depth = omega (arith, g .depth) }
+one-child {l} {s} g = record { rule = (g .rule, refl); bytes = (g .bytes, refl); flags = (g .flags, refl); depth = omega (arith, g .depth) }
 
 a-dictionary : {l : ℕ} {s : Schema} → Good l s → GoodDictionary l (present s)
-a-dictionary {l} {s} g = record { rule = g .rule; bytes = g .bytes; depth = g .depth }
+a-dictionary {l} {s} g = record { rule = g .rule; bytes = g .bytes; flags = g .flags; depth = g .depth }
 
 deeper : {l k : ℕ} {s : Schema} → l ≤ k → Good l s → Good k s
-deeper h g = record { rule = g .rule; bytes = g .bytes; depth = omega (arith, g .depth) }
+deeper h g = record { rule = g .rule; bytes = g .bytes; flags = g .flags; depth = omega (arith, g .depth) }
 
 mutual
   type-good : (t : ArrowDataType) (i : Info) (e : Option Extension) (s : Schema) → Meets (typeRule t) → Meets (infoRule i) → Meets (extensionRule e) → schemaNewOf t i e ≡ given s → Good (typeLevels t (isSome e)) s
@@ -145,9 +160,13 @@ mutual
       let a = type-good t i none (q .0) (h .1 .0) (h .0) refl (q .1) in
       let b = fields-good fs (p .0) (h .1 .1) (p .1) in
       subst (GoodAll (fieldsLevels (add i t fs))) e
-      (record { rule = (a .rule, b .rule); bytes = (a .bytes, b .bytes); depth = omega (arith, a .depth, b .depth) })
+      (record { rule = (a .rule, b .rule); bytes = (a .bytes, b .bytes); flags = (a .flags, b .flags); depth = omega (arith, a .depth, b .depth) })
 
 pub export-good : (f : Field) (s : Schema) → Meets (fieldRule f) → schemaNew f ≡ given s → Meets (schemaRule s) × Meets (schemaBytes s) × (schemaLevels s ≤ fieldLevels f)
 export-good f s h g =
     let a = type-good (f .type) (f .info) none s (h .1) (h .0) refl g in
     (a .rule, a .bytes, a .depth)
+
+-- document 02, #102: "Every line that export writes has flags from 0 to 7"
+pub export-flags : (f : Field) (s : Schema) → Meets (fieldRule f) → schemaNew f ≡ given s → Meets (eachNode fewFlags s)
+export-flags f s h g = type-good (f .type) (f .info) none s (h .1) (h .0) refl g .flags

@@ -1,15 +1,15 @@
--- The flags of the Arrow C data interface (specs/Standard) against those that are read and written here. Ordered and sorted are the published bit for
--- every int64_t; nullable is the published bit for every one that is not negative or is even, and for odd negative ones its opposite; what export writes
--- has exactly the published bits. By arithmetic on halves. Assumes nothing.
+-- The flags of the Arrow C data interface (specs/Standard) against those that are read and written here. Each of the three is the published bit for
+-- every int64_t; what export writes has exactly the published bits; and the source's reading of nullable, by division, is that bit but for odd negative
+-- numbers, where it is the opposite. By arithmetic on halves. Assumes nothing.
 use mathlib.Core.Path.{_≡_, refl, sym, _∙_, ap}
 use mathlib.Core.Bool.{Bool, true, false, not}
-use Prim.Native.Nat.{ℕ, suc, _+_, _-_, _/_, _%_, _^_, _<_}
+use Prim.Native.Nat.{ℕ, zero, suc, _+_, _-_, _/_, _%_, _^_, _<_}
 use native.Mathlib.Omega.{arith}
 use lib.Dec.{eqb}
-use lib.IntN.{ℤ, pos, negsuc}
+use lib.IntN.{ℤ, pos, negsuc, negℤ}
 use lib.Signed.{mag}
 use borrow.Author.Tests.{eqb-true, eqb-false, eq-eqb, ne-eqb}
-use Rattle.sheets.specs.Flags.{ORDERED, NULLABLE, SORTED, odd, isOrdered, isSorted, nullable}
+use Rattle.sheets.specs.Flags.{ORDERED, NULLABLE, SORTED, odd, bit, isOrdered, isSorted, nullable, nullableByDivision}
 use Rattle.sheets.specs.Export.{flag}
 use Rattle.sheets.specs.Standard.{«ARROW_FLAG_DICTIONARY_ORDERED», «ARROW_FLAG_NULLABLE», «ARROW_FLAG_MAP_KEYS_SORTED», hasFlag}
 
@@ -30,34 +30,45 @@ odd-other x y h = pick (eqb (y % 2) 1) refl
 
 -- ── read
 
--- "Import takes ordered and sorted by bit": the standard's, for every number
+-- the bit of that value is the standard's, for every number: the bits of -(n + 1) are those that n has not
+module _ (f : ℕ) (others : (n : ℕ) → n < 2 ^ 63 → ((2 ^ 64 - 1) - n) / f % 2 + n / f % 2 ≡ 1) where
+  pub flag-bit : (z : ℤ) → Is64 z → bit f z ≡ hasFlag f z
+  flag-bit (pos n) h = refl
+  flag-bit (negsuc n) h = sym (odd-other (((2 ^ 64 - 1) - n) / f) (n / f) (others n h))
+
+-- "Import takes ordered and sorted by bit"
 pub ordered-flag : (z : ℤ) → Is64 z → isOrdered z ≡ hasFlag «ARROW_FLAG_DICTIONARY_ORDERED» z
-ordered-flag (pos n) h = refl
-ordered-flag (negsuc n) h = sym (odd-other (((2 ^ 64 - 1) - n) / 1) (n / 1) (omega arith))
+ordered-flag z h = flag-bit 1 (λ n h. omega arith) z h
+
+-- document 02, #102: "Nullable becomes bit 2 of the flags, as the C data interface has it"
+pub nullable-flag : (z : ℤ) → Is64 z → nullable z ≡ hasFlag «ARROW_FLAG_NULLABLE» z
+nullable-flag z h = flag-bit 2 (λ n h. omega arith) z h
 
 pub sorted-flag : (z : ℤ) → Is64 z → isSorted z ≡ hasFlag «ARROW_FLAG_MAP_KEYS_SORTED» z
-sorted-flag (pos n) h = refl
-sorted-flag (negsuc n) h = sym (odd-other (((2 ^ 64 - 1) - n) / 4) (n / 4) (omega arith))
+sorted-flag z h = flag-bit 4 (λ n h. omega arith) z h
 
--- "but nullable as (flags / 2) & 1 with division truncated toward zero": the standard's bit where the flags are not negative,
-pub nullable-flag : (n : ℕ) → nullable (pos n) ≡ hasFlag «ARROW_FLAG_NULLABLE» (pos n)
-nullable-flag n = refl
+-- ── the source's reading of nullable, by division
 
--- the bit of a negative number
-stored-half : (n : ℕ) → Is64 (negsuc n) → hasFlag «ARROW_FLAG_NULLABLE» (negsuc n) ≡ not (odd (n / 2))
-stored-half n h = odd-other (((2 ^ 64 - 1) - n) / 2) (n / 2) (omega arith)
+-- a number and its negative are odd together
+negated-odd : (m : ℕ) → bit 1 (negℤ (pos m)) ≡ odd m
+negated-odd zero = refl
+negated-odd (suc j) = sym (odd-other (suc j) (j / 1) (omega arith))
+
+-- it is the bit where the flags are not negative,
+pub division-natural : (n : ℕ) → nullableByDivision (pos n) ≡ nullable (pos n)
+division-natural n = let whole : n / 2 / 1 ≡ n / 2 = omega arith in ap odd whole
 
 -- and where they are negative and even: -(n + 1) is even where n is odd;
-pub nullable-even : (n : ℕ) → Is64 (negsuc n) → odd n ≡ true → nullable (negsuc n) ≡ hasFlag «ARROW_FLAG_NULLABLE» (negsuc n)
-nullable-even n h e =
+pub division-even : (n : ℕ) → odd n ≡ true → nullableByDivision (negsuc n) ≡ nullable (negsuc n)
+division-even n e =
     let half : suc n / 2 ≡ suc (n / 2) = omega (arith, eqb-true (n % 2) 1 e) in
-    ap odd half ∙ odd-other (suc (n / 2)) (n / 2) (omega arith) ∙ sym (stored-half n h)
+    negated-odd (suc n / 2) ∙ ap odd half ∙ odd-other (suc (n / 2)) (n / 2) (omega arith)
 
--- where they are negative and odd it is the other truth value (the departure): "So -3 is nullable", and its bit is not set
-pub nullable-odd : (n : ℕ) → Is64 (negsuc n) → odd n ≡ false → nullable (negsuc n) ≡ not (hasFlag «ARROW_FLAG_NULLABLE» (negsuc n))
-nullable-odd n h e =
+-- where they are negative and odd it is the other truth value: of -3 the bit is not set, and the source says nullable
+pub division-odd : (n : ℕ) → odd n ≡ false → nullableByDivision (negsuc n) ≡ not (nullable (negsuc n))
+division-odd n e =
     let half : suc n / 2 ≡ n / 2 = omega (arith, eqb-false (n % 2) 1 e) in
-    ap odd half ∙ sym (twice (odd (n / 2))) ∙ ap not (sym (stored-half n h))
+    negated-odd (suc n / 2) ∙ ap odd half ∙ sym (twice (odd (n / 2)))
   where
     twice : (b : Bool) → not (not b) ≡ b
     twice true = refl

@@ -1,5 +1,5 @@
 -- Sheets that tell the wrong turns of document 01 from the right ones, and each refusal from its neighbours in the order of visiting: one table,
--- by computation. The answers are the source's. Assumes nothing.
+-- by computation. The answers are the source's, but for document 02. Assumes nothing.
 use mathlib.Core.Path.{_≡_, refl}
 use mathlib.Core.List.{List, [], _∷_, _++_, map}
 use Prim.Native.Nat.{ℕ}
@@ -18,13 +18,16 @@ plains a b = record { call = plained; sheet = fieldSheet a; wanted = (0, fieldSh
 -- import: flags, keys, ids
 abbrev pub importTurns : List Case
 importTurns =
-    -- nullable is no bit: -1 has bit 2 and is not nullable, -2 has it and is
-    imports (ascii "67 - -1 ~ 0 0\n") (ascii "14 0 0 ~ ~ - 0 ~ 0\n")
+    -- nullable is a bit (document 02, #102): -1 and -2 have it, the two least numbers have not; by division -1 is not nullable, the second least is
+    imports (ascii "67 - -1 ~ 0 0\n") (ascii "14 0 0 ~ ~ - 1 ~ 0\n")
     ∷ imports (ascii "67 - -2 ~ 0 0\n") (ascii "14 0 0 ~ ~ - 1 ~ 0\n")
     ∷ imports (ascii "67 - -9223372036854775808 ~ 0 0\n") (ascii "14 0 0 ~ ~ - 0 ~ 0\n")
+    ∷ imports (ascii "67 - -9223372036854775807 ~ 0 0\n") (ascii "14 0 0 ~ ~ - 0 ~ 0\n")
+    -- all three of one number: -3 has ordered and sorted, and has not nullable
+    ∷ imports (ascii "2b6d - -3 ~ 1 0\n69 - -3 ~ 0 1\n67 - 0 ~ 0 0\n") (ascii "31 1 0 ~ ~ - 0 ~ 1\n32 2 1 ~ ~ - 0 ~ 1\n14 0 0 ~ ~ ~ ~ ~ 0\n")
     -- ordered and sorted are bits: -8 has neither, -1 both
     ∷ imports (ascii "2b6d - -8 ~ 1 0\n67 - 0 ~ 0 0\n") (ascii "31 0 0 ~ ~ - 0 ~ 1\n14 0 0 ~ ~ - 0 ~ 0\n")
-    ∷ imports (ascii "69 - -1 ~ 0 1\n75 - 0 ~ 0 0\n") (ascii "32 2 1 ~ ~ - 0 ~ 1\n25 0 0 ~ ~ ~ ~ ~ 0\n")
+    ∷ imports (ascii "69 - -1 ~ 0 1\n75 - 0 ~ 0 0\n") (ascii "32 2 1 ~ ~ - 1 ~ 1\n25 0 0 ~ ~ ~ ~ ~ 0\n")
     -- ids are not matched to fields
     ∷ imports (ascii "2b75733a372c2d312c2b30 - 0 ~ 1 0\n67 - 0 ~ 0 0\n") (ascii "41 1 0 7,-1,0 ~ - 0 ~ 1\n14 0 0 ~ ~ - 0 ~ 0\n")
     -- extension metadata without a name is dropped, with one it is no pair

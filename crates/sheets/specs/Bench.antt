@@ -55,8 +55,8 @@ abbrev pub cases : List Case
 cases =
     -- A1 the above
     imports (ascii "2b6c 7065616b 2 ~ 1 0\n67 6974656d 0 ~ 0 0\n") (ascii "27 0 0 ~ ~ 7065616b 1 ~ 1\n14 0 0 ~ ~ 6974656d 0 ~ 0\n")
-    -- A2 flags -3 nullable, 4 not
-    ∷ imports (ascii "67 - -3 ~ 0 0\n") (ascii "14 0 0 ~ ~ - 1 ~ 0\n")
+    -- A2 flags -3 not nullable (document 02, #102), 4 not
+    ∷ imports (ascii "67 - -3 ~ 0 0\n") (ascii "14 0 0 ~ ~ - 0 ~ 0\n")
     ∷ imports (ascii "67 - 4 ~ 0 0\n") (ascii "14 0 0 ~ ~ - 0 ~ 0\n")
     -- A3 `w:+16` is size 16, exported `w:16`
     ∷ imports (ascii "773a2b3136 - 0 ~ 0 0\n") (ascii "23 16 0 ~ ~ - 0 ~ 0\n")

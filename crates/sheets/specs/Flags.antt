@@ -3,7 +3,8 @@
 use mathlib.Core.Bool.{Bool, not}
 use Prim.Native.Nat.{ℕ, _/_, _%_}
 use lib.Dec.{eqb}
-use lib.IntN.{ℤ, pos, negsuc, natAbs}
+use lib.IntN.{ℤ, pos, negsuc}
+use lib.Signed.{quotZ}
 
 abbrev pub ORDERED : ℕ
 ORDERED = 1
@@ -22,14 +23,17 @@ abbrev pub bit : ℕ → ℤ → Bool
 bit m (pos n) = odd (n / m)
 bit m (negsuc n) = not (odd (n / m))
 
--- "Import takes ordered and sorted by bit"
+-- "Import takes ordered and sorted by bit", and document 02, #102: "Nullable becomes bit 2 of the flags, as the C data interface has it"
 abbrev pub isOrdered : ℤ → Bool
 isOrdered z = bit ORDERED z
 
 abbrev pub isSorted : ℤ → Bool
 isSorted z = bit SORTED z
 
--- "but nullable as (flags / 2) & 1 with division truncated toward zero": the division takes the absolute value's half, and the sign changes
--- no number's oddness
 abbrev pub nullable : ℤ → Bool
-nullable z = odd (natAbs z / 2)
+nullable z = bit NULLABLE z
+
+-- the source's reading, which document 01 had: "nullable as (flags / 2) & 1 with division truncated toward zero". It is the bit but for odd negative
+-- numbers, where it is the other truth value (`StandardFlagLaws`)
+abbrev pub nullableByDivision : ℤ → Bool
+nullableByDivision z = bit 1 (quotZ z (pos 2))

@@ -111,17 +111,21 @@ lacksZero (some bs) = lacks 0 bs
 abbrev pub nodeRule : Node → Rule
 nodeRule n = lacksZero (n .format) and lacksZero (n .name) and is (ltb (mag (n .flags)) (2 ^ 63))
 
+-- a rule at each node of a tree
 abbrev mutual
-  pub schemaRule : Schema → Rule
-  schemaRule (schema n cs d) = nodeRule n and childrenRule cs and dictionaryRule d
+  pub eachNode : (Node → Rule) → Schema → Rule
+  eachNode rule (schema n cs d) = rule n and eachChild rule cs and eachValues rule d
 
-  pub childrenRule : Schemas → Rule
-  childrenRule end = is true
-  childrenRule (s & ss) = schemaRule s and childrenRule ss
+  pub eachChild : (Node → Rule) → Schemas → Rule
+  eachChild rule end = is true
+  eachChild rule (s & ss) = eachNode rule s and eachChild rule ss
 
-  pub dictionaryRule : Dictionary → Rule
-  dictionaryRule absent = is true
-  dictionaryRule (present s) = schemaRule s
+  pub eachValues : (Node → Rule) → Dictionary → Rule
+  eachValues rule absent = is true
+  eachValues rule (present s) = eachNode rule s
+
+abbrev pub schemaRule : Schema → Rule
+schemaRule s = eachNode nodeRule s
 
 -- the levels of a tree, "the first line being level 1"
 abbrev mutual

@@ -36,12 +36,12 @@ impl Model {
         }
     }
 
-    /// Division truncates toward zero.
+    /// Document 02, #102: a bit, as the other two are.
     fn nullable(&self, flags: i64) -> bool {
         match self.wrong {
-            Some(Wrong::NullableByBit) => flags & 2 != 0,
+            Some(Wrong::NullableByDivision) => (flags / 2) & 1 == 1,
             Some(Wrong::NullableFromMap) => flags & 4 != 0,
-            _ => (flags / 2) & 1 == 1,
+            _ => flags & 2 != 0,
         }
     }
 

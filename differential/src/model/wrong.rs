@@ -60,7 +60,7 @@ wrong_readings! {
     InnerExtensionLevel "an extension in an extension is on its level"
     ListChildrenFree "a list may have any number of children"
     // Import.
-    NullableByBit "nullable is bit 2"
+    NullableByDivision "nullable is (flags / 2) & 1"
     OrderedByRemainder "ordered is the remainder by 2 equal to 1"
     SortedByDivision "sorted is (flags / 4) & 1"
     NullNameIs4 "a null name is 4"

@@ -10,6 +10,7 @@ mod cursor;
 mod field_sheet;
 mod kinds;
 mod metadata;
+mod nullable;
 mod panics;
 mod schema_sheet;
 mod tree;
@@ -36,8 +37,21 @@ impl Rust {
         Rust { blocks: Blocks::new() }
     }
 
-    /// Must not be asked for plain form or the page, which the Rust does not have.
+    /// What a call is held to: the Rust's own answer, but that nullable of negative flags is their bit (document 02, #102).
     pub fn answer(&self, request: Request, sheet: &[u8]) -> Answered {
+        if request.call != Call::Import {
+            return self.own_answer(request, sheet);
+        }
+        let producer = Producer::of_sheet(sheet, &self.blocks)?;
+        let mut field = imported(&producer)?;
+        nullable::by_bit(producer.root(), &mut field);
+        let mut out = Vec::new();
+        field_sheet::write(&field, &mut out);
+        Ok(Answer::Sheet(out))
+    }
+
+    /// Must not be asked for plain form or the page, which the Rust does not have.
+    pub fn own_answer(&self, request: Request, sheet: &[u8]) -> Answered {
         if !request.call.writes() {
             return values(request.call, &field_sheet::read(sheet)?.dtype);
         }
@@ -65,10 +79,7 @@ impl Rust {
 
     /// `import_field_from_c`, from sheet to sheet.
     fn import(&self, sheet: &[u8], out: &mut Vec<u8>) -> Result<(), Number> {
-        let producer = Producer::of_sheet(sheet, &self.blocks)?;
-        // SAFETY: the structs and their memory live in `producer`, and its blocks are whole.
-        let field = told(|| unsafe { import_field_from_c(producer.root()) })?;
-        field_sheet::write(&field, out);
+        field_sheet::write(&imported(&Producer::of_sheet(sheet, &self.blocks)?)?, out);
         Ok(())
     }
 
@@ -79,6 +90,11 @@ impl Rust {
         schema_sheet::write(&schema, out);
         Ok(())
     }
+}
+
+fn imported(producer: &Producer) -> Result<Field, Number> {
+    // SAFETY: the structs and their memory live in `producer`, and its blocks are whole.
+    told(|| unsafe { import_field_from_c(producer.root()) })
 }
 
 /// The calls that answer numbers.

@@ -53,6 +53,7 @@ pub fn choose(rust: &Rust, seed: u64) -> Result<Vec<Record>, String> {
     chooser.wrong_readings(seed)?;
     chooser.generated(seed)?;
     chooser.pages(seed)?;
+    chooser.negative_flags()?;
     chooser.check_numbers()?;
     chooser.check_readings()?;
     Ok(chooser.records)
@@ -151,6 +152,29 @@ impl Chooser<'_> {
         let fixed = sheet_of(Kind::Field, &["23 16 0 ~ ~ - 0 ~ 0"]);
         for buffer in [Ample, Exact, OneShort, Empty] {
             self.add(Request::new(Call::Export, 0), &fixed, buffer)?;
+        }
+        Ok(())
+    }
+
+    /// Flags that are negative, about their ends and with each of the three bits, on every line that has a field of its own and on one
+    /// that has not, the values of a dictionary.
+    fn negative_flags(&mut self) -> Result<(), String> {
+        for low in 1..=8 {
+            self.add_import(&[&format!("67 61 {} ~ 0 0", -low)])?;
+            self.add_import(&[&format!("67 61 {} ~ 0 0", i64::MIN + low - 1)])?;
+        }
+        const NAMED: &str = "01000000140000004152524f573a657874656e73696f6e3a6e616d650100000078"; // ARROW:extension:name = x
+        for flags in [-1, -3, i64::MIN + 1, i64::MIN + 7] {
+            let line = |format: &str, below: &str| format!("{format} 61 {flags} ~ {below}");
+            let (leaf, utf8) = (line("67", "0 0"), line("75", "0 0"));
+            for nested in ["2b6c", "2b4c", "2b773a33", "2b6d"] {
+                self.add_import(&[&line(nested, "1 0"), &leaf])?;
+            }
+            for group in ["2b73", "2b75643a302c31"] {
+                self.add_import(&[&line(group, "2 0"), &leaf, &utf8])?;
+            }
+            self.add_import(&[&line("2b6d", "1 0"), &line("69", "0 1"), &line("2b6c", "1 0"), &leaf])?;
+            self.add_import(&[&format!("2b6c 61 {flags} {NAMED} 1 0"), &leaf])?;
         }
         Ok(())
     }

@@ -96,7 +96,8 @@ fn to_sheet(call: raw::ToSheet, sheet: &[u8], out: &mut [u8]) -> Result<usize, R
     length_of(told, out.len())
 }
 
-/// The field sheet of a schema sheet. A buffer of [`import_room`] is long enough.
+/// The field sheet of a schema sheet. Ordered, nullable and sorted are the flags' bits 1, 2 and 4, of negative flags too; all other
+/// bits are free for the producer, and dropped. A buffer of [`import_room`] is long enough.
 ///
 /// ```
 /// use juzontefa::{import, Refusal};
