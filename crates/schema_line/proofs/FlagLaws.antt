@@ -26,9 +26,8 @@ bits-stored : (z : ℤ) → ofZ w64 z ≡ stored z
 bits-stored (pos n) = refl
 bits-stored (negsuc n) = omega arith
 
-module _ (k : ℕ) (others : (n : ℕ) → n < 2 ^ 63 → ((2 ^ 64 - 1) - n) / 2 ^ k % 2 + n / 2 ^ k % 2 ≡ 1) where
-  -- z & 2 ^ k != 0
-  pub masked : (z : ℤ) → SFits w64 z → not (eqb (bitAnd (ofZ w64 z) (2 ^ (1 + k) - 2 ^ k)) 0) ≡ bit (2 ^ k) z
-  masked z f =
-      rw (and-high (ofZ w64 z) 1 k)
-      (scaled (ofZ w64 z / 2 ^ k % 2) (2 ^ k) (omega arith) (pow-pos k) ∙ ap (λ (b : ℕ). odd (b / 2 ^ k)) (bits-stored z) ∙ sym (flag-bit (2 ^ k) others z (f .sfits)))
+-- z & 2 ^ k != 0
+pub masked : (k : ℕ) → k < 64 → (z : ℤ) → SFits w64 z → not (eqb (bitAnd (ofZ w64 z) (2 ^ (1 + k) - 2 ^ k)) 0) ≡ bit (2 ^ k) z
+masked k l z f =
+    rw (and-high (ofZ w64 z) 1 k)
+    (scaled (ofZ w64 z / 2 ^ k % 2) (2 ^ k) (omega arith) (pow-pos k) ∙ ap (λ (b : ℕ). odd (b / 2 ^ k)) (bits-stored z) ∙ sym (flag-bit k l z (f .sfits)))

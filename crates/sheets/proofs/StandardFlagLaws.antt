@@ -1,12 +1,14 @@
 -- The flags of the Arrow C data interface (specs/Standard) against those that are read and written here. Each of the three is the published bit for
--- every int64_t; what export writes has exactly the published bits; and the source's reading of nullable, by division, is that bit but for odd negative
--- numbers, where it is the opposite. By arithmetic on halves. Assumes nothing.
-use mathlib.Core.Path.{_≡_, refl, sym, _∙_, ap}
+-- every int64_t, as all 64 would be; what export writes has exactly the published bits; and the source's reading of nullable, by division, is that bit but
+-- for odd negative numbers, where it is the opposite. By arithmetic on quotients. Assumes nothing.
+use mathlib.Core.Path.{_≡_, refl, sym, _∙_, ap, subst}
 use mathlib.Core.Bool.{Bool, true, false, not}
-use Prim.Native.Nat.{ℕ, zero, suc, _+_, _-_, _/_, _%_, _^_, _<_}
+use Prim.Native.Nat.{ℕ, zero, suc, _+_, _-_, _*_, _/_, _%_, _^_, _≤_, _<_}
+use native.Mathlib.Nat.{mod-lt, mul-comm, mul-sub, mul-le-mul-right, pow-suc}
 use native.Mathlib.Omega.{arith}
 use lib.Dec.{eqb}
 use lib.IntN.{ℤ, pos, negsuc, negℤ}
+use lib.Pow.{pow-pos, shr-lt, split, high, ones-split}
 use lib.Signed.{mag}
 use borrow.Author.Tests.{eqb-true, eqb-false, eq-eqb, ne-eqb}
 use Rattle.sheets.specs.Flags.{ORDERED, NULLABLE, SORTED, odd, bit, isOrdered, isSorted, nullable, nullableByDivision}
@@ -30,22 +32,40 @@ odd-other x y h = pick (eqb (y % 2) 1) refl
 
 -- ── read
 
--- the bit of that value is the standard's, for every number: the bits of -(n + 1) are those that n has not
-module _ (f : ℕ) (others : (n : ℕ) → n < 2 ^ 63 → ((2 ^ 64 - 1) - n) / f % 2 + n / f % 2 ≡ 1) where
-  pub flag-bit : (z : ℤ) → Is64 z → bit f z ≡ hasFlag f z
-  flag-bit (pos n) h = refl
-  flag-bit (negsuc n) h = sym (odd-other (((2 ^ 64 - 1) - n) / f) (n / f) (others n h))
+-- the bits from k on of the complement of n, in j + k bits, are the complement of those of n, in j bits
+complement-high : (j k n : ℕ) → n < 2 ^ (j + k) → ((2 ^ (j + k) - 1) - n) / 2 ^ k ≡ (2 ^ j - 1) - n / 2 ^ k
+complement-high j k n h =
+    let m = 2 ^ k in
+    let p = 2 ^ j - 1 in
+    let low : n % m < m = mod-lt n (pow-pos k) in
+    let less : n / m ≤ p = omega (arith, shr-lt j k h) in
+    let parts : (2 ^ (j + k) - 1) - n ≡ (p - n / m) * m + ((m - 1) - n % m) =
+    omega (arith, ones-split j k, split n k, mul-comm (p - n / m) m ∙ mul-sub m p (n / m), mul-comm m p, mul-comm m (n / m), mul-le-mul-right m less, low) in
+    ap (λ (x : ℕ). x / m) parts ∙ high (p - n / m) k (omega (arith, low))
+
+-- so a bit of the one is set where that of the other is not
+complement-bit : (i k n : ℕ) → n < 2 ^ (suc i + k) → ((2 ^ (suc i + k) - 1) - n) / 2 ^ k % 2 + n / 2 ^ k % 2 ≡ 1
+complement-bit i k n h =
+    ap (λ (x : ℕ). x % 2 + n / 2 ^ k % 2) (complement-high (suc i) k n h) ∙ omega (arith, pow-suc 2 i, shr-lt (suc i) k h)
+
+-- the bit of value 2 ^ k is the standard's flag of that value, for all 64 and for every number: -(n + 1) is stored as the complement of n
+pub flag-bit : (k : ℕ) → k < 64 → (z : ℤ) → Is64 z → bit (2 ^ k) z ≡ hasFlag (2 ^ k) z
+flag-bit k l (pos n) h = refl
+flag-bit k l (negsuc n) h =
+    let all : suc (63 - k) + k ≡ 64 = omega (arith, l) in
+    let other = subst (λ (w : ℕ). n < 2 ^ w → ((2 ^ w - 1) - n) / 2 ^ k % 2 + n / 2 ^ k % 2 ≡ 1) all (complement-bit (63 - k) k n) in
+    sym (odd-other (((2 ^ 64 - 1) - n) / 2 ^ k) (n / 2 ^ k) (other (omega (arith, h))))
 
 -- "Import takes ordered and sorted by bit"
 pub ordered-flag : (z : ℤ) → Is64 z → isOrdered z ≡ hasFlag «ARROW_FLAG_DICTIONARY_ORDERED» z
-ordered-flag z h = flag-bit 1 (λ n h. omega arith) z h
+ordered-flag z h = flag-bit 0 (omega arith) z h
 
 -- document 02, #102: "Nullable becomes bit 2 of the flags, as the C data interface has it"
 pub nullable-flag : (z : ℤ) → Is64 z → nullable z ≡ hasFlag «ARROW_FLAG_NULLABLE» z
-nullable-flag z h = flag-bit 2 (λ n h. omega arith) z h
+nullable-flag z h = flag-bit 1 (omega arith) z h
 
 pub sorted-flag : (z : ℤ) → Is64 z → isSorted z ≡ hasFlag «ARROW_FLAG_MAP_KEYS_SORTED» z
-sorted-flag z h = flag-bit 4 (λ n h. omega arith) z h
+sorted-flag z h = flag-bit 2 (omega arith) z h
 
 -- ── the source's reading of nullable, by division
 

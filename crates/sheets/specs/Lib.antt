@@ -26,6 +26,7 @@ pub mod Flags
 pub mod Format
 pub mod Metadata
 pub mod Import
+pub mod Source
 pub mod ImportLines
 pub mod Export
 pub mod Plain

@@ -108,6 +108,10 @@ fn to_sheet(call: raw::ToSheet, sheet: &[u8], out: &mut [u8]) -> Result<usize, R
 /// assert_eq!(&out[..length], b"kind p q text more name nullable pairs children\n23 16 0 ~ ~ - 0 ~ 0\n");
 /// assert!(out[length..].iter().all(|byte| *byte == 7));
 ///
+/// let sheet = b"format name flags metadata children dictionary\n67 - -3 ~ 0 0\n"; // private flags, and nullable's bit is not set
+/// let length = import(sheet, &mut out)?;
+/// assert_eq!(&out[..length], b"kind p q text more name nullable pairs children\n14 0 0 ~ ~ - 0 ~ 0\n");
+///
 /// let sheet = b"format name flags metadata children dictionary\n~ - 0 ~ 0 0\n";
 /// assert_eq!(import(sheet, &mut out), Err(Refusal::NullFormat));
 /// assert_eq!(out, [0; 80]);

@@ -6,7 +6,7 @@ use Rattle.schema_line.proofs.SchemaLine.nullable.Statement.{statement}
 use Rattle.schema_line.proofs.SchemaLine.nullable.Tie as tie
 
 returns : tie.Need-returns
-returns c = masked 1 (λ n h. omega arith) (c .before .args .self .flags) (search needs)
+returns c = masked 1 (omega arith) (c .before .args .self .flags) (search needs)
 
 pub nullable-spec : {M : Type 1} → statement M
 nullable-spec = tie.close (tie.spec returns)

@@ -6,7 +6,7 @@ use Rattle.schema_line.proofs.SchemaLine.ordered.Statement.{statement}
 use Rattle.schema_line.proofs.SchemaLine.ordered.Tie as tie
 
 returns : tie.Need-returns
-returns c = masked 0 (λ n h. omega arith) (c .before .args .self .flags) (search needs)
+returns c = masked 0 (omega arith) (c .before .args .self .flags) (search needs)
 
 pub ordered-spec : {M : Type 1} → statement M
 ordered-spec = tie.close (tie.spec returns)

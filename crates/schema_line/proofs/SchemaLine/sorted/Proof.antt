@@ -6,7 +6,7 @@ use Rattle.schema_line.proofs.SchemaLine.sorted.Statement.{statement}
 use Rattle.schema_line.proofs.SchemaLine.sorted.Tie as tie
 
 returns : tie.Need-returns
-returns c = masked 2 (λ n h. omega arith) (c .before .args .self .flags) (search needs)
+returns c = masked 2 (omega arith) (c .before .args .self .flags) (search needs)
 
 pub sorted-spec : {M : Type 1} → statement M
 sorted-spec = tie.close (tie.spec returns)
