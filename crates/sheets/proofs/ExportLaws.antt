@@ -6,20 +6,18 @@ use mathlib.Core.List.{List, [], _∷_, _++_}
 use mathlib.Core.Option.{Option, none, some}
 use Prim.Native.Nat.{ℕ, zero, suc, _+_, _/_, _%_, _^_, _≤_}
 use native.Mathlib.Omega.{arith}
-use lib.Dec.{leb}
-use lib.IntN.{ℤ, pos, negsuc}
 use lib.ListN.{length}
 use borrow.Author.Tests.{le-leb, lt-ltb}
 use Rattle.sheets.specs.Sheet.{isSome}
-use Rattle.sheets.specs.Rule.{Rule, is, each, Meets}
+use Rattle.sheets.specs.Rule.{each, Meets}
 use Rattle.sheets.specs.Bytes.{Bytes, all, isByte}
 use Rattle.sheets.specs.Answer.{given, _>>=_}
 use Rattle.sheets.specs.Utf8.{isUtf8}
-use Rattle.sheets.specs.Schema.{Node, Schema, Schemas, end, _&_, Dictionary, absent, present, nodeRule, eachNode, eachChild, eachValues, schemaRule, schemaLevels, childrenLevels, dictionaryLevels}
+use Rattle.sheets.specs.Schema.{Schema, Schemas, end, _&_, Dictionary, absent, present, nodeRule, eachNode, eachChild, eachValues, schemaRule, schemaLevels, childrenLevels, dictionaryLevels}
 use Rattle.sheets.specs.Field.{Pair, Info, leaf, Nesting, list, largeList, fixedSizeList, map, ArrowDataType, scalar, nested, grouped, dictionary, extension, Fields, nil, add, Field, countFields, infoRule, typeRule, fieldsRule, fieldRule, typeLevels, fieldsLevels, fieldLevels}
 use Rattle.sheets.specs.Format.{scalarFormat, nestingFormat, groupingFormat, indexFormat}
 use Rattle.sheets.specs.Metadata.{little, writeText32, writePairs, metadataToBytes, Extension, orNone, blockOf, insertOver, withMetadata, nameKey, schemaMetadata}
-use Rattle.sheets.specs.Export.{flag, sortedFlag, schemaNode, valuesInfo, schemaNewOf, schemaChildren, schemaNew}
+use Rattle.sheets.specs.Export.{flag, sortedFlag, schemaNode, valuesInfo, schemaNewOf, schemaChildren, schemaNew, fewFlags}
 use Rattle.sheets.proofs.Tests.{first-gave}
 use Rattle.sheets.proofs.BytesLaws.{all-append}
 use Rattle.sheets.proofs.TextLaws.{bytesRule}
@@ -57,14 +55,6 @@ metadata-bytes i (some e) h x =
     block-bytes (insertOver (nameKey, e .0) (withMetadata (e .1) (orNone (i .pairs)))) (all-text e (orNone (i .pairs)) x (pairs-text (orNone (i .pairs)) (pairs-ordered (i .pairs) (h .1))))
 
 -- ── the flags fit
-
--- "has flags from 0 to 7"
-abbrev pub zeroToSeven : ℤ → Rule
-zeroToSeven (pos n) = is (leb n 7)
-zeroToSeven (negsuc n) = is false
-
-abbrev pub fewFlags : Node → Rule
-fewFlags n = zeroToSeven (n .flags)
 
 flag-small : (b : Bool) (n : ℕ) → flag b n ≤ n
 flag-small true n = omega arith

@@ -1,32 +1,30 @@
 -- Document 02, #102: "Every line that export writes has flags from 0 to 7, so the way back is as before". Where both readings of nullable say the same on
 -- every line, the source's import (`Source`) is ours, by induction on the schema; they say the same but for odd negative flags, and export writes none
 -- (`ExportLaws.export-flags`). Assumes nothing.
-use mathlib.Core.Path.{_≡_, refl, sym}
-use mathlib.Core.Bool.{true, true≢false}
+use mathlib.Core.Path.{_≡_, refl, _∙_}
 use mathlib.Core.List.{List}
 use mathlib.Core.Option.{Option}
 use lib.IntN.{ℤ, pos, negsuc}
-use Rattle.sheets.specs.Rule.{Rule, is, Meets}
+use Rattle.sheets.specs.Rule.{Rule, Meets}
 use Rattle.sheets.specs.Bytes.{Bytes}
-use Rattle.sheets.specs.Answer.{Answer, refused, given, _>>=_}
-use Rattle.sheets.specs.Flags.{odd, nullable, nullableByDivision}
+use Rattle.sheets.specs.Answer.{Answer, given, _>>=_}
+use Rattle.sheets.specs.Flags.{nullable, nullableByDivision}
 use Rattle.sheets.specs.Schema.{Node, Schema, schema, Schemas, end, _&_, Dictionary, absent, present, eachNode, eachChild, eachValues, writeSchemaSheet}
 use Rattle.sheets.specs.Field.{Field, fieldRule}
 use Rattle.sheets.specs.FieldSheet.{readFieldSheet}
 use Rattle.sheets.specs.Metadata.{metadataFromBytes}
 use Rattle.sheets.specs.Import.{formatText, nameText, toDtype, toFieldNode, toField, toFields, toValues}
-use Rattle.sheets.specs.Source.{withNullable, sourceField, sourceFields, sourceValues}
-use Rattle.sheets.specs.Export.{schemaNew}
+use Rattle.sheets.specs.Source.{withNullable, sourceField, sourceFields, sourceValues, evenIfNegative, readAlike}
+use Rattle.sheets.specs.Export.{schemaNew, zeroToSeven, fewFlags}
 use Rattle.sheets.specs.Outcome.{exported}
-use Rattle.sheets.proofs.Tests.{first-gave}
+use Rattle.sheets.proofs.Tests.{never, first-gave, chained, chain-same}
 use Rattle.sheets.proofs.FieldSheetLaws.{field-read}
-use Rattle.sheets.proofs.ExportLaws.{zeroToSeven, fewFlags, export-flags}
+use Rattle.sheets.proofs.ExportLaws.{export-flags}
 use Rattle.sheets.proofs.StandardFlagLaws.{division-natural, division-even}
 
 -- what changes no answer of the second step changes none of both
 after : {A B : Type 0} (a : Answer A) (g : A → Answer B) (k : B → Answer B) → ((x : A) → (g x >>= k) ≡ g x) → ((a >>= g) >>= k) ≡ (a >>= g)
-after (refused r) g k h = refl
-after (given x) g k h = h x
+after a g k h = chained a g k ∙ chain-same a a (λ x. g x >>= k) g refl h
 
 -- a field's own nullable put in again
 again : (n : Node) (cs : List (Answer Field)) (d : Option (Answer Field)) → (toFieldNode n cs d >>= λ f. given (withNullable (nullable (n .flags)) f)) ≡ toFieldNode n cs d
@@ -51,23 +49,19 @@ module _ (rule : Node → Rule) (alike : (n : Node) → Meets (rule n) → nulla
 
 -- ── where no flags are negative and odd
 
-abbrev pub evenIfNegative : ℤ → Rule
-evenIfNegative (pos n) = is true
-evenIfNegative (negsuc n) = is (odd n)
-
 alike-even : (z : ℤ) → Meets (evenIfNegative z) → nullableByDivision z ≡ nullable z
 alike-even (pos n) h = division-natural n
 alike-even (negsuc n) h = division-even n h
 
 -- import is the source's
-pub import-as-source : (s : Schema) → Meets (eachNode (λ n. evenIfNegative (n .flags)) s) → sourceField s ≡ toField s
-import-as-source s h = same-field (λ n. evenIfNegative (n .flags)) (λ n. alike-even (n .flags)) s h
+pub import-as-source : (s : Schema) → Meets (eachNode readAlike s) → sourceField s ≡ toField s
+import-as-source s h = same-field readAlike (λ n. alike-even (n .flags)) s h
 
 -- ── what export writes
 
 alike-few : (z : ℤ) → Meets (zeroToSeven z) → nullableByDivision z ≡ nullable z
 alike-few (pos n) h = division-natural n
-alike-few (negsuc n) h = absurd (true≢false (sym h))
+alike-few (negsuc n) h = never h
 
 -- of the tree,
 pub way-back : (f : Field) (s : Schema) → Meets (fieldRule f) → schemaNew f ≡ given s → sourceField s ≡ toField s

@@ -3,13 +3,14 @@ use mathlib.Core.Bool.{Bool, true, false}
 use mathlib.Core.List.{[]}
 use mathlib.Core.Option.{Option, none, some}
 use Prim.Native.Nat.{ℕ, zero, suc, _+_}
-use lib.IntN.{pos}
+use lib.Dec.{leb}
+use lib.IntN.{ℤ, pos, negsuc}
 use Rattle.sheets.specs.Refusal.{zeroByte}
 use Rattle.sheets.specs.Bytes.{Bytes, lacks}
-use Rattle.sheets.specs.Rule.{_and_}
+use Rattle.sheets.specs.Rule.{Rule, is, _and_}
 use Rattle.sheets.specs.Answer.{Answer, given, _>>=_, when}
 use Rattle.sheets.specs.Flags.{ORDERED, NULLABLE, SORTED}
-use Rattle.sheets.specs.Schema.{Schema, schema, Schemas, end, _&_, Dictionary, absent, present}
+use Rattle.sheets.specs.Schema.{Node, Schema, schema, Schemas, end, _&_, Dictionary, absent, present}
 use Rattle.sheets.specs.Field.{Info, Nesting, list, largeList, fixedSizeList, map, ArrowDataType, scalar, nested, grouped, dictionary, extension, Fields, nil, add, Field}
 use Rattle.sheets.specs.Format.{toFormat}
 use Rattle.sheets.specs.Metadata.{Extension, schemaMetadata}
@@ -60,3 +61,11 @@ abbrev mutual
 -- `ArrowSchema::new`
 abbrev pub schemaNew : Field → Answer Schema
 schemaNew f = schemaNewOf (f .type) (f .info) none
+
+-- document 02, #102: "Every line that export writes has flags from 0 to 7", a law (`ExportLaws.export-flags`)
+abbrev pub zeroToSeven : ℤ → Rule
+zeroToSeven (pos n) = is (leb n 7)
+zeroToSeven (negsuc n) = is false
+
+abbrev pub fewFlags : Node → Rule
+fewFlags n = zeroToSeven (n .flags)

@@ -1,11 +1,13 @@
 -- Import with nullable as the source reads it, by division: ours was so before document 02, #102. All else is Import's. No call gives it; laws say where
 -- it is import still. Assumes nothing.
-use mathlib.Core.Bool.{Bool}
+use mathlib.Core.Bool.{Bool, true}
 use mathlib.Core.List.{List, [], _∷_}
 use mathlib.Core.Option.{Option, none, some}
+use lib.IntN.{ℤ, pos, negsuc}
+use Rattle.sheets.specs.Rule.{Rule, is}
 use Rattle.sheets.specs.Answer.{Answer, given, _>>=_}
-use Rattle.sheets.specs.Flags.{nullableByDivision}
-use Rattle.sheets.specs.Schema.{Schema, schema, Schemas, end, _&_, Dictionary, absent, present}
+use Rattle.sheets.specs.Flags.{odd, nullableByDivision}
+use Rattle.sheets.specs.Schema.{Node, Schema, schema, Schemas, end, _&_, Dictionary, absent, present}
 use Rattle.sheets.specs.Field.{Field}
 use Rattle.sheets.specs.Import.{toFieldNode}
 
@@ -23,3 +25,11 @@ abbrev mutual
   pub sourceValues : Dictionary → Option (Answer Field)
   sourceValues absent = none
   sourceValues (present s) = some (sourceField s)
+
+-- the flags that both readings read alike: -(n + 1) is even where n is odd
+abbrev pub evenIfNegative : ℤ → Rule
+evenIfNegative (pos n) = is true
+evenIfNegative (negsuc n) = is (odd n)
+
+abbrev pub readAlike : Node → Rule
+readAlike n = evenIfNegative (n .flags)
