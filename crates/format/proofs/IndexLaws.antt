@@ -1,4 +1,4 @@
--- A dictionary's index type by the row of its name: one test computed over `rows`. Assumes nothing.
+-- A dictionary's index type by the row of its name: one test computed over the table. Assumes nothing.
 use mathlib.Core.Path.{_≡_, refl, sym, _∙_, ap}
 use mathlib.Core.Logic.{_≢_}
 use mathlib.Core.Bool.{Bool, true, false, _&&_, _||_, cond}
@@ -11,7 +11,8 @@ use borrow.Author.Tests.{leb-true}
 use Rattle.sheets.specs.Refusal.{badIndex}
 use Rattle.sheets.specs.Bytes.{Bytes, same}
 use Rattle.sheets.specs.Answer.{refused}
-use Rattle.sheets.specs.Format.{FormatRow, rows, rowNamed, toIntegerType}
+use Rattle.sheets.specs.Format.{FormatRow, rowNamed, toIntegerType}
+use Rattle.sheets.specs.FixedNames.{fixedRows}
 use Rattle.sheets.proofs.Tests.{not-some, and-left, and-right}
 use Rattle.sheets.proofs.BytesLaws.{same-eq}
 use Rattle.format_names.specs.Names.{leafOf}
@@ -46,9 +47,9 @@ abbrev Indexes : List FormatRow → Type 0
 Indexes [] = Unit {0}
 Indexes (r ∷ l) = (toIntegerType (r .name) ≡ indexOf (r .kind)) × Indexes l
 
-rows-index : Indexes rows
-unfolding rows
-rows-index = (refl, (refl, (refl, (refl, (refl, (refl, (refl, (refl, (refl, (refl, (refl, (refl, (refl, (refl, (refl, (refl, (refl, (refl, (refl, (refl, (refl, (refl, (refl, (refl, (refl, (refl, (refl, (refl, (refl, (refl, (refl, (refl, (refl, (refl, tt))))))))))))))))))))))))))))))))))
+rows-index : Indexes fixedRows
+unfolding fixedRows
+rows-index = (refl, (refl, (refl, (refl, (refl, (refl, (refl, (refl, (refl, (refl, (refl, (refl, (refl, (refl, (refl, (refl, (refl, (refl, (refl, (refl, (refl, (refl, (refl, (refl, (refl, (refl, (refl, (refl, (refl, (refl, (refl, (refl, (refl, (refl, (refl, (refl, (refl, (refl, tt))))))))))))))))))))))))))))))))))))))
 
 index-row : (b : Bytes) (l : List FormatRow) → Indexes l → (r : FormatRow) → rowNamed b l ≡ some r → toIntegerType b ≡ indexOf (r .kind)
 index-row b [] h r e = not-some e
@@ -61,14 +62,14 @@ index-row b (x ∷ l) h r e = pick (same b (x .name)) refl e (index-row b l (h .
     pick false s g next = next g
 
 -- what a name's kind says
-pub index-named : (b : Bytes) (k u : ℕ) → some (k, u) ≡ leafOf (rowNamed b rows) → toIntegerType b ≡ indexOf k
-index-named b k u e = pick (rowNamed b rows) refl e
+pub index-named : (b : Bytes) (k u : ℕ) → some (k, u) ≡ leafOf (rowNamed b fixedRows) → toIntegerType b ≡ indexOf k
+index-named b k u e = pick (rowNamed b fixedRows) refl e
   where
-    pick : (o : Option FormatRow) → rowNamed b rows ≡ o → some (k, u) ≡ leafOf o → toIntegerType b ≡ indexOf k
+    pick : (o : Option FormatRow) → rowNamed b fixedRows ≡ o → some (k, u) ≡ leafOf o → toIntegerType b ≡ indexOf k
     pick none n e = not-some (sym e)
     pick (some r) n e =
         let q : _≡_ {A = ℕ × ℕ} (k, u) (r .kind, r .unit) = cc in
-        index-row b rows rows-index r n ∙ ap (λ (x : ℕ × ℕ). indexOf (x .0)) (sym q)
+        index-row b fixedRows rows-index r n ∙ ap (λ (x : ℕ × ℕ). indexOf (x .0)) (sym q)
 
 -- ── no row
 
@@ -84,8 +85,8 @@ none-named b (x ∷ l) e = pick (same b (x .name)) refl e (none-named b l)
     pick true s g next = not-some g
     pick false s g next = (s, next g)
 
-pub no-index : (b : Bytes) → none ≡ leafOf (rowNamed b rows) → refused badIndex ≡ toIntegerType b
-unfolding rows
+pub no-index : (b : Bytes) → none ≡ leafOf (rowNamed b fixedRows) → refused badIndex ≡ toIntegerType b
+unfolding fixedRows
 no-index b e =
-    let n = none-named b rows e .1 .1 in
+    let n = none-named b fixedRows e .1 .1 in
     rw (n .0, n .1 .0, n .1 .1 .0, n .1 .1 .1 .0, n .1 .1 .1 .1 .0, n .1 .1 .1 .1 .1 .0, n .1 .1 .1 .1 .1 .1 .0, n .1 .1 .1 .1 .1 .1 .1 .0)

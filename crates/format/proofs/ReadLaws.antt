@@ -151,32 +151,3 @@ module _ (h r : Bytes) where
       let x = no-units (same h (ascii "tss")) (same h (ascii "tsm")) (same h (ascii "tsu")) (same h (ascii "tsn")) u in
       let y = no-modes (same h (ascii "+ud")) (same h (ascii "+us")) m in
       rw (x .0, x .1, x .2, x .3, y .0, y .1, ← a, ← b, ← c)
-
--- ── names
-
-module _ (sorted : Bool) (f : Bytes) where
-  module _ (other : none ≡ leafNamed f) where
-    name-none : rowNamed f rows ≡ none
-    name-none = pick (rowNamed f rows) other
-      where
-        pick : (o : Option FormatRow) → none ≡ leafOf o → o ≡ none
-        pick none e = refl
-        pick (some r) e = not-some e
-
-    pub name-list : true ≡ same f (ascii "+l") → given (ofNesting list) ≡ readFormat sorted f
-    name-list a = rw (name-none, ← a)
-
-    module _ (a : false ≡ same f (ascii "+l")) where
-      pub name-large : true ≡ same f (ascii "+L") → given (ofNesting largeList) ≡ readFormat sorted f
-      name-large b = rw (name-none, ← a, ← b)
-
-      module _ (b : false ≡ same f (ascii "+L")) where
-        pub name-map : true ≡ same f (ascii "+m") → given (ofNesting (map sorted)) ≡ readFormat sorted f
-        name-map c = rw (name-none, ← a, ← b, ← c)
-
-        module _ (c : false ≡ same f (ascii "+m")) where
-          pub name-struct : true ≡ same f (ascii "+s") → given (ofGrouping struct) ≡ readFormat sorted f
-          name-struct d = rw (name-none, ← a, ← b, ← c, ← d)
-
-          pub name-other : false ≡ same f (ascii "+s") → readOther (cut f) ≡ readFormat sorted f
-          name-other d = rw (name-none, ← a, ← b, ← c, ← d)

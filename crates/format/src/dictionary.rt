@@ -37,7 +37,7 @@ pub fn to_integer_type(f: &[u8]) -> IndexRead
     requires { ⌜ isHex (now f) ≡ true ⌝ }
     ensures { λ r. ⌜ indexAnswer r ≡ toIntegerType (bytesOf (now (f .entry))) ⌝ }
 {
-    let NameRead::Leaf(kind, _) = format_names::fixed_name(f) else {
+    let NameRead::Named(kind, _) = format_names::fixed_name(f) else {
         return IndexRead::Refused(Refusal::BadIndex);
     };
     index_of(kind)

@@ -1,5 +1,6 @@
 // What a format string says, read in place from its hexadecimal text: the formats of `to_dtype`.
 use crate::parts;
+use datatypes::kind;
 use datatypes::units::TimeUnit;
 use datatypes::units::TimeUnitAt;
 use datatypes::units::UnionMode;
@@ -13,10 +14,11 @@ ghost use mathlib.Core.List.{_∷_};
 ghost use Prim.Native.Nat.{_+_};
 ghost use lib.ListN.{take, drop};
 ghost use Rattle.sheets.specs.Format.{readCut, readOther, readFormat, cut};
+ghost use Rattle.sheets.specs.FixedNames.{namedFormat};
 ghost use Rattle.hex.specs.Hex.{isHex, bytesOf};
 ghost use Rattle.sheets.specs.Parts.{partsFrom};
 ghost use Rattle.format.specs.Parts.{HasBytes, HasPart, formatPart};
-ghost use Rattle.format.specs.Formats.{Reads, decimalOf, decimalFormat, IsOtherHead};
+ghost use Rattle.format.specs.Formats.{textlessFormat, Reads, decimalOf, decimalFormat, IsOtherHead};
 
 // A type that needs no text.
 pub enum Textless {
@@ -141,25 +143,26 @@ fn read_other(f: &[u8]) -> FormatRead
     read_cut(f, k)
 }
 
+// The type that a fixed name of this kind and unit tells. `sorted` says that the keys of a map are.
+fn named_type(kind: u64, unit: u64, sorted: bool) -> Textless
+    ensures { λ r. ⌜ textlessFormat r ≡ namedFormat sorted kind unit ⌝ }
+{
+    match kind {
+        kind::LIST => Textless::List,
+        kind::LARGE_LIST => Textless::LargeList,
+        kind::MAP => Textless::Map(sorted),
+        kind::STRUCT => Textless::Struct,
+        _ => Textless::Leaf(kind, unit),
+    }
+}
+
 // What a format says, but for a dictionary's. `sorted` says that the keys of a map are.
 pub fn read_format(f: &[u8], sorted: bool) -> FormatRead
     requires { ⌜ isHex (now f) ≡ true ⌝ }
     ensures { λ r. ⌜ Reads (now (f .entry)) (readFormat sorted (bytesOf (now (f .entry)))) r ⌝ }
 {
-    if let NameRead::Leaf(kind, unit) = format_names::fixed_name(f) {
-        return FormatRead::Numbers(Textless::Leaf(kind, unit));
-    }
-    if hex::says(f, b"+l") {
-        return FormatRead::Numbers(Textless::List);
-    }
-    if hex::says(f, b"+L") {
-        return FormatRead::Numbers(Textless::LargeList);
-    }
-    if hex::says(f, b"+m") {
-        return FormatRead::Numbers(Textless::Map(sorted));
-    }
-    if hex::says(f, b"+s") {
-        return FormatRead::Numbers(Textless::Struct);
+    if let NameRead::Named(kind, unit) = format_names::fixed_name(f) {
+        return FormatRead::Numbers(named_type(kind, unit, sorted));
     }
     read_other(f)
 }

@@ -1,3 +1,4 @@
 pub mod NameLaws
 pub mod HeadLaws
 pub mod ShortLaws
+pub mod CandidateLaws

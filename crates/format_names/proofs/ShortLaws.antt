@@ -1,87 +1,30 @@
--- The fixed names of one byte: a pair of digits as a number says a name exactly if it is the name's digits, and what the digits of a format of one byte say is what
--- the row of its name tells. The rule of the rows is one computed test. Assumes nothing.
+-- The fixed names of one byte: two digits say a name exactly if it has the first byte that they say, and what the digits of a format of one byte say is what the row
+-- of its name tells. The rule of the rows is one computed test. Assumes nothing.
 use mathlib.Core.Path.{_≡_, refl, sym, ap, _∙_}
-use mathlib.Core.Bool.{Bool, true, false, cond}
-use mathlib.Core.List.{List, [], _∷_, _++_}
+use mathlib.Core.Bool.{Bool, true, false, _&&_, cond}
+use mathlib.Core.List.{List, [], _∷_}
 use mathlib.Core.Option.{Option, none, some}
-use Prim.Native.Nat.{ℕ, _/_, _<_}
+use Prim.Native.Nat.{ℕ, _/_}
 use native.Mathlib.Omega.{arith}
 use lib.Dec.{eqb}
-use lib.ListN.{length, take-append-drop}
-use lib.Seq.{take-all}
+use lib.ListN.{length}
 use borrow.Author.Tests.{eqb-true, eqb-false}
 use Rattle.sheets.specs.Rule.{Rule, is, _and_, each, Meets}
 use Rattle.sheets.specs.Bytes.{Bytes, all, isByte, same}
 use Rattle.sheets.specs.Text.{hex}
-use Rattle.sheets.specs.Format.{FormatRow, rows, rowNamed}
-use Rattle.sheets.specs.LineTrees.{Each}
-use Rattle.sheets.specs.Metadata.{littleValue}
-use Rattle.sheets.proofs.Tests.{never, not-some, meets, every, at-each}
+use Rattle.sheets.specs.Format.{FormatRow, rowNamed}
+use Rattle.sheets.specs.FixedNames.{fixedRows, startsAlike, cellOf, chosen}
+use Rattle.sheets.proofs.Tests.{meets}
 use Rattle.sheets.proofs.BytesLaws.{same-refl, same-eq}
+use Rattle.sheets.proofs.SameLaws.{lengths-differ}
 use Rattle.hex.specs.Hex.{isHex, bytesOf}
-use Rattle.hex.proofs.HexLaws.{length-bytes, twice-length}
-use Rattle.hex.proofs.PartLaws.{bytes-hex, hex-bytes}
-use Rattle.words.specs.Words.{Small, WordAt, lowBytes}
-use Rattle.words.proofs.WordLaws.{low-is, low-word}
-use Rattle.format_names.specs.Names.{ofLength, rowAt, leafOf, leafNamed}
-use Rattle.format_names.specs.ShortNames.{firstRows, laterRows, shortRows, kindAmong, withoutUnit}
-use Rattle.format_names.proofs.NameLaws.{of-length}
+use Rattle.hex.proofs.HexLaws.{length-bytes, unhex-not}
+use Rattle.hex.proofs.PartLaws.{bytes-hex, hex-bytes, is-hex-hex}
+use Rattle.format_names.specs.Names.{leafOf, leafNamed}
+use Rattle.format_names.specs.ShortNames.{ofOneByte, shortRows, kindAmong, withoutUnit}
+use Rattle.format_names.proofs.NameLaws.{byteRule, rows-bytes}
 
--- ── a pair of digits as a number
-
-low-pair : (w : ℕ) → w < 65536 → littleValue (lowBytes 2 w) ≡ w
-unfolding lowBytes
-low-pair w h = omega arith
-
--- it is the digits t exactly if it is their number
-same-word : (w : ℕ) (t : Bytes) → w < 65536 → length t ≡ 2 → Small t → same (lowBytes 2 w) t ≡ eqb w (littleValue t)
-same-word w t h n k = pick (eqb w (littleValue t)) refl
-  where
-    other : (u : Bool) → same (lowBytes 2 w) t ≡ u → (w ≡ littleValue t → ⊥) → u ≡ false
-    other true e d = absurd (d (sym (low-pair w h) ∙ ap littleValue (same-eq (lowBytes 2 w) t e)))
-    other false e d = refl
-
-    pick : (u : Bool) → eqb w (littleValue t) ≡ u → same (lowBytes 2 w) t ≡ u
-    pick true e =
-        let is-t : lowBytes 2 w ≡ t = ap (λ (i : ℕ). lowBytes i w) (sym n) ∙ low-is t w k (sym (eqb-true w (littleValue t) e)) in
-        ap (λ (b : Bytes). same b t) is-t ∙ same-refl t
-    pick false e = other (same (lowBytes 2 w) t) refl (eqb-false w (littleValue t) e)
-
--- a test of the pair w that was met
-pub said : (rs : List FormatRow) (w : ℕ) (u : Bool) (byte kind : ℕ) → Small (hex (byte ∷ [])) → u ≡ eqb w (littleValue (hex (byte ∷ []))) → u ≡ true → kindAmong (hex (byte ∷ [])) rs ≡ some kind
-    → some kind ≡ kindAmong (lowBytes 2 w) rs
-said rs w u byte kind k e h f = sym (ap (λ (t : Bytes). kindAmong t rs) (low-is (hex (byte ∷ [])) w k (sym (eqb-true w (littleValue (hex (byte ∷ []))) (sym e ∙ h)))) ∙ f)
-
--- one that was not
-pub unsaid : (w : ℕ) (u : Bool) (byte : ℕ) → w < 65536 → Small (hex (byte ∷ [])) → u ≡ eqb w (littleValue (hex (byte ∷ []))) → u ≡ false → same (lowBytes 2 w) (hex (byte ∷ [])) ≡ false
-unsaid w u byte h k e l = same-word w (hex (byte ∷ [])) h refl k ∙ sym e ∙ l
-
--- no row's name
-pub none-said : (t : Bytes) (rs : List FormatRow) → Each (λ (r : FormatRow). same t (hex (r .name)) ≡ false) rs → none ≡ kindAmong t rs
-none-said t [] h = refl
-none-said t (r ∷ rs) h = rw (h .0) (none-said t rs (h .1))
-
--- one row of names after another
-module _ (t : Bytes) (b : List FormatRow) where
-  pub first-said : (a : List FormatRow) (kind : ℕ) → kindAmong t a ≡ some kind → kindAmong t (a ++ b) ≡ some kind
-  first-said [] kind h = not-some h
-  first-said (r ∷ a) kind h = pick (same t (hex (r .name))) h (first-said a kind)
-    where
-      pick : (u : Bool) → cond u (some (r .kind)) (kindAmong t a) ≡ some kind → (kindAmong t a ≡ some kind → kindAmong t (a ++ b) ≡ some kind)
-          → cond u (some (r .kind)) (kindAmong t (a ++ b)) ≡ some kind
-      pick true f next = f
-      pick false f next = next f
-
-  pub second-said : (a : List FormatRow) → kindAmong t a ≡ none → kindAmong t (a ++ b) ≡ kindAmong t b
-  second-said [] h = refl
-  second-said (r ∷ a) h = pick (same t (hex (r .name))) h (second-said a)
-    where
-      pick : (u : Bool) → cond u (some (r .kind)) (kindAmong t a) ≡ none → (kindAmong t a ≡ none → kindAmong t (a ++ b) ≡ kindAmong t b)
-          → cond u (some (r .kind)) (kindAmong t (a ++ b)) ≡ kindAmong t b
-      pick true f next = not-some (sym f)
-      pick false f next = next f
-
--- ── what a format of one byte says
+-- ── digits and bytes
 
 -- digits are a name's exactly if the bytes that they say are the name
 same-text : (t b : Bytes) → isHex t ≡ true → Meets (all isByte b) → same t (hex b) ≡ same (bytesOf t) b
@@ -95,9 +38,72 @@ same-text t b h k = pick (same (bytesOf t) b) refl
     pick true e = ap (λ (x : Bytes). same x (hex b)) (sym (hex-bytes t h) ∙ ap hex (same-eq (bytesOf t) b e)) ∙ same-refl (hex b)
     pick false e = other (same t (hex b)) refl e
 
--- names are bytes, and none tells a unit
+-- no bytes where there are no digits
+pub no-bytes : (t : Bytes) → isHex t ≡ false → bytesOf t ≡ []
+unfolding isHex bytesOf
+no-bytes t h = rw (unhex-not t h)
+
+-- two digits are those of one byte exactly if they say a byte, and it is the same
+two-digits : (t : Bytes) (x : ℕ) → length t / 2 ≡ 1 → Meets (all isByte (x ∷ [])) → same t (hex (x ∷ [])) ≡ startsAlike (bytesOf t) (x ∷ [])
+two-digits t x n k = pick (isHex t) refl
+  where
+    one : (b : Bytes) → length b ≡ 1 → same b (x ∷ []) ≡ startsAlike b (x ∷ [])
+    one [] h = absurd (omega arith)
+    one (y ∷ []) h = both (eqb y x)
+      where
+        both : (u : Bool) → (u && true) ≡ u
+        both true = refl
+        both false = refl
+    one (y ∷ z ∷ b) h = absurd (omega arith)
+
+    other : (u : Bool) → same t (hex (x ∷ [])) ≡ u → isHex t ≡ false → u ≡ false
+    other true s e = sym (ap isHex (same-eq t (hex (x ∷ [])) s) ∙ is-hex-hex (x ∷ []) k) ∙ e
+    other false s e = refl
+
+    pick : (u : Bool) → isHex t ≡ u → same t (hex (x ∷ [])) ≡ startsAlike (bytesOf t) (x ∷ [])
+    pick true h = same-text t (x ∷ []) h k ∙ one (bytesOf t) (length-bytes t h ∙ n)
+    pick false h = other (same t (hex (x ∷ []))) refl h ∙ ap (λ (b : Bytes). startsAlike b (x ∷ [])) (sym (no-bytes t h))
+
+-- ── the names of one byte
+
+-- none of one byte tells a unit
 abbrev rowRule : FormatRow → Rule
-rowRule r = all isByte (r .name) and is (eqb (r .unit) 0)
+rowRule r = byteRule r and is (eqb (r .unit) 0)
+
+rows-rule : Meets (each rowRule shortRows)
+unfolding shortRows
+rows-rule = meets (each rowRule shortRows) refl
+
+abbrev pub firstKind : List FormatRow → Option ℕ
+firstKind [] = none
+firstKind (r ∷ rs) = some (r .kind)
+
+module _ (t : Bytes) (n : length t / 2 ≡ 1) where
+  -- the name of a row that has one byte
+  alike : (name : Bytes) → length name ≡ 1 → Meets (all isByte name) → same t (hex name) ≡ startsAlike (bytesOf t) name
+  alike [] h k = absurd (omega arith)
+  alike (x ∷ []) h k = two-digits t x n k
+  alike (x ∷ y ∷ b) h k = absurd (omega arith)
+
+  among-first : (l : List FormatRow) → Meets (each byteRule l) → kindAmong t (ofOneByte l) ≡ firstKind (cellOf 1 (bytesOf t) l)
+  among-first [] m = refl
+  among-first (r ∷ l) m = pick (eqb (length (r .name)) 1) refl (among-first l (m .1))
+    where
+      here : (u : Bool) (o : Option ℕ) (rs : List FormatRow) → o ≡ firstKind rs → cond u (some (r .kind)) o ≡ firstKind (cond u (r ∷ rs) rs)
+      here true o rs e = refl
+      here false o rs e = e
+
+      pick : (u : Bool) → eqb (length (r .name)) 1 ≡ u → kindAmong t (ofOneByte l) ≡ firstKind (cellOf 1 (bytesOf t) l)
+          → kindAmong t (cond u (r ∷ ofOneByte l) (ofOneByte l)) ≡ firstKind (cond (u && startsAlike (bytesOf t) (r .name)) (r ∷ cellOf 1 (bytesOf t) l) (cellOf 1 (bytesOf t) l))
+      pick true e next = rw (alike (r .name) (eqb-true (length (r .name)) 1 e) (m .0)) (here (startsAlike (bytesOf t) (r .name)) (kindAmong t (ofOneByte l)) (cellOf 1 (bytesOf t) l) next)
+      pick false e next = next
+
+  -- the kind of the one name that is chosen
+  pub kind-first : kindAmong t shortRows ≡ firstKind (chosen 1 (bytesOf t))
+  unfolding shortRows
+  kind-first = among-first fixedRows rows-bytes
+
+-- ── what a format of one byte says
 
 among-named : (t : Bytes) → isHex t ≡ true → (rs : List FormatRow) → Meets (each rowRule rs) → withoutUnit (kindAmong t rs) ≡ leafOf (rowNamed (bytesOf t) rs)
 among-named t h [] m = refl
@@ -107,43 +113,15 @@ among-named t h (r ∷ rs) m = rw (same-text t (r .name) h (m .0 .0)) (pick (sam
     pick true next = ap (λ (u : ℕ). some (r .kind, u)) (sym (eqb-true (r .unit) 0 (m .0 .1)))
     pick false next = next
 
-short-rows : shortRows ≡ ofLength 1 rows
-unfolding firstRows laterRows
-short-rows = take-append-drop 10 (ofLength 1 rows)
-
-rows-rule : Meets (each rowRule shortRows)
-unfolding firstRows laterRows rows
-rows-rule = meets (each rowRule shortRows) refl
+-- a byte finds its row among the names of one byte
+among-short : (b : Bytes) → length b ≡ 1 → (l : List FormatRow) → rowNamed b (ofOneByte l) ≡ rowNamed b l
+among-short b n [] = refl
+among-short b n (r ∷ l) = pick (eqb (length (r .name)) 1) refl (among-short b n l)
+  where
+    pick : (u : Bool) → eqb (length (r .name)) 1 ≡ u → rowNamed b (ofOneByte l) ≡ rowNamed b l → rowNamed b (cond u (r ∷ ofOneByte l) (ofOneByte l)) ≡ cond (same b (r .name)) (some r) (rowNamed b l)
+    pick true e next = ap (λ (o : Option FormatRow). cond (same b (r .name)) (some r) o) next
+    pick false e next = rw (lengths-differ b (r .name) (λ d. eqb-false (length (r .name)) 1 e (sym d ∙ n))) next
 
 pub short-named : (f : Bytes) → isHex f ≡ true → length f / 2 ≡ 1 → withoutUnit (kindAmong f shortRows) ≡ leafNamed (bytesOf f)
-short-named f h n =
-    among-named f h shortRows rows-rule
-    ∙ ap leafOf (ap (rowNamed (bytesOf f)) short-rows ∙ ap (λ (k : ℕ). rowNamed (bytesOf f) (ofLength k rows)) (sym (length-bytes f h ∙ n)) ∙ sym (of-length (bytesOf f) rows))
-
--- of the digits as a number
-pub named-pair : (f : Bytes) → isHex f ≡ true → length f / 2 ≡ 1 → (w : ℕ) → WordAt 2 f 0 w → (o : Option ℕ) → o ≡ kindAmong (lowBytes 2 w) shortRows → withoutUnit o ≡ leafNamed (bytesOf f)
-named-pair f h n w a o e =
-    let two : length f ≡ 2 = omega (arith, length-bytes f h, twice-length f h) in
-    let is-f : lowBytes 2 w ≡ f = low-word a (omega arith) ∙ take-all 2 f (omega arith) in
-    ap withoutUnit (e ∙ ap (λ (t : Bytes). kindAmong t shortRows) is-f) ∙ short-named f h n
-
--- ── the table
-
--- the table's names of one byte are those that are told from their digits
-abbrev saysKind : Option ℕ → ℕ → Bool
-saysKind none kind = false
-saysKind (some k) kind = eqb k kind
-
-says-kind : (o : Option ℕ) (kind : ℕ) → saysKind o kind ≡ true → o ≡ some kind
-says-kind none kind h = never h
-says-kind (some k) kind h = ap some (eqb-true k kind h)
-
-abbrev rowTest : ℕ → Bool
-rowTest i = saysKind (kindAmong (hex (rowAt i .name)) shortRows) (rowAt i .kind)
-
-rows-said : Meets (every 17 rowTest)
-unfolding rowAt firstRows laterRows
-rows-said = meets (every 17 rowTest) refl
-
-pub row-said : (i : ℕ) → i < 17 → kindAmong (hex (rowAt i .name)) shortRows ≡ some (rowAt i .kind)
-row-said i h = says-kind (kindAmong (hex (rowAt i .name)) shortRows) (rowAt i .kind) (at-each 17 rowTest rows-said i h)
+unfolding shortRows
+short-named f h n = among-named f h shortRows rows-rule ∙ ap leafOf (among-short (bytesOf f) (length-bytes f h ∙ n) fixedRows)

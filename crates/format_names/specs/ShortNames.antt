@@ -1,27 +1,25 @@
--- The fixed names of one byte as the code tells them apart: by their two digits. Assumes nothing.
+-- The fixed names of one byte as a short line is recognised by them: by their two digits. Assumes nothing.
 use mathlib.Core.Bool.{cond}
-use mathlib.Core.List.{List, [], _∷_, _++_}
+use mathlib.Core.List.{List, [], _∷_}
 use mathlib.Core.Option.{Option, none, some}
 use Prim.Native.Nat.{ℕ}
-use lib.ListN.{take, drop}
+use lib.Dec.{eqb}
+use lib.ListN.{length}
 use Rattle.sheets.specs.Bytes.{Bytes, same}
 use Rattle.sheets.specs.Text.{hex}
-use Rattle.sheets.specs.Format.{FormatRow, rows}
-use Rattle.format_names.specs.Names.{ofLength}
+use Rattle.sheets.specs.Format.{FormatRow}
+use Rattle.sheets.specs.FixedNames.{fixedRows}
 use Rattle.format_names.specs.declared.short.ShortName.{ShortName}
 use Rattle.format_names.specs.declared.short.ShortName.the-variants as Short
 
--- the rows whose names have one byte: Null, Boolean and the integers, then floats, binaries and texts
-unfoldable pub firstRows : List FormatRow
-unfolding rows
-firstRows = take 10 (ofLength 1 rows)
+abbrev pub ofOneByte : List FormatRow → List FormatRow
+ofOneByte [] = []
+ofOneByte (r ∷ rs) = cond (eqb (length (r .name)) 1) (r ∷ ofOneByte rs) (ofOneByte rs)
 
-unfoldable pub laterRows : List FormatRow
-unfolding rows
-laterRows = drop 10 (ofLength 1 rows)
-
-abbrev pub shortRows : List FormatRow
-shortRows = firstRows ++ laterRows
+-- the rows whose names have one byte
+unfoldable pub shortRows : List FormatRow
+unfolding fixedRows
+shortRows = ofOneByte fixedRows
 
 -- the kind of the row whose name the digits t say
 abbrev pub kindAmong : Bytes → List FormatRow → Option ℕ

@@ -1,8 +1,11 @@
 // The fixed names of formats: one table of names, kinds and units, for `to_dtype` and for `to_format`, and the heads before a colon that name a unit
 // or a mode.
+pub mod candidates;
+pub mod first_byte;
+pub mod names;
 pub mod short;
 
-use crate::short::ShortName;
+use crate::candidates::Candidates;
 use datatypes::kind;
 use datatypes::unit;
 use datatypes::units::TimeUnit;
@@ -11,194 +14,188 @@ use datatypes::units::UnionMode;
 use datatypes::units::UnionModeAt;
 ghost use mathlib.Core.Path.{_≡_};
 ghost use mathlib.Core.Bool.{true};
-ghost use Prim.Native.Nat.{_/_, _<_};
-ghost use lib.ListN.{length};
+ghost use Prim.Native.Nat.{_<_};
+ghost use Rattle.sheets.specs.Format.{rowNamed};
 ghost use Rattle.hex.specs.Hex.{isHex, bytesOf};
 ghost use Rattle.datatypes.specs.At.{timeUnitOption, unionModeOption};
-ghost use Rattle.format_names.specs.Names.{tableLength, IsNameAt, IsRow, HasGroup, nameOption, leafNamed, headUnit, headMode};
+ghost use Rattle.format_names.specs.Names.{tableLength, rowAt, rowsFrom, IsRow, HasDigits, DigitsOf, sameDigits, HasRows, nameOption, leafOf, leafNamed, headUnit, headMode};
 
-// The names, one after the other: by their lengths, 17 of one byte, 2 of two, 13 of three and 2 of seven.
-pub const NAMES: [u8; 74] =
-    *b"nbcCsSiIlLefgzZuUvuvztdDtdmttsttmttuttntDstDmtDutDntiMtiDtin_pli128_plu128";
-
-pub const KINDS: [u64; 34] = [
-    kind::NULL,
-    kind::BOOLEAN,
-    kind::INT8,
-    kind::UINT8,
-    kind::INT16,
-    kind::UINT16,
-    kind::INT32,
-    kind::UINT32,
-    kind::INT64,
-    kind::UINT64,
-    kind::FLOAT16,
-    kind::FLOAT32,
-    kind::FLOAT64,
-    kind::BINARY,
-    kind::LARGE_BINARY,
-    kind::UTF8,
-    kind::LARGE_UTF8,
-    kind::UTF8_VIEW,
-    kind::BINARY_VIEW,
-    kind::DATE32,
-    kind::DATE64,
-    kind::TIME32,
-    kind::TIME32,
-    kind::TIME64,
-    kind::TIME64,
-    kind::DURATION,
-    kind::DURATION,
-    kind::DURATION,
-    kind::DURATION,
-    kind::INTERVAL,
-    kind::INTERVAL,
-    kind::INTERVAL,
-    kind::INT128,
-    kind::UINT128,
+// The kinds of the rows; as bytes, since an array is stored anew wherever it is looked at.
+pub const KINDS: [u8; 38] = [
+    kind::NULL as u8,
+    kind::BOOLEAN as u8,
+    kind::INT8 as u8,
+    kind::UINT8 as u8,
+    kind::INT16 as u8,
+    kind::UINT16 as u8,
+    kind::INT32 as u8,
+    kind::UINT32 as u8,
+    kind::INT64 as u8,
+    kind::UINT64 as u8,
+    kind::INT128 as u8,
+    kind::UINT128 as u8,
+    kind::FLOAT16 as u8,
+    kind::FLOAT32 as u8,
+    kind::FLOAT64 as u8,
+    kind::BINARY as u8,
+    kind::LARGE_BINARY as u8,
+    kind::UTF8 as u8,
+    kind::LARGE_UTF8 as u8,
+    kind::DATE32 as u8,
+    kind::DATE64 as u8,
+    kind::TIME32 as u8,
+    kind::TIME32 as u8,
+    kind::TIME64 as u8,
+    kind::TIME64 as u8,
+    kind::DURATION as u8,
+    kind::DURATION as u8,
+    kind::DURATION as u8,
+    kind::DURATION as u8,
+    kind::INTERVAL as u8,
+    kind::INTERVAL as u8,
+    kind::INTERVAL as u8,
+    kind::UTF8_VIEW as u8,
+    kind::BINARY_VIEW as u8,
+    kind::LIST as u8,
+    kind::LARGE_LIST as u8,
+    kind::MAP as u8,
+    kind::STRUCT as u8,
 ];
 
 const NO_UNIT: u64 = 0;
 
-pub const UNITS: [u64; 34] = [
-    NO_UNIT,
-    NO_UNIT,
-    NO_UNIT,
-    NO_UNIT,
-    NO_UNIT,
-    NO_UNIT,
-    NO_UNIT,
-    NO_UNIT,
-    NO_UNIT,
-    NO_UNIT,
-    NO_UNIT,
-    NO_UNIT,
-    NO_UNIT,
-    NO_UNIT,
-    NO_UNIT,
-    NO_UNIT,
-    NO_UNIT,
-    NO_UNIT,
-    NO_UNIT,
-    NO_UNIT,
-    NO_UNIT,
-    unit::SECOND,
-    unit::MILLISECOND,
-    unit::MICROSECOND,
-    unit::NANOSECOND,
-    unit::SECOND,
-    unit::MILLISECOND,
-    unit::MICROSECOND,
-    unit::NANOSECOND,
-    unit::YEAR_MONTH,
-    unit::DAY_TIME,
-    unit::MONTH_DAY_NANO,
-    NO_UNIT,
-    NO_UNIT,
+pub const UNITS: [u8; 38] = [
+    NO_UNIT as u8,
+    NO_UNIT as u8,
+    NO_UNIT as u8,
+    NO_UNIT as u8,
+    NO_UNIT as u8,
+    NO_UNIT as u8,
+    NO_UNIT as u8,
+    NO_UNIT as u8,
+    NO_UNIT as u8,
+    NO_UNIT as u8,
+    NO_UNIT as u8,
+    NO_UNIT as u8,
+    NO_UNIT as u8,
+    NO_UNIT as u8,
+    NO_UNIT as u8,
+    NO_UNIT as u8,
+    NO_UNIT as u8,
+    NO_UNIT as u8,
+    NO_UNIT as u8,
+    NO_UNIT as u8,
+    NO_UNIT as u8,
+    unit::SECOND as u8,
+    unit::MILLISECOND as u8,
+    unit::MICROSECOND as u8,
+    unit::NANOSECOND as u8,
+    unit::SECOND as u8,
+    unit::MILLISECOND as u8,
+    unit::MICROSECOND as u8,
+    unit::NANOSECOND as u8,
+    unit::YEAR_MONTH as u8,
+    unit::DAY_TIME as u8,
+    unit::MONTH_DAY_NANO as u8,
+    NO_UNIT as u8,
+    NO_UNIT as u8,
+    NO_UNIT as u8,
+    NO_UNIT as u8,
+    NO_UNIT as u8,
+    NO_UNIT as u8,
 ];
 
-// Where a name stands in NAMES.
-pub struct NameAt {
-    pub start: usize,
-    pub length: usize,
-}
-
-// A row of the table.
+// A row of the table, but for its name.
 pub struct NameRow {
-    pub name: NameAt,
     pub kind: u64,
     pub unit: u64,
 }
 
 // A type that a fixed name tells, and its unit.
 pub enum NameRead {
-    Leaf(u64, u64),
+    Named(u64, u64),
     Other,
 }
 
-// Where the name of row i stands.
-fn name_at(i: usize) -> NameAt
-    requires { ⌜ i < tableLength ⌝ }
-    ensures { λ r. ⌜ IsNameAt i r ⌝ }
-{
-    if i < 17 {
-        return NameAt {
-            start: i,
-            length: 1,
-        };
-    }
-    if i < 19 {
-        return NameAt {
-            start: 17 + 2 * (i - 17),
-            length: 2,
-        };
-    }
-    if i < 32 {
-        return NameAt {
-            start: 21 + 3 * (i - 19),
-            length: 3,
-        };
-    }
-    NameAt {
-        start: 60 + 7 * (i - 32),
-        length: 7,
-    }
-}
-
-// Row i of the table.
+// What row i tells.
 pub fn row_at(i: usize) -> NameRow
     requires { ⌜ i < tableLength ⌝ }
     ensures { λ r. ⌜ IsRow i r ⌝ }
 {
     NameRow {
-        name: name_at(i),
-        kind: KINDS[i],
-        unit: UNITS[i],
+        kind: buffer::wide(KINDS[i]),
+        unit: buffer::wide(UNITS[i]),
     }
 }
 
-// The type whose name f is, if it is one of the names of its length: `count` rows from row `row` on, whose names begin at `start`.
-fn named(f: &[u8], row: usize, start: usize, count: usize) -> NameRead
-    requires { ⌜ HasGroup (now f) row start count ⌝ }
-    ensures { λ r. ⌜ nameOption r ≡ leafNamed (bytesOf (now (f .entry))) ⌝ }
+// A format's digits as numbers: the first eight, and those after them.
+pub struct Digits {
+    pub low: u64,
+    pub high: u64,
+}
+
+// The digits of a format of two bytes, three or seven.
+fn digits_of(f: &[u8]) -> Digits
+    requires { ⌜ HasDigits (now f) ⌝ }
+    ensures { λ r. ⌜ DigitsOf (now (f .entry)) r ⌝ }
 {
-    let n = f.len() / 2;
-    let mut a = start;
+    match f.len() {
+        4 => Digits {
+            low: words::word4_at(f, 0),
+            high: 0,
+        },
+        6 => Digits {
+            low: words::word6_at(f, 0),
+            high: 0,
+        },
+        _ => Digits {
+            low: words::word8_at(f, 0),
+            high: words::word6_at(f, 8),
+        },
+    }
+}
+
+// Whether the name of row i has these digits.
+fn has_digits(i: usize, d: Digits) -> bool
+    requires { ⌜ i < tableLength ⌝ }
+    ensures { λ r. ⌜ r ≡ sameDigits (rowAt i .name) d ⌝ }
+{
+    if names::low_digits(i) != d.low {
+        return false;
+    }
+    names::high_digits(i) == d.high
+}
+
+// The type whose name f is, if it is that of one of `count` rows from row `row` on, which all have names of its length.
+fn named(f: &[u8], row: usize, count: usize) -> NameRead
+    requires { ⌜ HasRows (now f) row count ⌝ }
+    ensures { λ r. ⌜ nameOption r ≡ leafOf (rowNamed (bytesOf (now (f .entry))) (rowsFrom row count)) ⌝ }
+{
+    let d = digits_of(f);
     let mut i = 0;
     while i < count {
-        let e = a + n;
-        if hex::says(f, &NAMES[a..e]) {
+        if has_digits(row + i, d) {
             let r = row_at(row + i);
-            return NameRead::Leaf(r.kind, r.unit);
+            return NameRead::Named(r.kind, r.unit);
         }
-        a = e;
         i += 1;
     }
     NameRead::Other
 }
 
-// The type whose name of one byte f is.
-fn named_short(f: &[u8]) -> NameRead
-    requires { ⌜ (isHex (now f) ≡ true) × (length (now f) / 2 ≡ 1) ⌝ }
-    ensures { λ r. ⌜ nameOption r ≡ leafNamed (bytesOf (now (f .entry))) ⌝ }
-{
-    match crate::short::short_name(words::word2_at(f, 0)) {
-        ShortName::Kind(kind) => NameRead::Leaf(kind, NO_UNIT),
-        ShortName::Other => NameRead::Other,
-    }
-}
-
-// The type that a fixed name tells, but for those with children.
+// The type that a fixed name tells: f is compared with the candidates of its length and first byte alone.
 pub fn fixed_name(f: &[u8]) -> NameRead
     requires { ⌜ isHex (now f) ≡ true ⌝ }
     ensures { λ r. ⌜ nameOption r ≡ leafNamed (bytesOf (now (f .entry))) ⌝ }
 {
-    match f.len() / 2 {
-        1 => named_short(f),
-        2 => named(f, 17, 17, 2),
-        3 => named(f, 19, 21, 13),
-        7 => named(f, 32, 60, 2),
-        _ => NameRead::Other,
+    let n = f.len() / 2;
+    if n == 0 {
+        return NameRead::Other;
+    }
+    match candidates::candidates_of(n, words::word2_at(f, 0)) {
+        Candidates::Nothing => NameRead::Other,
+        Candidates::One(kind) => NameRead::Named(kind, NO_UNIT),
+        Candidates::Rows(row, count) => named(f, row, count),
     }
 }
 

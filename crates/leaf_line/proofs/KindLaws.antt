@@ -8,18 +8,21 @@ use Prim.Native.Nat.{ℕ, _≤_, _<_}
 use native.Mathlib.Omega.{arith}
 use lib.Dec.{eqb, leb, ltb}
 use lib.ListN.{length, getD}
-use borrow.Author.Tests.{eqb-true, leb-true, ltb-true, lt-ltb}
+use borrow.Author.Tests.{eqb-true, leb-true, ltb-true, lt-ltb, ne-eqb}
 use Rattle.sheets.specs.Rule.{Rule, is, _and_, each, Meets}
 use Rattle.sheets.specs.Bytes.{Bytes, all, isByte, same}
 use Rattle.sheets.specs.Text.{hex}
-use Rattle.sheets.specs.Format.{FormatRow, rows}
+use Rattle.sheets.specs.Answer.{given}
+use Rattle.sheets.specs.Field.{leaf}
+use Rattle.sheets.specs.Format.{FormatRow, ofScalar}
+use Rattle.sheets.specs.FixedNames.{namedFormat}
 use Rattle.sheets.specs.Kind
 use Rattle.sheets.proofs.Tests.{not-some, meets}
 use Rattle.sheets.proofs.BytesLaws.{same-eq}
 use Rattle.hex.proofs.PartLaws.{is-hex-hex, bytes-hex}
 use Rattle.format_names.specs.Names.{leafNamed}
-use Rattle.format_names.specs.ShortNames.{firstRows, laterRows, shortRows, kindAmong, withoutUnit}
-use Rattle.format_names.proofs.NameLaws.{name-leaf}
+use Rattle.format_names.specs.ShortNames.{shortRows, kindAmong, withoutUnit}
+use Rattle.format_names.proofs.NameLaws.{name-says}
 use Rattle.format_names.proofs.ShortLaws.{short-named}
 use Rattle.leaf_line.specs.Leaf.{Names}
 
@@ -27,7 +30,7 @@ abbrev rowRule : FormatRow → Rule
 rowRule r = is (eqb (length (r .name)) 1) and (is (ltb 0 (getD (r .name) 0 0)) and (is (ltb (getD (r .name) 0 0) 128) and is (leb (r .kind) Kind.LargeUtf8)))
 
 rows-rule : Meets (each rowRule shortRows)
-unfolding firstRows laterRows rows
+unfolding shortRows
 rows-rule = meets (each rowRule shortRows) refl
 
 one-byte : (b : Bytes) → length b ≡ 1 → b ≡ getD b 0 0 ∷ []
@@ -68,9 +71,14 @@ means byte kind h e =
     let m : Meets (all isByte (byte ∷ [])) = (lt-ltb byte 256 (omega arith), refl) in
     sym (ap withoutUnit e) ∙ short-named (hex (byte ∷ [])) (is-hex-hex (byte ∷ []) m) refl ∙ ap leafNamed (bytes-hex (byte ∷ []) m)
 
+-- the kinds of these names come before the first that has children
+leaf-kind : (sorted : Bool) (kind : ℕ) → kind ≤ Kind.LargeUtf8 → namedFormat sorted kind 0 ≡ ofScalar (leaf kind 0)
+leaf-kind sorted kind h =
+    rw (ne-eqb kind Kind.List (λ e. omega arith), ne-eqb kind Kind.LargeList (λ e. omega arith), ne-eqb kind Kind.Map (λ e. omega arith), ne-eqb kind Kind.Struct (λ e. omega arith))
+
 -- the byte that the digits of a format say
 pub kind-names : (t : Bytes) (kind : ℕ) → kindAmong t shortRows ≡ some kind → (byte : ℕ) × (t ≡ hex (byte ∷ [])) × Names byte kind × (kind ≤ Kind.LargeUtf8)
 kind-names t kind e =
     let s = among t kind shortRows rows-rule e in
     let n = means (s .byte) kind (s .ascii) (ap (λ (b : Bytes). kindAmong b shortRows) (sym (s .digits)) ∙ e) in
-    (s .byte, s .digits, record { some = s .some; ascii = s .ascii; means = λ sorted. sym (name-leaf sorted (s .byte ∷ []) kind 0 n) }, s .known)
+    (s .byte, s .digits, record { some = s .some; ascii = s .ascii; means = λ sorted. sym (name-says sorted (s .byte ∷ []) kind 0 n) ∙ ap given (leaf-kind sorted kind (s .known)) }, s .known)

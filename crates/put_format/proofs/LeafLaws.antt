@@ -1,28 +1,35 @@
 -- The row of a leaf in the table of names, by one computed test over all kinds and units: the row that the code looks at has the leaf's kind exactly if the
 -- leaf has a name, and then it has that name. Assumes nothing.
-use mathlib.Core.Path.{_≡_, refl, sym, ap, subst, _∙_}
+use mathlib.Core.Path.{_≡_, refl, sym, ap, ap₂, subst, _∙_}
 use mathlib.Core.Bool.{Bool, true, false, not, _&&_, _||_, cond, true≢false}
-use mathlib.Core.List.{List, [], _∷_}
+use mathlib.Core.List.{List, [], _∷_, _++_}
 use mathlib.Core.Option.{Option, none, some}
-use Prim.Native.Nat.{ℕ, _+_, _-_, _<_}
+use Prim.Native.Nat.{ℕ, _+_, _*_, _<_}
 use native.Mathlib.Omega.{arith}
 use lib.Dec.{eqb, ltb}
-use lib.ListN.{length, getD, take, drop}
+use lib.ListN.{length, getD, take, drop, replicate}
 use borrow.Author.Tests.{eqb-true, ltb-true, eq-eqb, ne-eqb, not-true}
 use Rattle.sheets.specs.Refusal.{noFormat}
 use Rattle.sheets.specs.Rule.{passes, Meets}
 use Rattle.sheets.specs.Bytes.{Bytes, same}
+use Rattle.sheets.specs.Text.{hex}
+use Rattle.sheets.specs.Metadata.{littleValue}
 use Rattle.sheets.specs.Answer.{Answer, refused, given, _>>=_, found}
 use Rattle.sheets.specs.Field.{leaf, hasUnit, leafRule}
 use Rattle.sheets.specs.Format.{FormatRow, rows, rowOf, scalarFormat}
 use Rattle.sheets.proofs.Tests.{and-left, and-right, every, at-each, meets, passing}
 use Rattle.sheets.proofs.BytesLaws.{same-eq}
 use Rattle.sheets.proofs.FieldTrees.{leaf-small}
-use Rattle.format_names.specs.Names.{tableLength, rowAt, names, IsNameAt}
-use Rattle.format_names.specs.declared.NameAt.{NameAt}
+use Rattle.buffer.specs.Over.{overAt, PutAt}
+use Rattle.buffer.proofs.OverLaws.{length-overAt}
+use Rattle.hex.proofs.PartLaws.{length-hex}
+use Rattle.words.specs.Words.{lowBytes}
+use Rattle.format_names.specs.Names.{tableLength, rowAt}
+use Rattle.format_names.proofs.NameLaws.{name-short}
 use Rattle.column_text.specs.ColumnText.{hasZero}
 use Rattle.put_format.specs.Formats.{Formats}
 use Rattle.put_format.specs.declared.Exported.{Exported}
+use Rattle.put_format.specs.declared.Exported.the-variants.{Written}
 
 -- ── a format told by another way
 
@@ -34,8 +41,8 @@ formats-as a b at r old out e h = subst (λ (x : Answer Bytes). Formats x at r o
 -- the rows that units are counted from, as the code has them
 abbrev pub firstRows : List ℕ
 firstRows =
-    0 ∷ 1 ∷ 2 ∷ 4 ∷ 6 ∷ 8 ∷ 32 ∷ 3 ∷ 5 ∷ 7 ∷ 9 ∷ 33 ∷ 10 ∷ 11 ∷ 12 ∷ 0 ∷ 19 ∷ 20 ∷ 21 ∷ 21 ∷ 25 ∷ 29 ∷ 13 ∷ 0 ∷ 14 ∷ 15 ∷ 16
-    ∷ 0 ∷ 0 ∷ 0 ∷ 0 ∷ 0 ∷ 0 ∷ 0 ∷ 0 ∷ 0 ∷ 0 ∷ 0 ∷ 18 ∷ 17 ∷ 0 ∷ []
+    0 ∷ 1 ∷ 2 ∷ 4 ∷ 6 ∷ 8 ∷ 10 ∷ 3 ∷ 5 ∷ 7 ∷ 9 ∷ 11 ∷ 12 ∷ 13 ∷ 14 ∷ 0 ∷ 19 ∷ 20 ∷ 21 ∷ 21 ∷ 25 ∷ 29 ∷ 15 ∷ 0 ∷ 16 ∷ 17 ∷ 18
+    ∷ 0 ∷ 0 ∷ 0 ∷ 0 ∷ 0 ∷ 0 ∷ 0 ∷ 0 ∷ 0 ∷ 0 ∷ 0 ∷ 33 ∷ 32 ∷ 0 ∷ []
 
 abbrev pub leafRow : ℕ → ℕ → ℕ
 leafRow k u = getD firstRows k 0 + u
@@ -96,20 +103,44 @@ module _ (k u : ℕ) (h : Meets (leafRule k u)) where
 -- ── the names
 
 abbrev nameTest : ℕ → Bool
-nameTest i = not (hasZero (rowAt i .name)) && ltb (length (rowAt i .name)) 8
-
-named-well : (i : ℕ) → i < tableLength → nameTest i ≡ true
-unfolding rowAt
-named-well i h = at-each tableLength nameTest (meets (every tableLength nameTest) refl) i h
+nameTest i = not (hasZero (rowAt i .name))
 
 pub name-clean : (i : ℕ) → i < tableLength → hasZero (rowAt i .name) ≡ false
-name-clean i h = not-true (hasZero (rowAt i .name)) (and-left (not (hasZero (rowAt i .name))) (ltb (length (rowAt i .name)) 8) (named-well i h))
+unfolding rowAt
+name-clean i h = not-true (hasZero (rowAt i .name)) (at-each tableLength nameTest (meets (every tableLength nameTest) refl) i h)
 
-pub name-short : (i : ℕ) → i < tableLength → length (rowAt i .name) < 8
-name-short i h = ltb-true (length (rowAt i .name)) 8 (and-right (not (hasZero (rowAt i .name))) (ltb (length (rowAt i .name)) 8) (named-well i h))
+-- ── a name's digits in a buffer of 16 bytes
 
--- the part of the names that is the name of row i
-pub name-part : (i : ℕ) (a : NameAt) → IsNameAt i a → take (a .start + a .length - a .start) (drop (a .start) names) ≡ rowAt i .name
-name-part i a h =
-    let n : a .start + a .length - a .start ≡ a .length = omega arith in
-    ap (λ (k : ℕ). take k (drop (a .start) names)) n ∙ h .named
+-- two words, one after the other
+both-words : (low high : ℕ) → overAt 8 (lowBytes 8 high) (overAt 0 (lowBytes 8 low) (replicate 16 0)) ≡ lowBytes 8 low ++ lowBytes 8 high
+unfolding overAt lowBytes
+both-words low high = refl
+
+abbrev wordsOf : Bytes → Bytes
+wordsOf h = lowBytes 8 (littleValue (take 8 h)) ++ lowBytes 8 (littleValue (drop 8 h))
+
+abbrev textTest : ℕ → Bool
+textTest i = same (take (2 * length (rowAt i .name)) (wordsOf (hex (rowAt i .name)))) (hex (rowAt i .name))
+
+words-text : (i : ℕ) → i < tableLength → take (2 * length (rowAt i .name)) (wordsOf (hex (rowAt i .name))) ≡ hex (rowAt i .name)
+unfolding rowAt lowBytes
+words-text i h = same-eq (take (2 * length (rowAt i .name)) (wordsOf (hex (rowAt i .name)))) (hex (rowAt i .name)) (at-each tableLength textTest (meets (every tableLength textTest) refl) i h)
+
+pub words-length : (low high : ℕ) {one two : Bytes} → one ≡ overAt 0 (lowBytes 8 low) (replicate 16 0) → two ≡ overAt 8 (lowBytes 8 high) one → length two ≡ 16
+words-length low high {one} {two} p q = ap length q ∙ length-overAt 8 (lowBytes 8 high) one ∙ ap length p ∙ length-overAt 0 (lowBytes 8 low) (replicate 16 0)
+
+module _ (i : ℕ) (h : i < tableLength) where
+  -- the first bytes of the buffer are the digits of the name of row i
+  pub name-text : {low high n : ℕ} {one two : Bytes} → low ≡ littleValue (take 8 (hex (rowAt i .name))) → high ≡ littleValue (drop 8 (hex (rowAt i .name))) → n ≡ length (rowAt i .name)
+      → one ≡ overAt 0 (lowBytes 8 low) (replicate 16 0) → two ≡ overAt 8 (lowBytes 8 high) one → take (2 * n) two ≡ hex (rowAt i .name)
+  name-text {low} {high} {n} {one} {two} e f g p q =
+      ap₂ (λ (k : ℕ) (b : Bytes). take (2 * k) b) g (q ∙ ap (overAt 8 (lowBytes 8 high)) p ∙ both-words low high ∙ ap₂ (λ (x y : ℕ). lowBytes 8 x ++ lowBytes 8 y) e f) ∙ words-text i h
+
+  -- and they are written
+  pub row-put : (t : Bytes) (at r : ℕ) (old out : Bytes) → t ≡ hex (rowAt i .name) → PutAt at t r old out → Formats (given (rowAt i .name)) at (Written r false) old out
+  row-put t at r old out e k =
+      (ap₂ (λ (x : ℕ) (z : Bool). given (x, z)) (k .0 ∙ ap (λ (b : Bytes). at + length b) e) (sym (name-clean i h)), k .1 ∙ ap (λ (b : Bytes). overAt at b old) e)
+
+  -- there are at most 14
+  pub text-short : {t : Bytes} → t ≡ hex (rowAt i .name) → length t < 16
+  text-short e = omega (arith, ap length e, length-hex (rowAt i .name), name-short i h)

@@ -10,6 +10,7 @@ use Rattle.sheets.specs.Text.{hex}
 use Rattle.sheets.specs.Field.{leafRule}
 use Rattle.refusal.specs.Refusals.{refusalOf}
 use Rattle.buffer.specs.Over.{overAt}
+use Rattle.format_names.specs.Names.{tableLength}
 use Rattle.column_text.specs.ColumnText.{hasZero}
 use Rattle.put_format.specs.declared.Exported.{Exported}
 use Rattle.put_format.specs.declared.Exported.the-variants.{Written, Refused}
@@ -37,6 +38,10 @@ Formats a at r old out = (exportedAnswer r ≡ formatPlaced a at) × (out ≡ fo
 pub record CanPutName (name : Bytes) (at : ℕ) : Type 0 where
   pub clean : hasZero name ≡ false
   pub short : length name < 65536
+  pub low : at < 2 ^ 62
+
+pub record CanPutRow (i at : ℕ) : Type 0 where
+  pub known : i < tableLength
   pub low : at < 2 ^ 62
 
 pub record CanPutLeaf (kind unit at : ℕ) : Type 0 where

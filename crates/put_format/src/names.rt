@@ -1,62 +1,71 @@
-// The fixed names of formats in hexadecimal, from the table that import reads: of the types that a kind and a unit tell.
+// The fixed names of formats in hexadecimal, from the table that import reads.
 ghost use Rattle.sheets.specs.Answer.{given};
 ghost use Rattle.sheets.specs.Field.{leaf};
 ghost use Rattle.sheets.specs.Format.{scalarFormat};
-ghost use Rattle.put_format.specs.Formats.{Formats, CanPutName, CanPutLeaf};
+ghost use Rattle.format_names.specs.Names.{rowAt};
+ghost use Rattle.put_format.specs.Formats.{Formats, CanPutRow, CanPutLeaf};
 use crate::Exported;
+use format_names::names;
 use refusal::Refusal;
 
-// For each kind the row of the table that its unit is counted from: Time64 has names from its third unit on. A kind without a name has some other kind's row.
-const FIRST_ROWS: [usize; 41] = [
-    0,
-    1,
-    2,
-    4,
-    6,
-    8,
-    32,
-    3,
-    5,
-    7,
-    9,
-    33,
-    10,
-    11,
-    12,
-    0,
-    19,
-    20,
-    21,
-    21,
-    25,
-    29,
-    13,
-    0,
-    14,
-    15,
-    16,
-    0,
-    0,
-    0,
-    0,
-    0,
-    0,
-    0,
-    0,
-    0,
-    0,
-    0,
-    18,
-    17,
-    0,
+// A kind without a name has some other kind's row.
+const OTHER: usize = names::NULL;
+
+// For each kind the row of the table that its unit is counted from: Time64 has names from its third unit on, after those of Time32.
+const FIRST_ROWS: [u8; 41] = [
+    names::NULL as u8,
+    names::BOOLEAN as u8,
+    names::INT8 as u8,
+    names::INT16 as u8,
+    names::INT32 as u8,
+    names::INT64 as u8,
+    names::INT128 as u8,
+    names::UINT8 as u8,
+    names::UINT16 as u8,
+    names::UINT32 as u8,
+    names::UINT64 as u8,
+    names::UINT128 as u8,
+    names::FLOAT16 as u8,
+    names::FLOAT32 as u8,
+    names::FLOAT64 as u8,
+    OTHER as u8,
+    names::DATE32 as u8,
+    names::DATE64 as u8,
+    names::TIME32 as u8,
+    names::TIME32 as u8,
+    names::DURATION as u8,
+    names::INTERVAL as u8,
+    names::BINARY as u8,
+    OTHER as u8,
+    names::LARGE_BINARY as u8,
+    names::UTF8 as u8,
+    names::LARGE_UTF8 as u8,
+    OTHER as u8,
+    OTHER as u8,
+    OTHER as u8,
+    OTHER as u8,
+    OTHER as u8,
+    OTHER as u8,
+    OTHER as u8,
+    OTHER as u8,
+    OTHER as u8,
+    OTHER as u8,
+    OTHER as u8,
+    names::BINARY_VIEW as u8,
+    names::UTF8_VIEW as u8,
+    OTHER as u8,
 ];
 
-// A format that is a fixed name.
-pub fn put_name(out: &mut [u8], at: usize, name: &[u8]) -> Exported
-    requires { ⌜ CanPutName (now name) at ⌝ }
-    ensures { λ r. ⌜ Formats (given (now (name .entry))) at r (now (out .entry)) (now (out .exit)) ⌝ }
+// The name of row i.
+pub fn put_row(out: &mut [u8], at: usize, i: usize) -> Exported
+    requires { ⌜ CanPutRow i at ⌝ }
+    ensures { λ r. ⌜ Formats (given (rowAt i .name)) at r (now (out .entry)) (now (out .exit)) ⌝ }
 {
-    let end = hex::put::put_hex(out, at, name);
+    let mut text = [0u8; 16];
+    words::put_word8(&mut text, 0, names::low_digits(i));
+    words::put_word8(&mut text, 8, names::high_digits(i));
+    let len = 2 * names::name_length(i);
+    let end = buffer::put_at(out, at, &text[..len]);
     Exported::Written(end, false)
 }
 
@@ -65,13 +74,10 @@ pub fn put_leaf(out: &mut [u8], at: usize, kind: u64, unit: u64) -> Exported
     requires { ⌜ CanPutLeaf kind unit at ⌝ }
     ensures { λ r. ⌜ Formats (scalarFormat (leaf kind unit)) at r (now (out .entry)) (now (out .exit)) ⌝ }
 {
-    let first = FIRST_ROWS[kind as usize];
-    let row = format_names::row_at(first + unit as usize);
-    if row.kind != kind {
+    let row = FIRST_ROWS[kind as usize] as usize + unit as usize;
+    let found = format_names::row_at(row);
+    if found.kind != kind {
         return Exported::Refused(Refusal::NoFormat);
     }
-    let name = row.name;
-    let start = name.start;
-    let end = start + name.length;
-    put_name(out, at, &format_names::NAMES[start..end])
+    put_row(out, at, row)
 }

@@ -2,52 +2,40 @@
 -- the arms' has no name. Assumes nothing.
 use mathlib.Core.Path.{_≡_, refl, sym, ap, ap₂, subst, _∙_}
 use mathlib.Core.Bool.{Bool, true, false, _&&_, _||_, not, cond, and-false, true≢false}
-use mathlib.Core.List.{List, [], _∷_, _++_, append-nil}
+use mathlib.Core.List.{List, [], _∷_, _++_}
 use mathlib.Core.Option.{Option, none, some}
-use Prim.Native.Nat.{ℕ, _+_, _*_, _-_, _/_, _%_, _≤_, _<_, min}
+use Prim.Native.Nat.{ℕ, _-_, _≤_, _<_, min}
+use native.Mathlib.Nat.{min-comm}
 use native.Mathlib.Omega.{arith}
 use lib.Dec.{eqb, leb, ltb}
-use lib.ListN.{length, length-append}
-use borrow.Author.Tests.{ltb-true, ltb-false, lt-leb, leb-true, ne-eqb}
+use lib.ListN.{length, take, drop, length-append, length-take, length-drop, take-append-drop}
+use borrow.Author.Tests.{ltb-true, ltb-false, lt-leb, leb-true}
 use Rattle.sheets.specs.Rule.{Rule, is, _and_, each, Meets}
 use Rattle.sheets.specs.Bytes.{Bytes, lacks}
-use Rattle.sheets.specs.Text.{hexDigit, hex}
+use Rattle.sheets.specs.Text.{hex}
 use Rattle.sheets.specs.Metadata.{littleValue}
 use Rattle.sheets.specs.Sheet.{isSome}
-use Rattle.sheets.specs.Kind
 use Rattle.sheets.specs.Format.{FormatRow, rows, rowOf}
 use Rattle.sheets.proofs.Tests.{not-some, same-some, every, at-each, meets}
-use Rattle.hex.proofs.PartLaws.{length-hex}
+use Rattle.hex.proofs.PartLaws.{all-take, all-drop}
 use Rattle.words.specs.Words.{Small, lowBytes}
 use Rattle.words.proofs.WordLaws.{low-is, length-low}
 use Rattle.datatypes.proofs.AtLaws.{Rest, listed, not-listed}
 use Rattle.field_leaf.specs.FieldLeaves.{isShort}
-use Rattle.put_schema_leaf.specs.Formats.{digitsText, nameDigits, formatDigits, isLong, longDigits}
+use Rattle.put_schema_leaf.specs.Formats.{digitsText, nameDigits, formatDigits}
 
 -- ── digits by numbers
 
-pub digits-low : (t : Bytes) (w n : ℕ) → length t ≡ n → n ≤ 8 → Small t → littleValue t ≡ w → digitsText w 0 n ≡ t
-unfolding lowBytes
-digits-low t w n size h small e =
-    let m : min n 8 ≡ length t = omega arith in
-    let z : n - 8 ≡ 0 = omega arith in
-    ap₂ (λ (i j : ℕ). lowBytes i w ++ lowBytes j 0) m z ∙ append-nil (lowBytes (length t) w) ∙ low-is t w small e
-
-pub digits-both : (t u : Bytes) (w v n : ℕ) → length t ≡ 8 → 8 + length u ≡ n → Small t → Small u → littleValue t ≡ w → littleValue u ≡ v → digitsText w v n ≡ t ++ u
-digits-both t u w v n size more small least e f =
-    let m : min n 8 ≡ length t = omega arith in
-    let z : n - 8 ≡ length u = omega arith in
-    ap₂ (λ (i j : ℕ). lowBytes i w ++ lowBytes j v) m z ∙ ap₂ _++_ (low-is t w small e) (low-is u v least f)
+pub digits-text : (h : Bytes) → Small h → (low high n : ℕ) → low ≡ littleValue (take 8 h) → high ≡ littleValue (drop 8 h) → n ≡ length h → digitsText low high n ≡ h
+digits-text h small low high n e f g =
+    let m : min n 8 ≡ length (take 8 h) = ap (λ (k : ℕ). min k 8) g ∙ min-comm (length h) 8 ∙ sym (length-take 8 h) in
+    let z : n - 8 ≡ length (drop 8 h) = omega (arith, length-drop 8 h) in
+    ap₂ (λ (i j : ℕ). lowBytes i low ++ lowBytes j high) m z
+    ∙ ap₂ _++_ (low-is (take 8 h) low (all-take (λ b. ltb b 256) 8 h small) (sym e)) (low-is (drop 8 h) high (all-drop (λ b. ltb b 256) 8 h small) (sym f))
+    ∙ take-append-drop 8 h
 
 pub digits-size : (w v n : ℕ) → length (digitsText w v n) ≡ n
 digits-size w v n = length-append (lowBytes (min n 8) w) (lowBytes (n - 8) v) ∙ omega (arith, length-low (min n 8) w, length-low (n - 8) v)
-
--- digits are bytes
-digit-small : (d : ℕ) → d < 16 → ltb (hexDigit d) 256 ≡ true
-digit-small d h = at-each 16 (λ k. ltb (hexDigit k) 256) (meets (every 16 (λ k. ltb (hexDigit k) 256)) refl) d h
-
-pub hex-small : (b : ℕ) (l : Bytes) → b < 256 → Small (hex l) → Small (hex (b ∷ l))
-hex-small b l h k = (digit-small (b / 16) (omega arith), (digit-small (b % 16) (omega arith), k))
 
 -- ── the table
 
@@ -91,29 +79,20 @@ format-told kind low high len e = pick (isShort kind) e
 
 -- ── a kind that is none of the arms'
 
-pub not-long : (x : ℕ) → (x ≡ Kind.Int128 → ⊥) → (x ≡ Kind.UInt128 → ⊥) → none ≡ longDigits x
-not-long x h k = rw (ne-eqb x Kind.Int128 h, ne-eqb x Kind.UInt128 k)
-
--- a kind is listed, or its name has seven bytes, or it has no name
+-- a kind is listed, or it has no name
 abbrev pub unnamed : List (List ℕ) → ℕ → Bool
-unnamed kss k = listed kss k || (isLong k || not (isSome (formatDigits k)))
+unnamed kss k = listed kss k || not (isSome (formatDigits k))
 
-pub rest-format : (kss : List (List ℕ)) → Meets (every 41 (unnamed kss)) → (x : ℕ) → Rest kss x → longDigits x ≡ formatDigits x
-rest-format kss h x rest = pick (isLong x) refl
+pub rest-format : (kss : List (List ℕ)) → Meets (every 41 (unnamed kss)) → (x : ℕ) → Rest kss x → none ≡ formatDigits x
+rest-format kss h x rest = unlisted (ltb x 41) refl
   where
-    nothing : (t : Bool) (o : Option Bytes) → not t ≡ true → (t || (false || not (isSome o))) ≡ true → none ≡ o
+    nothing : (t : Bool) (o : Option Bytes) → not t ≡ true → (t || not (isSome o)) ≡ true → none ≡ o
     nothing true o f g = absurd (true≢false (sym f))
     nothing false none f g = refl
     nothing false (some d) f g = absurd (true≢false (sym g))
 
-    unlisted : isLong x ≡ false → (t : Bool) → ltb x 41 ≡ t → none ≡ formatDigits x
-    unlisted l true e =
-        nothing (listed kss x) (formatDigits x) (not-listed x kss rest)
-        (ap (λ (u : Bool). listed kss x || (u || not (isSome (formatDigits x)))) (sym l) ∙ at-each 41 (unnamed kss) h x (ltb-true x 41 e))
-    unlisted l false e =
+    unlisted : (t : Bool) → ltb x 41 ≡ t → none ≡ formatDigits x
+    unlisted true e = nothing (listed kss x) (formatDigits x) (not-listed x kss rest) (at-each 41 (unnamed kss) h x (ltb-true x 41 e))
+    unlisted false e =
         let past : 41 ≤ x = ltb-false x 41 e in
         rw (lt-leb x 14 (omega arith), lt-leb x 22 (omega arith), lt-leb x 26 (omega arith), lt-leb x 40 (omega arith), and-false (leb 16 x), and-false (leb 24 x), and-false (leb 38 x))
-
-    pick : (t : Bool) → isLong x ≡ t → cond t (formatDigits x) none ≡ formatDigits x
-    pick true l = refl
-    pick false l = unlisted l (ltb x 41) refl

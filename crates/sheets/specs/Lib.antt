@@ -24,6 +24,7 @@ pub mod FieldTrees
 pub mod TreeWalks
 pub mod Flags
 pub mod Format
+pub mod FixedNames
 pub mod Metadata
 pub mod Import
 pub mod Source

@@ -64,7 +64,7 @@ impl Model {
         if self.is(Wrong::NameWithColon) {
             name = name.strip_suffix(b":").unwrap_or(name);
         }
-        if let Some((_, kind, p)) = NAMES.iter().find(|(fixed, _, _)| *fixed == name) {
+        if let Some((_, kind, p)) = NAMES.iter().find(|(fixed, _, _)| self.is_named(name, fixed)) {
             return Ok(Format::Leaf(DataType::Leaf { kind: *kind, p: *p, q: 0 }));
         }
         match name {
@@ -78,6 +78,17 @@ impl Model {
             Some(colon) => self.read_parts(&format[..colon], &format[colon + 1..]),
             None if self.is(Wrong::ZoneOptional) && format.starts_with(b"ts") => self.read_parts(format, b""),
             None => Err(UNSUPPORTED_FORMAT),
+        }
+    }
+
+    fn is_named(&self, name: &[u8], fixed: &[u8]) -> bool {
+        let first = name.first() == fixed.first();
+        match fixed {
+            b"tin" if self.is(Wrong::LastNameLost) => false,
+            b"n" if name.is_empty() && self.is(Wrong::EmptyFormatIsNull) => true,
+            [_] if first && self.is(Wrong::FirstByteAlone) => true,
+            _ if first && name.len() == fixed.len() && self.is(Wrong::FirstOfItsCell) => true,
+            _ => name == fixed,
         }
     }
 

@@ -1,4 +1,4 @@
-//! Deliberately wrong readings of document 01 and of the page, each a switch of the plain reading. A generator is good if its
+//! Deliberately wrong readings of document 01, of #103 and of the page, each a switch of the plain reading. A generator is good if its
 //! sheets tell each of them from the Rust, or those of the page, which the Rust has not, from the right one.
 
 macro_rules! wrong_readings {
@@ -101,6 +101,11 @@ wrong_readings! {
     ZoneToColon "a zone ends at the next colon"
     ZoneOptional "tss is taken"
     NameWithColon "a fixed name may end in a colon"
+    // Fixed names by length and first byte (#103).
+    LastNameLost "tin is no fixed name"
+    FirstOfItsCell "a format is the first fixed name of its length and first byte"
+    FirstByteAlone "a format is the name that its first byte is, whatever follows"
+    EmptyFormatIsNull "an empty format is n"
     SizePlusRefused "a size has no plus"
     SizeZerosRefused "a size has no spare zeros"
     SizeWraps "a size wraps at 2^64"

@@ -1,4 +1,5 @@
 -- `put_format` meets its contract: in each arm the kind is known, and the definition computes there or by the shape that was read. Assumes nothing.
+use Rattle.format_names.specs.Names.{rowAt}
 use Rattle.put_format.proofs.ArmLaws.{fixed-arm, map-arm, index-arm, index-small, can-index, can-zone, zone-arm, can-union, union-arm, leaf-arm, can-leaf, decimal-none, decimal-wide}
 use Rattle.put_format.specs.LineFormat.{decimalText, timestampFormat, idsIn, unionFormat, lineFormat}
 use Rattle.put_format.proofs.LeafLaws.{formats-as}
@@ -29,11 +30,8 @@ slice-aggregate-put-sized c = search needs
 put-sized-requires : tie.Need-put-sized-requires
 put-sized-requires c κs = search needs
 
-slice-aggregate-put-name : tie.Need-slice-aggregate-put-name
-slice-aggregate-put-name c = search needs
-
-put-name-requires : tie.Need-put-name-requires
-put-name-requires c κs = search needs
+put-row-requires : tie.Need-put-row-requires
+put-row-requires c κs = record { known = omega arith; low = omega (arith, c .before .before .before .before .pre .low) }
 
 slice-aggregate-put-sized-2 : tie.Need-slice-aggregate-put-sized-2
 slice-aggregate-put-sized-2 c = search needs
@@ -41,23 +39,14 @@ slice-aggregate-put-sized-2 c = search needs
 put-sized-requires-2 : tie.Need-put-sized-requires-2
 put-sized-requires-2 c κs = search needs
 
-slice-aggregate-put-name-2 : tie.Need-slice-aggregate-put-name-2
-slice-aggregate-put-name-2 c = search needs
+put-row-requires-2 : tie.Need-put-row-requires-2
+put-row-requires-2 c κs = record { known = omega arith; low = omega (arith, c .before .before .before .before .pre .low) }
 
-put-name-requires-2 : tie.Need-put-name-requires-2
-put-name-requires-2 c κs = search needs
+put-row-requires-3 : tie.Need-put-row-requires-3
+put-row-requires-3 c κs = record { known = omega arith; low = omega (arith, c .before .before .before .before .pre .low) }
 
-slice-aggregate-put-name-3 : tie.Need-slice-aggregate-put-name-3
-slice-aggregate-put-name-3 c = search needs
-
-put-name-requires-3 : tie.Need-put-name-requires-3
-put-name-requires-3 c κs = search needs
-
-slice-aggregate-put-name-4 : tie.Need-slice-aggregate-put-name-4
-slice-aggregate-put-name-4 c = search needs
-
-put-name-requires-4 : tie.Need-put-name-requires-4
-put-name-requires-4 c κs = search needs
+put-row-requires-4 : tie.Need-put-row-requires-4
+put-row-requires-4 c κs = record { known = omega arith; low = omega (arith, c .before .before .before .before .pre .low) }
 
 add-put-leaf : tie.Need-add-put-leaf
 add-put-leaf c =
@@ -128,12 +117,12 @@ same-length-3 : tie.Need-same-length-3
 same-length-3 c = search needs
 
 returns-3 : tie.Need-returns-3
-unfolding lineFormat
+unfolding rowAt lineFormat
 returns-3 c =
-    let a = c .before .before .before .before .before .before .before .before .args in
-    let h = c .before .before .before .before .before .before .before .before .pre in
-    let r = c .before .before .put-name in
-    formats-as (given (ascii "+l")) (lineFormat (a .kind) (a .p) (a .q) (a .text .now) (a .fields)) (a .at) (r .result) (a .out .now) (r .last .0) (fixed-arm (a .kind) (a .p) (a .q) (a .text .now) (a .fields) (a .at) h Kind.List (given (ascii "+l")) (c .before .before .before .before .before .match .keys3) refl) (r .ensures)
+    let a = c .before .before .before .before .before .before .before .args in
+    let h = c .before .before .before .before .before .before .before .pre in
+    let r = c .before .before .put-row in
+    formats-as (given (ascii "+l")) (lineFormat (a .kind) (a .p) (a .q) (a .text .now) (a .fields)) (a .at) (r .result) (a .out .now) (r .last .0) (fixed-arm (a .kind) (a .p) (a .q) (a .text .now) (a .fields) (a .at) h Kind.List (given (ascii "+l")) (c .before .before .before .before .match .keys3) refl) (r .ensures)
 
 same-length-4 : tie.Need-same-length-4
 same-length-4 c = search needs
@@ -150,33 +139,34 @@ same-length-5 : tie.Need-same-length-5
 same-length-5 c = search needs
 
 returns-5 : tie.Need-returns-5
-unfolding lineFormat
+unfolding rowAt lineFormat
 returns-5 c =
-    let a = c .before .before .before .before .before .before .before .before .args in
-    let h = c .before .before .before .before .before .before .before .before .pre in
-    let r = c .before .before .put-name2 in
-    formats-as (given (ascii "+L")) (lineFormat (a .kind) (a .p) (a .q) (a .text .now) (a .fields)) (a .at) (r .result) (a .out .now) (r .last .0) (fixed-arm (a .kind) (a .p) (a .q) (a .text .now) (a .fields) (a .at) h Kind.LargeList (given (ascii "+L")) (c .before .before .before .before .before .match .keys5) refl) (r .ensures)
+    let a = c .before .before .before .before .before .before .before .args in
+    let h = c .before .before .before .before .before .before .before .pre in
+    let r = c .before .before .put-row2 in
+    formats-as (given (ascii "+L")) (lineFormat (a .kind) (a .p) (a .q) (a .text .now) (a .fields)) (a .at) (r .result) (a .out .now) (r .last .0) (fixed-arm (a .kind) (a .p) (a .q) (a .text .now) (a .fields) (a .at) h Kind.LargeList (given (ascii "+L")) (c .before .before .before .before .match .keys5) refl) (r .ensures)
 
 same-length-6 : tie.Need-same-length-6
 same-length-6 c = search needs
 
 returns-6 : tie.Need-returns-6
-unfolding lineFormat
+unfolding rowAt lineFormat
 returns-6 c =
-    let a = c .before .before .before .before .before .before .before .before .args in
-    let h = c .before .before .before .before .before .before .before .before .pre in
-    let r = c .before .before .put-name3 in
-    formats-as (given (ascii "+s")) (lineFormat (a .kind) (a .p) (a .q) (a .text .now) (a .fields)) (a .at) (r .result) (a .out .now) (r .last .0) (fixed-arm (a .kind) (a .p) (a .q) (a .text .now) (a .fields) (a .at) h Kind.Struct (given (ascii "+s")) (c .before .before .before .before .before .match .keys6) refl) (r .ensures)
+    let a = c .before .before .before .before .before .before .before .args in
+    let h = c .before .before .before .before .before .before .before .pre in
+    let r = c .before .before .put-row3 in
+    formats-as (given (ascii "+s")) (lineFormat (a .kind) (a .p) (a .q) (a .text .now) (a .fields)) (a .at) (r .result) (a .out .now) (r .last .0) (fixed-arm (a .kind) (a .p) (a .q) (a .text .now) (a .fields) (a .at) h Kind.Struct (given (ascii "+s")) (c .before .before .before .before .match .keys6) refl) (r .ensures)
 
 same-length-7 : tie.Need-same-length-7
 same-length-7 c = search needs
 
 returns-7 : tie.Need-returns-7
+unfolding rowAt
 returns-7 c =
-    let a = c .before .before .before .before .before .before .before .before .args in
-    let h = c .before .before .before .before .before .before .before .before .pre in
-    let r = c .before .before .put-name4 in
-    formats-as (given (ascii "+m")) (lineFormat (a .kind) (a .p) (a .q) (a .text .now) (a .fields)) (a .at) (r .result) (a .out .now) (r .last .0) (map-arm (a .kind) (a .p) (a .q) (a .text .now) (a .fields) (a .at) h (c .before .before .before .before .before .match .keys7)) (r .ensures)
+    let a = c .before .before .before .before .before .before .before .args in
+    let h = c .before .before .before .before .before .before .before .pre in
+    let r = c .before .before .put-row4 in
+    formats-as (given (ascii "+m")) (lineFormat (a .kind) (a .p) (a .q) (a .text .now) (a .fields)) (a .at) (r .result) (a .out .now) (r .last .0) (map-arm (a .kind) (a .p) (a .q) (a .text .now) (a .fields) (a .at) h (c .before .before .before .before .match .keys7)) (r .ensures)
 
 same-length-8 : tie.Need-same-length-8
 same-length-8 c = search needs
@@ -259,16 +249,12 @@ put-format-spec =
     put-timestamp-requires
     slice-aggregate-put-sized
     put-sized-requires
-    slice-aggregate-put-name
-    put-name-requires
+    put-row-requires
     slice-aggregate-put-sized-2
     put-sized-requires-2
-    slice-aggregate-put-name-2
-    put-name-requires-2
-    slice-aggregate-put-name-3
-    put-name-requires-3
-    slice-aggregate-put-name-4
-    put-name-requires-4
+    put-row-requires-2
+    put-row-requires-3
+    put-row-requires-4
     add-put-leaf
     put-leaf-requires
     slice-aggregate-put-decimal-type

@@ -1,12 +1,13 @@
--- `format_of` meets its contract: in each arm the definition computes at the pattern, and a kind that is no pattern has a name of seven bytes or none (`rest-format`). Assumes nothing.
-use Rattle.put_schema_leaf.specs.Formats.{digitsOption, formatDigits}
-use Rattle.put_schema_leaf.proofs.FormatLaws.{unnamed, rest-format}
+-- `format_of` meets its contract: in each arm the definition computes at the pattern, and a kind that is no pattern has no name (`rest-format`). Assumes nothing.
+use mathlib.Core.Path.{refl, sym, ap, _∙_}
+use mathlib.Core.List.{List, [], _∷_}
+use Prim.Native.Nat.{ℕ}
 use Rattle.sheets.specs.Format.{rows}
 use Rattle.sheets.specs.Kind
 use Rattle.sheets.proofs.Tests.{every, meets}
-use Prim.Native.Nat.{ℕ}
-use mathlib.Core.List.{List, [], _∷_}
-use mathlib.Core.Path.{refl, sym, ap, _∙_}
+use Rattle.format_names.specs.Names.{rowAt}
+use Rattle.put_schema_leaf.specs.Formats.{formatDigits}
+use Rattle.put_schema_leaf.proofs.FormatLaws.{unnamed, rest-format}
 use borrow.Author.Needs.{needs}
 use Rattle.put_schema_leaf.proofs.format.format_of.Statement.{statement}
 use Rattle.put_schema_leaf.proofs.format.format_of.Tie as tie
@@ -25,10 +26,12 @@ arms =
     ∷ (Kind.Float64 ∷ [])
     ∷ (Kind.Float32 ∷ [])
     ∷ (Kind.Float16 ∷ [])
+    ∷ (Kind.UInt128 ∷ [])
     ∷ (Kind.UInt64 ∷ [])
     ∷ (Kind.UInt32 ∷ [])
     ∷ (Kind.UInt16 ∷ [])
     ∷ (Kind.UInt8 ∷ [])
+    ∷ (Kind.Int128 ∷ [])
     ∷ (Kind.Int64 ∷ [])
     ∷ (Kind.Int32 ∷ [])
     ∷ (Kind.Int16 ∷ [])
@@ -37,198 +40,198 @@ arms =
     ∷ (Kind.Null ∷ [])
     ∷ []
 
-one-requires : tie.Need-one-requires
-one-requires c κs = search needs
+named-requires : tie.Need-named-requires
+named-requires c κs = search needs
 
-one-requires-2 : tie.Need-one-requires-2
-one-requires-2 c κs = search needs
+named-requires-2 : tie.Need-named-requires-2
+named-requires-2 c κs = search needs
 
-one-requires-3 : tie.Need-one-requires-3
-one-requires-3 c κs = search needs
+named-requires-3 : tie.Need-named-requires-3
+named-requires-3 c κs = search needs
 
-one-requires-4 : tie.Need-one-requires-4
-one-requires-4 c κs = search needs
+named-requires-4 : tie.Need-named-requires-4
+named-requires-4 c κs = search needs
 
-one-requires-5 : tie.Need-one-requires-5
-one-requires-5 c κs = search needs
+named-requires-5 : tie.Need-named-requires-5
+named-requires-5 c κs = search needs
 
-one-requires-6 : tie.Need-one-requires-6
-one-requires-6 c κs = search needs
+named-requires-6 : tie.Need-named-requires-6
+named-requires-6 c κs = search needs
 
-one-requires-7 : tie.Need-one-requires-7
-one-requires-7 c κs = search needs
+named-requires-7 : tie.Need-named-requires-7
+named-requires-7 c κs = search needs
 
-one-requires-8 : tie.Need-one-requires-8
-one-requires-8 c κs = search needs
+named-requires-8 : tie.Need-named-requires-8
+named-requires-8 c κs = search needs
 
-one-requires-9 : tie.Need-one-requires-9
-one-requires-9 c κs = search needs
+named-requires-9 : tie.Need-named-requires-9
+named-requires-9 c κs = search needs
 
-one-requires-10 : tie.Need-one-requires-10
-one-requires-10 c κs = search needs
+named-requires-10 : tie.Need-named-requires-10
+named-requires-10 c κs = search needs
 
-one-requires-11 : tie.Need-one-requires-11
-one-requires-11 c κs = search needs
+named-requires-11 : tie.Need-named-requires-11
+named-requires-11 c κs = search needs
 
-one-requires-12 : tie.Need-one-requires-12
-one-requires-12 c κs = search needs
+named-requires-12 : tie.Need-named-requires-12
+named-requires-12 c κs = search needs
 
-one-requires-13 : tie.Need-one-requires-13
-one-requires-13 c κs = search needs
+named-requires-13 : tie.Need-named-requires-13
+named-requires-13 c κs = search needs
 
-three-requires : tie.Need-three-requires
-three-requires c κs = search needs
+named-requires-14 : tie.Need-named-requires-14
+named-requires-14 c κs = search needs
 
-three-requires-2 : tie.Need-three-requires-2
-three-requires-2 c κs = search needs
+named-requires-15 : tie.Need-named-requires-15
+named-requires-15 c κs = search needs
 
-one-requires-14 : tie.Need-one-requires-14
-one-requires-14 c κs = search needs
+named-requires-16 : tie.Need-named-requires-16
+named-requires-16 c κs = search needs
 
-one-requires-15 : tie.Need-one-requires-15
-one-requires-15 c κs = search needs
+named-requires-17 : tie.Need-named-requires-17
+named-requires-17 c κs = search needs
 
-one-requires-16 : tie.Need-one-requires-16
-one-requires-16 c κs = search needs
+named-requires-18 : tie.Need-named-requires-18
+named-requires-18 c κs = search needs
 
-one-requires-17 : tie.Need-one-requires-17
-one-requires-17 c κs = search needs
+named-requires-19 : tie.Need-named-requires-19
+named-requires-19 c κs = search needs
 
-two-requires : tie.Need-two-requires
-two-requires c κs = search needs
+named-requires-20 : tie.Need-named-requires-20
+named-requires-20 c κs = search needs
 
-two-requires-2 : tie.Need-two-requires-2
-two-requires-2 c κs = search needs
+named-requires-21 : tie.Need-named-requires-21
+named-requires-21 c κs = search needs
 
-long-format-requires : tie.Need-long-format-requires
-long-format-requires c κs = search needs
+named-requires-22 : tie.Need-named-requires-22
+named-requires-22 c κs = search needs
 
-enum-known-low : tie.Need-enum-known-low
-enum-known-low c = search needs
-
-enum-told : tie.Need-enum-told
-enum-told c = search needs
+named-requires-23 : tie.Need-named-requires-23
+named-requires-23 c κs = search needs
 
 returns : tie.Need-returns
-unfolding rows
-returns c = c .one .ensures ∙ ap formatDigits (sym (c .before .before .match .keys1))
+unfolding rows rowAt
+returns c = c .named .ensures ∙ ap formatDigits (sym (c .before .match .keys1))
 
 returns-2 : tie.Need-returns-2
-unfolding rows
-returns-2 c = c .one2 .ensures ∙ ap formatDigits (sym (c .before .before .match .keys2))
+unfolding rows rowAt
+returns-2 c = c .named2 .ensures ∙ ap formatDigits (sym (c .before .match .keys2))
 
 returns-3 : tie.Need-returns-3
-unfolding rows
-returns-3 c = c .one3 .ensures ∙ ap formatDigits (sym (c .before .before .match .keys3))
+unfolding rows rowAt
+returns-3 c = c .named3 .ensures ∙ ap formatDigits (sym (c .before .match .keys3))
 
 returns-4 : tie.Need-returns-4
-unfolding rows
-returns-4 c = c .one4 .ensures ∙ ap formatDigits (sym (c .before .before .match .keys4))
+unfolding rows rowAt
+returns-4 c = c .named4 .ensures ∙ ap formatDigits (sym (c .before .match .keys4))
 
 returns-5 : tie.Need-returns-5
-unfolding rows
-returns-5 c = c .one5 .ensures ∙ ap formatDigits (sym (c .before .before .match .keys5))
+unfolding rows rowAt
+returns-5 c = c .named5 .ensures ∙ ap formatDigits (sym (c .before .match .keys5))
 
 returns-6 : tie.Need-returns-6
-unfolding rows
-returns-6 c = c .one6 .ensures ∙ ap formatDigits (sym (c .before .before .match .keys6))
+unfolding rows rowAt
+returns-6 c = c .named6 .ensures ∙ ap formatDigits (sym (c .before .match .keys6))
 
 returns-7 : tie.Need-returns-7
-unfolding rows
-returns-7 c = c .one7 .ensures ∙ ap formatDigits (sym (c .before .before .match .keys7))
+unfolding rows rowAt
+returns-7 c = c .named7 .ensures ∙ ap formatDigits (sym (c .before .match .keys7))
 
 returns-8 : tie.Need-returns-8
-unfolding rows
-returns-8 c = c .one8 .ensures ∙ ap formatDigits (sym (c .before .before .match .keys8))
+unfolding rows rowAt
+returns-8 c = c .named8 .ensures ∙ ap formatDigits (sym (c .before .match .keys8))
 
 returns-9 : tie.Need-returns-9
-unfolding rows
-returns-9 c = c .one9 .ensures ∙ ap formatDigits (sym (c .before .before .match .keys9))
+unfolding rows rowAt
+returns-9 c = c .named9 .ensures ∙ ap formatDigits (sym (c .before .match .keys9))
 
 returns-10 : tie.Need-returns-10
-unfolding rows
-returns-10 c = c .one10 .ensures ∙ ap formatDigits (sym (c .before .before .match .keys10))
+unfolding rows rowAt
+returns-10 c = c .named10 .ensures ∙ ap formatDigits (sym (c .before .match .keys10))
 
 returns-11 : tie.Need-returns-11
-unfolding rows
-returns-11 c = c .one11 .ensures ∙ ap formatDigits (sym (c .before .before .match .keys11))
+unfolding rows rowAt
+returns-11 c = c .named11 .ensures ∙ ap formatDigits (sym (c .before .match .keys11))
 
 returns-12 : tie.Need-returns-12
-unfolding rows
-returns-12 c = c .one12 .ensures ∙ ap formatDigits (sym (c .before .before .match .keys12))
+unfolding rows rowAt
+returns-12 c = c .named12 .ensures ∙ ap formatDigits (sym (c .before .match .keys12))
 
 returns-13 : tie.Need-returns-13
-unfolding rows
-returns-13 c = c .one13 .ensures ∙ ap formatDigits (sym (c .before .before .match .keys13))
+unfolding rows rowAt
+returns-13 c = c .named13 .ensures ∙ ap formatDigits (sym (c .before .match .keys13))
 
 returns-14 : tie.Need-returns-14
-unfolding rows
-returns-14 c = c .three .ensures ∙ ap formatDigits (sym (c .before .before .match .keys14))
+unfolding rows rowAt
+returns-14 c = c .named14 .ensures ∙ ap formatDigits (sym (c .before .match .keys14))
 
 returns-15 : tie.Need-returns-15
-unfolding rows
-returns-15 c = c .three2 .ensures ∙ ap formatDigits (sym (c .before .before .match .keys15))
+unfolding rows rowAt
+returns-15 c = c .named15 .ensures ∙ ap formatDigits (sym (c .before .match .keys15))
 
 returns-16 : tie.Need-returns-16
-unfolding rows
-returns-16 c = c .one14 .ensures ∙ ap formatDigits (sym (c .before .before .match .keys16))
+unfolding rows rowAt
+returns-16 c = c .named16 .ensures ∙ ap formatDigits (sym (c .before .match .keys16))
 
 returns-17 : tie.Need-returns-17
-unfolding rows
-returns-17 c = c .one15 .ensures ∙ ap formatDigits (sym (c .before .before .match .keys17))
+unfolding rows rowAt
+returns-17 c = c .named17 .ensures ∙ ap formatDigits (sym (c .before .match .keys17))
 
 returns-18 : tie.Need-returns-18
-unfolding rows
-returns-18 c = c .one16 .ensures ∙ ap formatDigits (sym (c .before .before .match .keys18))
+unfolding rows rowAt
+returns-18 c = c .named18 .ensures ∙ ap formatDigits (sym (c .before .match .keys18))
 
 returns-19 : tie.Need-returns-19
-unfolding rows
-returns-19 c = c .one17 .ensures ∙ ap formatDigits (sym (c .before .before .match .keys19))
+unfolding rows rowAt
+returns-19 c = c .named19 .ensures ∙ ap formatDigits (sym (c .before .match .keys19))
 
 returns-20 : tie.Need-returns-20
-unfolding rows
-returns-20 c = c .two .ensures ∙ ap formatDigits (sym (c .before .before .match .keys20))
+unfolding rows rowAt
+returns-20 c = c .named20 .ensures ∙ ap formatDigits (sym (c .before .match .keys20))
 
 returns-21 : tie.Need-returns-21
-unfolding rows
-returns-21 c = c .two2 .ensures ∙ ap formatDigits (sym (c .before .before .match .keys21))
+unfolding rows rowAt
+returns-21 c = c .named21 .ensures ∙ ap formatDigits (sym (c .before .match .keys21))
 
 returns-22 : tie.Need-returns-22
-unfolding rows
-returns-22 c = sym (ap digitsOption (c .before .low .given .1)) ∙ c .before .before .before .long-format .ensures ∙ rest-format arms (meets (every 41 (unnamed arms)) refl) (c .before .before .before .before .before .args .kind) (c .before .before .before .before .match .rest)
+unfolding rows rowAt
+returns-22 c = c .named22 .ensures ∙ ap formatDigits (sym (c .before .match .keys22))
 
 returns-23 : tie.Need-returns-23
+unfolding rows rowAt
+returns-23 c = c .named23 .ensures ∙ ap formatDigits (sym (c .before .match .keys23))
+
+returns-24 : tie.Need-returns-24
 unfolding rows
-returns-23 c = sym (ap digitsOption (c .enum-told .given .1)) ∙ c .before .before .long-format .ensures ∙ rest-format arms (meets (every 41 (unnamed arms)) refl) (c .before .before .before .before .args .kind) (c .before .before .before .match .rest)
+returns-24 c = rest-format arms (meets (every 41 (unnamed arms)) refl) (c .before .args .kind) (c .match .rest)
 
 pub format-of-spec : {M : Type 1} → statement M
 format-of-spec =
     tie.close
     (tie.spec
-    one-requires
-    one-requires-2
-    one-requires-3
-    one-requires-4
-    one-requires-5
-    one-requires-6
-    one-requires-7
-    one-requires-8
-    one-requires-9
-    one-requires-10
-    one-requires-11
-    one-requires-12
-    one-requires-13
-    three-requires
-    three-requires-2
-    one-requires-14
-    one-requires-15
-    one-requires-16
-    one-requires-17
-    two-requires
-    two-requires-2
-    long-format-requires
-    enum-known-low
-    enum-told
+    named-requires
+    named-requires-2
+    named-requires-3
+    named-requires-4
+    named-requires-5
+    named-requires-6
+    named-requires-7
+    named-requires-8
+    named-requires-9
+    named-requires-10
+    named-requires-11
+    named-requires-12
+    named-requires-13
+    named-requires-14
+    named-requires-15
+    named-requires-16
+    named-requires-17
+    named-requires-18
+    named-requires-19
+    named-requires-20
+    named-requires-21
+    named-requires-22
+    named-requires-23
     returns
     returns-2
     returns-3
@@ -251,4 +254,5 @@ format-of-spec =
     returns-20
     returns-21
     returns-22
-    returns-23)
+    returns-23
+    returns-24)

@@ -1,0 +1,28 @@
+-- `of_three_bytes` meets its contract: in each arm the definition computes at the digits, and no other first byte has a name (`no-candidates`). Assumes nothing.
+use mathlib.Core.Path.{refl}
+use mathlib.Core.List.{List, [], _∷_}
+use Prim.Native.Nat.{ℕ}
+use native.Mathlib.Omega.{arith}
+use Rattle.sheets.specs.FixedNames.{fixedRows}
+use Rattle.sheets.proofs.Tests.{meets, every}
+use Rattle.hex.specs.Hex.{bytesOf}
+use Rattle.words.specs.Words.{lowBytes}
+use Rattle.format_names.specs.declared.candidates.Candidates.the-variants as C
+use Rattle.format_names.proofs.CandidateLaws.{at-digits, armed, no-candidates}
+use Rattle.format_names.proofs.candidates.of_three_bytes.Statement.{statement}
+use Rattle.format_names.proofs.candidates.of_three_bytes.Tie as tie
+
+-- the digits of the arms, the last first
+abbrev arms : List (List ℕ)
+arms = (0x3437 ∷ []) ∷ []
+
+returns : tie.Need-returns
+unfolding fixedRows lowBytes bytesOf
+returns c = at-digits 3 (C.Rows 19 13) 0x3437 _ (c .match .keys1) (record { chosen = refl; placed = (refl, omega arith) })
+
+returns-2 : tie.Need-returns-2
+unfolding fixedRows
+returns-2 c = no-candidates 3 arms (meets (every 256 (armed 3 arms)) refl) _ (c .before .pre) (c .match .rest)
+
+pub of-three-bytes-spec : {M : Type 1} → statement M
+of-three-bytes-spec = tie.close (tie.spec returns returns-2)
