@@ -152,18 +152,17 @@ module _ (f : Bytes) where
   pub all-high : (k : ℕ) → length f ≡ 8 + k → littleValue (take k (drop 8 f)) ≡ littleValue (drop 8 f)
   all-high k e = ap littleValue (take-all k (drop 8 f) (omega (arith, length-drop 8 f)))
 
+  pub even : HasDigits f → (n : ℕ) → length f / 2 ≡ n → length f ≡ 2 * n
+  even d n e = sym (twice-length f (d .isText)) ∙ ap (λ (k : ℕ). 2 * k) (length-bytes f (d .isText) ∙ e)
+
   -- the longest name is of seven bytes
-  pub longest : HasDigits f → (length f ≡ 4 → ⊥) → (length f ≡ 6 → ⊥) → length f ≡ 14
-  longest d p q =
-      let n = length f / 2 in
-      let twice : 2 * n ≡ length f = ap (λ (k : ℕ). 2 * k) (sym (length-bytes f (d .isText))) ∙ twice-length f (d .isText) in
-      let seven : n ≡ 7 = pick (eqb n 2) (eqb n 3) refl refl (d .longer) (λ e. p (omega arith)) (λ e. q (omega arith)) in
-      omega arith
+  pub longest : HasDigits f → (length f / 2 ≡ 2 → ⊥) → (length f / 2 ≡ 3 → ⊥) → length f ≡ 14
+  longest d p q = even d 7 (pick (eqb (length f / 2) 2) (eqb (length f / 2) 3) refl refl (d .longer))
     where
-      pick : (u v : Bool) → eqb (length f / 2) 2 ≡ u → eqb (length f / 2) 3 ≡ v → (u || (v || eqb (length f / 2) 7)) ≡ true → (length f / 2 ≡ 2 → ⊥) → (length f / 2 ≡ 3 → ⊥) → length f / 2 ≡ 7
-      pick true v e g h x y = absurd (x (eqb-true (length f / 2) 2 e))
-      pick false true e g h x y = absurd (y (eqb-true (length f / 2) 3 g))
-      pick false false e g h x y = eqb-true (length f / 2) 7 h
+      pick : (u v : Bool) → eqb (length f / 2) 2 ≡ u → eqb (length f / 2) 3 ≡ v → (u || (v || eqb (length f / 2) 7)) ≡ true → length f / 2 ≡ 7
+      pick true v e g h = absurd (p (eqb-true (length f / 2) 2 e))
+      pick false true e g h = absurd (q (eqb-true (length f / 2) 3 g))
+      pick false false e g h = eqb-true (length f / 2) 7 h
 
 -- a name whose length is the format's is its name exactly if it has its digits
 pub digits-name : (f name : Bytes) (d : Digits) → isHex f ≡ true → Meets (all isByte name) → length name ≡ length f / 2 → DigitsOf f d → sameDigits name d ≡ same (bytesOf f) name

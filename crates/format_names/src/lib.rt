@@ -139,12 +139,12 @@ fn digits_of(f: &[u8]) -> Digits
     requires { ⌜ HasDigits (now f) ⌝ }
     ensures { λ r. ⌜ DigitsOf (now (f .entry)) r ⌝ }
 {
-    match f.len() {
-        4 => Digits {
+    match f.len() / 2 {
+        2 => Digits {
             low: words::word4_at(f, 0),
             high: 0,
         },
-        6 => Digits {
+        3 => Digits {
             low: words::word6_at(f, 0),
             high: 0,
         },

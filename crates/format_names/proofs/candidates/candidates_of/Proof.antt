@@ -1,10 +1,5 @@
 -- `candidates_of` meets its contract: by the length, and no name has another. Assumes nothing.
-use mathlib.Core.Path.{sym, subst}
-use Prim.Native.Nat.{ℕ}
-use Rattle.hex.specs.Hex.{bytesOf}
-use Rattle.words.specs.Words.{lowBytes}
-use Rattle.format_names.specs.Candidates.{AreCandidates}
-use Rattle.format_names.proofs.CandidateLaws.{other-length}
+use Rattle.format_names.proofs.CandidateLaws.{at-length, other-length}
 use borrow.Author.Needs.{needs}
 use Rattle.format_names.proofs.candidates.candidates_of.Statement.{statement}
 use Rattle.format_names.proofs.candidates.candidates_of.Tie as tie
@@ -22,24 +17,16 @@ of-seven-bytes-requires : tie.Need-of-seven-bytes-requires
 of-seven-bytes-requires c κs = search needs
 
 returns : tie.Need-returns
-returns c =
-    let st = c .before .before in
-    subst (λ (n : ℕ). AreCandidates n (bytesOf (lowBytes 2 (st .args .first))) (c .of-one-byte .result)) (sym (c .before .match .keys1)) (c .of-one-byte .ensures)
+returns c = at-length (c .before .before .args .first) (c .before .match .keys1) (c .of-one-byte .ensures)
 
 returns-2 : tie.Need-returns-2
-returns-2 c =
-    let st = c .before .before in
-    subst (λ (n : ℕ). AreCandidates n (bytesOf (lowBytes 2 (st .args .first))) (c .of-two-bytes .result)) (sym (c .before .match .keys2)) (c .of-two-bytes .ensures)
+returns-2 c = at-length (c .before .before .args .first) (c .before .match .keys2) (c .of-two-bytes .ensures)
 
 returns-3 : tie.Need-returns-3
-returns-3 c =
-    let st = c .before .before in
-    subst (λ (n : ℕ). AreCandidates n (bytesOf (lowBytes 2 (st .args .first))) (c .of-three-bytes .result)) (sym (c .before .match .keys3)) (c .of-three-bytes .ensures)
+returns-3 c = at-length (c .before .before .args .first) (c .before .match .keys3) (c .of-three-bytes .ensures)
 
 returns-4 : tie.Need-returns-4
-returns-4 c =
-    let st = c .before .before in
-    subst (λ (n : ℕ). AreCandidates n (bytesOf (lowBytes 2 (st .args .first))) (c .of-seven-bytes .result)) (sym (c .before .match .keys4)) (c .of-seven-bytes .ensures)
+returns-4 c = at-length (c .before .before .args .first) (c .before .match .keys4) (c .of-seven-bytes .ensures)
 
 returns-5 : tie.Need-returns-5
 returns-5 c = let no = c .match .rest in other-length _ (no .0 .0 .0 .1) (no .0 .0 .1) (no .0 .1) (no .1) _
