@@ -36,8 +36,9 @@ use Rattle.format_names.proofs.ShortLaws.{no-bytes, firstKind, kind-fir
 
 -- ── an arm
 
-pub at-digits : (n : ℕ) (r : Candidates) (key w : ℕ) → w ≡ key → AreCandidates n (bytesOf (lowBytes 2 key)) r → AreCandidates n (bytesOf (lowBytes 2 w)) r
-at-digits n r key w e h = subst (λ (x : ℕ). AreCandidates n (bytesOf (lowBytes 2 x)) r) (sym e) h
+-- where the two digits are those of the arm
+pub at-digits : {n : ℕ} {r : Candidates} {key w : ℕ} → w ≡ key → AreCandidates n (bytesOf (lowBytes 2 key)) r → AreCandidates n (bytesOf (lowBytes 2 w)) r
+at-digits {n} {r} e h = subst (λ (x : ℕ). AreCandidates n (bytesOf (lowBytes 2 x)) r) (sym e) h
 
 pub at-length : {n k : ℕ} {r : Candidates} (w : ℕ) → n ≡ k → AreCandidates k (bytesOf (lowBytes 2 w)) r → AreCandidates n (bytesOf (lowBytes 2 w)) r
 at-length {n} {k} {r} w e h = subst (λ (m : ℕ). AreCandidates m (bytesOf (lowBytes 2 w)) r) (sym e) h

@@ -3,11 +3,9 @@ use mathlib.Core.Path.{refl}
 use mathlib.Core.List.{List, [], _∷_}
 use Prim.Native.Nat.{ℕ}
 use Rattle.sheets.specs.FixedNames.{fixedRows}
-use Rattle.sheets.specs.Kind
 use Rattle.sheets.proofs.Tests.{meets, every}
 use Rattle.hex.specs.Hex.{bytesOf}
 use Rattle.words.specs.Words.{lowBytes}
-use Rattle.format_names.specs.declared.candidates.Candidates.the-variants as C
 use Rattle.format_names.proofs.CandidateLaws.{at-digits, armed, no-candidates}
 use Rattle.format_names.proofs.candidates.of_one_byte.Statement.{statement}
 use Rattle.format_names.proofs.candidates.of_one_byte.Tie as tie
@@ -36,71 +34,71 @@ arms =
 
 returns : tie.Need-returns
 unfolding fixedRows lowBytes bytesOf
-returns c = at-digits 1 (C.One Kind.Null) 0x6536 _ (c .match .keys1) (record { chosen = refl; placed = tt })
+returns c = at-digits (c .match .keys1) (record { chosen = refl; placed = tt })
 
 returns-2 : tie.Need-returns-2
 unfolding fixedRows lowBytes bytesOf
-returns-2 c = at-digits 1 (C.One Kind.Boolean) 0x3236 _ (c .match .keys2) (record { chosen = refl; placed = tt })
+returns-2 c = at-digits (c .match .keys2) (record { chosen = refl; placed = tt })
 
 returns-3 : tie.Need-returns-3
 unfolding fixedRows lowBytes bytesOf
-returns-3 c = at-digits 1 (C.One Kind.Int8) 0x3336 _ (c .match .keys3) (record { chosen = refl; placed = tt })
+returns-3 c = at-digits (c .match .keys3) (record { chosen = refl; placed = tt })
 
 returns-4 : tie.Need-returns-4
 unfolding fixedRows lowBytes bytesOf
-returns-4 c = at-digits 1 (C.One Kind.UInt8) 0x3334 _ (c .match .keys4) (record { chosen = refl; placed = tt })
+returns-4 c = at-digits (c .match .keys4) (record { chosen = refl; placed = tt })
 
 returns-5 : tie.Need-returns-5
 unfolding fixedRows lowBytes bytesOf
-returns-5 c = at-digits 1 (C.One Kind.Int16) 0x3337 _ (c .match .keys5) (record { chosen = refl; placed = tt })
+returns-5 c = at-digits (c .match .keys5) (record { chosen = refl; placed = tt })
 
 returns-6 : tie.Need-returns-6
 unfolding fixedRows lowBytes bytesOf
-returns-6 c = at-digits 1 (C.One Kind.UInt16) 0x3335 _ (c .match .keys6) (record { chosen = refl; placed = tt })
+returns-6 c = at-digits (c .match .keys6) (record { chosen = refl; placed = tt })
 
 returns-7 : tie.Need-returns-7
 unfolding fixedRows lowBytes bytesOf
-returns-7 c = at-digits 1 (C.One Kind.Int32) 0x3936 _ (c .match .keys7) (record { chosen = refl; placed = tt })
+returns-7 c = at-digits (c .match .keys7) (record { chosen = refl; placed = tt })
 
 returns-8 : tie.Need-returns-8
 unfolding fixedRows lowBytes bytesOf
-returns-8 c = at-digits 1 (C.One Kind.UInt32) 0x3934 _ (c .match .keys8) (record { chosen = refl; placed = tt })
+returns-8 c = at-digits (c .match .keys8) (record { chosen = refl; placed = tt })
 
 returns-9 : tie.Need-returns-9
 unfolding fixedRows lowBytes bytesOf
-returns-9 c = at-digits 1 (C.One Kind.Int64) 0x6336 _ (c .match .keys9) (record { chosen = refl; placed = tt })
+returns-9 c = at-digits (c .match .keys9) (record { chosen = refl; placed = tt })
 
 returns-10 : tie.Need-returns-10
 unfolding fixedRows lowBytes bytesOf
-returns-10 c = at-digits 1 (C.One Kind.UInt64) 0x6334 _ (c .match .keys10) (record { chosen = refl; placed = tt })
+returns-10 c = at-digits (c .match .keys10) (record { chosen = refl; placed = tt })
 
 returns-11 : tie.Need-returns-11
 unfolding fixedRows lowBytes bytesOf
-returns-11 c = at-digits 1 (C.One Kind.Float16) 0x3536 _ (c .match .keys11) (record { chosen = refl; placed = tt })
+returns-11 c = at-digits (c .match .keys11) (record { chosen = refl; placed = tt })
 
 returns-12 : tie.Need-returns-12
 unfolding fixedRows lowBytes bytesOf
-returns-12 c = at-digits 1 (C.One Kind.Float32) 0x3636 _ (c .match .keys12) (record { chosen = refl; placed = tt })
+returns-12 c = at-digits (c .match .keys12) (record { chosen = refl; placed = tt })
 
 returns-13 : tie.Need-returns-13
 unfolding fixedRows lowBytes bytesOf
-returns-13 c = at-digits 1 (C.One Kind.Float64) 0x3736 _ (c .match .keys13) (record { chosen = refl; placed = tt })
+returns-13 c = at-digits (c .match .keys13) (record { chosen = refl; placed = tt })
 
 returns-14 : tie.Need-returns-14
 unfolding fixedRows lowBytes bytesOf
-returns-14 c = at-digits 1 (C.One Kind.Binary) 0x6137 _ (c .match .keys14) (record { chosen = refl; placed = tt })
+returns-14 c = at-digits (c .match .keys14) (record { chosen = refl; placed = tt })
 
 returns-15 : tie.Need-returns-15
 unfolding fixedRows lowBytes bytesOf
-returns-15 c = at-digits 1 (C.One Kind.LargeBinary) 0x6135 _ (c .match .keys15) (record { chosen = refl; placed = tt })
+returns-15 c = at-digits (c .match .keys15) (record { chosen = refl; placed = tt })
 
 returns-16 : tie.Need-returns-16
 unfolding fixedRows lowBytes bytesOf
-returns-16 c = at-digits 1 (C.One Kind.Utf8) 0x3537 _ (c .match .keys16) (record { chosen = refl; placed = tt })
+returns-16 c = at-digits (c .match .keys16) (record { chosen = refl; placed = tt })
 
 returns-17 : tie.Need-returns-17
 unfolding fixedRows lowBytes bytesOf
-returns-17 c = at-digits 1 (C.One Kind.LargeUtf8) 0x3535 _ (c .match .keys17) (record { chosen = refl; placed = tt })
+returns-17 c = at-digits (c .match .keys17) (record { chosen = refl; placed = tt })
 
 returns-18 : tie.Need-returns-18
 unfolding fixedRows

@@ -7,7 +7,6 @@ use Rattle.sheets.specs.FixedNames.{fixedRows}
 use Rattle.sheets.proofs.Tests.{meets, every}
 use Rattle.hex.specs.Hex.{bytesOf}
 use Rattle.words.specs.Words.{lowBytes}
-use Rattle.format_names.specs.declared.candidates.Candidates.the-variants as C
 use Rattle.format_names.proofs.CandidateLaws.{at-digits, armed, no-candidates}
 use Rattle.format_names.proofs.candidates.of_two_bytes.Statement.{statement}
 use Rattle.format_names.proofs.candidates.of_two_bytes.Tie as tie
@@ -18,11 +17,11 @@ arms = (0x6232 ∷ []) ∷ (0x3637 ∷ []) ∷ []
 
 returns : tie.Need-returns
 unfolding fixedRows lowBytes bytesOf
-returns c = at-digits 2 (C.Rows 32 2) 0x3637 _ (c .match .keys1) (record { chosen = refl; placed = (refl, omega arith) })
+returns c = at-digits (c .match .keys1) (record { chosen = refl; placed = (refl, omega arith) })
 
 returns-2 : tie.Need-returns-2
 unfolding fixedRows lowBytes bytesOf
-returns-2 c = at-digits 2 (C.Rows 34 4) 0x6232 _ (c .match .keys2) (record { chosen = refl; placed = (refl, omega arith) })
+returns-2 c = at-digits (c .match .keys2) (record { chosen = refl; placed = (refl, omega arith) })
 
 returns-3 : tie.Need-returns-3
 unfolding fixedRows
