@@ -31,7 +31,7 @@ use Rattle.words.proofs.WordLaws.{same-bytes}
 use Rattle.words.proofs.DigitLaws.{hex-bytes-small}
 use Rattle.datatypes.proofs.AtLaws.{Rest, listed, not-listed}
 use Rattle.format_names.specs.declared.Digits.{Digits}
-use Rattle.format_names.specs.Names.{tableLength, rowAt, rowsFrom, HasDigits, DigitsOf, sameDigits, HasRows, leafOf, leafNamed}
+use Rattle.format_names.specs.Names.{tableLength, rowAt, rowsFrom, lowDigits, highDigits, HasDigits, DigitsOf, sameDigits, HasRows, leafOf, leafNamed}
 
 -- ── rows one by one
 
@@ -96,7 +96,7 @@ module _ (f name : Bytes) (text : isHex f ≡ true) (bytes : Meets (all isByte n
   f-small = subst Small (hex-bytes f text) (hex-bytes-small (bytesOf f) (bytes-below f))
 
   -- equal numbers are equal digits, and these are of equal bytes
-  pub same-digits : length name ≡ length f / 2 → littleValue (take 8 (hex name)) ≡ littleValue (take 8 f) → littleValue (drop 8 (hex name)) ≡ littleValue (drop 8 f)
+  pub same-digits : length name ≡ length f / 2 → lowDigits (hex name) ≡ lowDigits f → highDigits (hex name) ≡ highDigits f
       → same (bytesOf f) name ≡ true
   same-digits n low high =
       let h = hex name in
@@ -143,13 +143,13 @@ name-short i h = ltb-true (length (rowAt i .name)) 8 (at-each tableLength (λ j.
 
 module _ (f : Bytes) where
   -- up to eight are all that there are
-  pub all-low : (k : ℕ) → length f ≡ k → k ≤ 8 → littleValue (take k f) ≡ littleValue (take 8 f)
+  pub all-low : (k : ℕ) → length f ≡ k → k ≤ 8 → littleValue (take k f) ≡ lowDigits f
   all-low k e h = ap littleValue (take-all k f (omega arith) ∙ sym (take-all 8 f (omega arith)))
 
-  pub none-high : (k : ℕ) → length f ≡ k → k ≤ 8 → 0 ≡ littleValue (drop 8 f)
+  pub none-high : (k : ℕ) → length f ≡ k → k ≤ 8 → 0 ≡ highDigits f
   none-high k e h = ap littleValue (sym (drop-of-length-le f {i = 8} (omega arith)))
 
-  pub all-high : (k : ℕ) → length f ≡ 8 + k → littleValue (take k (drop 8 f)) ≡ littleValue (drop 8 f)
+  pub all-high : (k : ℕ) → length f ≡ 8 + k → littleValue (take k (drop 8 f)) ≡ highDigits f
   all-high k e = ap littleValue (take-all k (drop 8 f) (omega (arith, length-drop 8 f)))
 
   pub even : HasDigits f → (n : ℕ) → length f / 2 ≡ n → length f ≡ 2 * n
@@ -169,10 +169,10 @@ pub digits-name : (f name : Bytes) (d : Digits) → isHex f ≡ true → Meets (
 digits-name f name d text bytes n o = pick (eqb low (d .low)) (eqb high (d .high)) refl refl
   where
     low : ℕ
-    low = littleValue (take 8 (hex name))
+    low = lowDigits (hex name)
 
     high : ℕ
-    high = littleValue (drop 8 (hex name))
+    high = highDigits (hex name)
 
     pick : (u v : Bool) → eqb low (d .low) ≡ u → eqb high (d .high) ≡ v → (u && v) ≡ same (bytesOf f) name
     pick true true e g = sym (same-digits f name text bytes n (eqb-true low (d .low) e ∙ o .low) (eqb-true high (d .high) g ∙ o .high))
@@ -180,11 +180,11 @@ digits-name f name d text bytes n o = pick (eqb low (d .low)) (eqb high (d .high
     pick false v e g = sym (other-digits f name text bytes (take 8) (λ x. eqb-false low (d .low) e (x ∙ sym (o .low))))
 
 -- by its first digits, and by those after them
-pub other-low : (name : Bytes) (d : Digits) → (littleValue (take 8 (hex name)) ≡ d .low → ⊥) → false ≡ sameDigits name d
-other-low name d h = rw (ne-eqb (littleValue (take 8 (hex name))) (d .low) h)
+pub other-low : (name : Bytes) (d : Digits) → (lowDigits (hex name) ≡ d .low → ⊥) → false ≡ sameDigits name d
+other-low name d h = rw (ne-eqb (lowDigits (hex name)) (d .low) h)
 
-pub same-low : (name : Bytes) (d : Digits) (high : ℕ) → littleValue (take 8 (hex name)) ≡ d .low → high ≡ littleValue (drop 8 (hex name)) → eqb high (d .high) ≡ sameDigits name d
-same-low name d high h e = rw (eq-eqb (littleValue (take 8 (hex name))) (d .low) h) (ap (λ (x : ℕ). eqb x (d .high)) e)
+pub same-low : (name : Bytes) (d : Digits) (high : ℕ) → lowDigits (hex name) ≡ d .low → high ≡ highDigits (hex name) → eqb high (d .high) ≡ sameDigits name d
+same-low name d high h e = rw (eq-eqb (lowDigits (hex name)) (d .low) h) (ap (λ (x : ℕ). eqb x (d .high)) e)
 
 -- of a row whose name has the format's length
 pub row-same : {f : Bytes} {row count : ℕ} (d : Digits) → HasRows f row count → DigitsOf f d → (i : ℕ) → i < count → sameDigits (rowAt (row + i) .name) d ≡ same (bytesOf f) (rowAt (row + i) .name)

@@ -45,7 +45,14 @@ pub record IsRow (i : ℕ) (r : NameRow) : Type 0 where
   pub kind : r .kind ≡ rowAt i .kind
   pub unit : r .unit ≡ rowAt i .unit
 
--- ── a format's digits
+-- ── digits as numbers
+
+-- the first eight digits of a text, and those after them
+abbrev pub lowDigits : Bytes → ℕ
+lowDigits t = littleValue (take 8 t)
+
+abbrev pub highDigits : Bytes → ℕ
+highDigits t = littleValue (drop 8 t)
 
 -- the lengths of the names that have bytes after the first
 abbrev pub isLonger : ℕ → Bool
@@ -56,12 +63,12 @@ pub record HasDigits (f : Bytes) : Type 0 where
   pub longer : isLonger (length f / 2) ≡ true
 
 pub record DigitsOf (f : Bytes) (d : Digits) : Type 0 where
-  pub low : d .low ≡ littleValue (take 8 f)
-  pub high : d .high ≡ littleValue (drop 8 f)
+  pub low : d .low ≡ lowDigits f
+  pub high : d .high ≡ highDigits f
 
 -- whether a name has these digits
 abbrev pub sameDigits : Bytes → Digits → Bool
-sameDigits name d = eqb (littleValue (take 8 (hex name))) (d .low) && eqb (littleValue (drop 8 (hex name))) (d .high)
+sameDigits name d = eqb (lowDigits (hex name)) (d .low) && eqb (highDigits (hex name)) (d .high)
 
 -- rows of the table, all with names of the format's length
 pub record HasRows (f : Bytes) (row count : ℕ) : Type 0 where

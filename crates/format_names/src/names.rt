@@ -2,11 +2,10 @@
 ghost use mathlib.Core.Path.{_≡_};
 ghost use mathlib.Core.List.{[], _∷_};
 ghost use Prim.Native.Nat.{_≤_, _<_};
-ghost use lib.ListN.{length, getD, take, drop};
+ghost use lib.ListN.{length, getD};
 ghost use Rattle.sheets.specs.Text.{hex};
 ghost use Rattle.sheets.specs.Metadata.{littleValue};
-ghost use Rattle.words.specs.Words.{WordOf};
-ghost use Rattle.format_names.specs.Names.{rowAt, tableLength, lateRow};
+ghost use Rattle.format_names.specs.Names.{rowAt, tableLength, lateRow, lowDigits, highDigits};
 use words::hex_digits::four_pairs;
 use words::hex_digits::pair_of;
 use words::hex_digits::three_pairs;
@@ -110,7 +109,7 @@ fn last_three(name: &[u8; 7]) -> u64
 // The first eight digits of the name of row i: of the types that a kind alone tells, up to the texts.
 fn early_digits(i: usize) -> u64
     requires { ⌜ i < lateRow ⌝ }
-    ensures { λ r. ⌜ r ≡ littleValue (take 8 (hex (rowAt i .name))) ⌝ }
+    ensures { λ r. ⌜ r ≡ lowDigits (hex (rowAt i .name)) ⌝ }
 {
     match i {
         0 => one(b"n"),
@@ -138,7 +137,7 @@ fn early_digits(i: usize) -> u64
 // Of dates, times, durations and intervals, of the views, and of the types with children.
 fn late_digits(i: usize) -> u64
     requires { ⌜ (lateRow ≤ i) × (i < tableLength) ⌝ }
-    ensures { λ r. ⌜ r ≡ littleValue (take 8 (hex (rowAt i .name))) ⌝ }
+    ensures { λ r. ⌜ r ≡ lowDigits (hex (rowAt i .name)) ⌝ }
 {
     match i {
         19 => three(b"tdD"),
@@ -166,7 +165,7 @@ fn late_digits(i: usize) -> u64
 // The first eight digits of the name of row i, or all that it has.
 pub fn low_digits(i: usize) -> u64
     requires { ⌜ i < tableLength ⌝ }
-    ensures { λ r. ⌜ r ≡ littleValue (take 8 (hex (rowAt i .name))) ⌝ }
+    ensures { λ r. ⌜ r ≡ lowDigits (hex (rowAt i .name)) ⌝ }
 {
     if i < 19 {
         return early_digits(i);
@@ -177,7 +176,7 @@ pub fn low_digits(i: usize) -> u64
 // The digits after the first eight: those of names of seven bytes.
 pub fn high_digits(i: usize) -> u64
     requires { ⌜ i < tableLength ⌝ }
-    ensures { λ r. ⌜ r ≡ littleValue (drop 8 (hex (rowAt i .name))) ⌝ }
+    ensures { λ r. ⌜ r ≡ highDigits (hex (rowAt i .name)) ⌝ }
 {
     match i {
         10 => last_three(b"_pli128"),

@@ -13,7 +13,6 @@ use Rattle.sheets.specs.Refusal.{noFormat}
 use Rattle.sheets.specs.Rule.{passes, Meets}
 use Rattle.sheets.specs.Bytes.{Bytes, same}
 use Rattle.sheets.specs.Text.{hex}
-use Rattle.sheets.specs.Metadata.{littleValue}
 use Rattle.sheets.specs.Answer.{Answer, refused, given, _>>=_, found}
 use Rattle.sheets.specs.Field.{leaf, hasUnit, leafRule}
 use Rattle.sheets.specs.Format.{FormatRow, rows, rowOf, scalarFormat}
@@ -24,7 +23,7 @@ use Rattle.buffer.specs.Over.{overAt, PutAt}
 use Rattle.buffer.proofs.OverLaws.{length-overAt}
 use Rattle.hex.proofs.PartLaws.{length-hex}
 use Rattle.words.specs.Words.{lowBytes}
-use Rattle.format_names.specs.Names.{tableLength, rowAt}
+use Rattle.format_names.specs.Names.{tableLength, rowAt, lowDigits, highDigits}
 use Rattle.format_names.proofs.NameLaws.{name-short}
 use Rattle.column_text.specs.ColumnText.{hasZero}
 use Rattle.put_format.specs.Formats.{Formats}
@@ -117,7 +116,7 @@ unfolding overAt lowBytes
 both-words low high = refl
 
 abbrev wordsOf : Bytes → Bytes
-wordsOf h = lowBytes 8 (littleValue (take 8 h)) ++ lowBytes 8 (littleValue (drop 8 h))
+wordsOf h = lowBytes 8 (lowDigits h) ++ lowBytes 8 (highDigits h)
 
 abbrev textTest : ℕ → Bool
 textTest i = same (take (2 * length (rowAt i .name)) (wordsOf (hex (rowAt i .name)))) (hex (rowAt i .name))
@@ -131,7 +130,7 @@ words-length low high {one} {two} p q = ap length q ∙ length-overAt 8 (lowByte
 
 module _ (i : ℕ) (h : i < tableLength) where
   -- the first bytes of the buffer are the digits of the name of row i
-  pub name-text : {low high n : ℕ} {one two : Bytes} → low ≡ littleValue (take 8 (hex (rowAt i .name))) → high ≡ littleValue (drop 8 (hex (rowAt i .name))) → n ≡ length (rowAt i .name)
+  pub name-text : {low high n : ℕ} {one two : Bytes} → low ≡ lowDigits (hex (rowAt i .name)) → high ≡ highDigits (hex (rowAt i .name)) → n ≡ length (rowAt i .name)
       → one ≡ overAt 0 (lowBytes 8 low) (replicate 16 0) → two ≡ overAt 8 (lowBytes 8 high) one → take (2 * n) two ≡ hex (rowAt i .name)
   name-text {low} {high} {n} {one} {two} e f g p q =
       ap₂ (λ (k : ℕ) (b : Bytes). take (2 * k) b) g (q ∙ ap (overAt 8 (lowBytes 8 high)) p ∙ both-words low high ∙ ap₂ (λ (x y : ℕ). lowBytes 8 x ++ lowBytes 8 y) e f) ∙ words-text i h

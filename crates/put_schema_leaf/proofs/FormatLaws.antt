@@ -13,7 +13,6 @@ use borrow.Author.Tests.{ltb-true, ltb-false, lt-leb, leb-true}
 use Rattle.sheets.specs.Rule.{Rule, is, _and_, each, Meets}
 use Rattle.sheets.specs.Bytes.{Bytes, lacks}
 use Rattle.sheets.specs.Text.{hex}
-use Rattle.sheets.specs.Metadata.{littleValue}
 use Rattle.sheets.specs.Sheet.{isSome}
 use Rattle.sheets.specs.Format.{FormatRow, rows, rowOf}
 use Rattle.sheets.proofs.Tests.{not-some, same-some, every, at-each, meets}
@@ -21,12 +20,13 @@ use Rattle.hex.proofs.PartLaws.{all-take, all-drop}
 use Rattle.words.specs.Words.{Small, lowBytes}
 use Rattle.words.proofs.WordLaws.{low-is, length-low}
 use Rattle.datatypes.proofs.AtLaws.{Rest, listed, not-listed}
+use Rattle.format_names.specs.Names.{lowDigits, highDigits}
 use Rattle.field_leaf.specs.FieldLeaves.{isShort}
 use Rattle.put_schema_leaf.specs.Formats.{digitsText, nameDigits, formatDigits}
 
 -- ── digits by numbers
 
-pub digits-text : (h : Bytes) → Small h → (low high n : ℕ) → low ≡ littleValue (take 8 h) → high ≡ littleValue (drop 8 h) → n ≡ length h → digitsText low high n ≡ h
+pub digits-text : (h : Bytes) → Small h → (low high n : ℕ) → low ≡ lowDigits h → high ≡ highDigits h → n ≡ length h → digitsText low high n ≡ h
 digits-text h small low high n e f g =
     let m : min n 8 ≡ length (take 8 h) = ap (λ (k : ℕ). min k 8) g ∙ min-comm (length h) 8 ∙ sym (length-take 8 h) in
     let z : n - 8 ≡ length (drop 8 h) = omega (arith, length-drop 8 h) in

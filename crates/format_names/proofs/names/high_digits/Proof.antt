@@ -3,19 +3,17 @@ use mathlib.Core.Path.{_≡_, refl, sym, ap, _∙_}
 use mathlib.Core.Bool.{Bool, _||_}
 use Prim.Native.Nat.{ℕ, _<_}
 use lib.Dec.{eqb}
-use lib.ListN.{drop}
 use borrow.Author.Tests.{eqb-true, ne-eqb}
 use Rattle.sheets.specs.Text.{hex}
-use Rattle.sheets.specs.Metadata.{littleValue}
 use Rattle.sheets.proofs.Tests.{meets, every, at-each}
-use Rattle.format_names.specs.Names.{rowAt, tableLength}
+use Rattle.format_names.specs.Names.{rowAt, tableLength, highDigits}
 use Rattle.format_names.proofs.NameLaws.{or-right}
 use borrow.Author.Needs.{needs}
 use Rattle.format_names.proofs.names.high_digits.Statement.{statement}
 use Rattle.format_names.proofs.names.high_digits.Tie as tie
 
 abbrev digitsOf : ℕ → ℕ
-digitsOf i = littleValue (drop 8 (hex (rowAt i .name)))
+digitsOf i = highDigits (hex (rowAt i .name))
 
 -- the other names have no more than eight digits
 abbrev short : ℕ → Bool
