@@ -37,8 +37,9 @@ pub fn to_integer_type(f: &[u8]) -> IndexRead
     requires { ⌜ isHex (now f) ≡ true ⌝ }
     ensures { λ r. ⌜ indexAnswer r ≡ toIntegerType (bytesOf (now (f .entry))) ⌝ }
 {
-    let NameRead::Named(kind, _) = format_names::fixed_name(f) else {
-        return IndexRead::Refused(Refusal::BadIndex);
-    };
-    index_of(kind)
+    match format_names::fixed_name(f) {
+        NameRead::Leaf(kind, _) => index_of(kind),
+        NameRead::Nested(kind) => index_of(kind),
+        NameRead::Other => IndexRead::Refused(Refusal::BadIndex),
+    }
 }

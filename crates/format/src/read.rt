@@ -14,7 +14,7 @@ ghost use mathlib.Core.List.{_∷_};
 ghost use Prim.Native.Nat.{_+_};
 ghost use lib.ListN.{take, drop};
 ghost use Rattle.sheets.specs.Format.{readCut, readOther, readFormat, cut};
-ghost use Rattle.sheets.specs.FixedNames.{namedFormat};
+ghost use Rattle.sheets.specs.FixedNames.{isNested, namedFormat};
 ghost use Rattle.hex.specs.Hex.{isHex, bytesOf};
 ghost use Rattle.sheets.specs.Parts.{partsFrom};
 ghost use Rattle.format.specs.Parts.{HasBytes, HasPart, formatPart};
@@ -143,16 +143,16 @@ fn read_other(f: &[u8]) -> FormatRead
     read_cut(f, k)
 }
 
-// The type that a fixed name of this kind and unit tells. `sorted` says that the keys of a map are.
-fn named_type(kind: u64, unit: u64, sorted: bool) -> Textless
-    ensures { λ r. ⌜ textlessFormat r ≡ namedFormat sorted kind unit ⌝ }
+// The type with children that a fixed name of this kind tells. `sorted` says that the keys of a map are.
+fn nested_type(kind: u64, sorted: bool) -> Textless
+    requires { ⌜ isNested kind ≡ true ⌝ }
+    ensures { λ r. ⌜ textlessFormat r ≡ namedFormat sorted kind 0 ⌝ }
 {
     match kind {
         kind::LIST => Textless::List,
         kind::LARGE_LIST => Textless::LargeList,
         kind::MAP => Textless::Map(sorted),
-        kind::STRUCT => Textless::Struct,
-        _ => Textless::Leaf(kind, unit),
+        _ => Textless::Struct,
     }
 }
 
@@ -161,8 +161,9 @@ pub fn read_format(f: &[u8], sorted: bool) -> FormatRead
     requires { ⌜ isHex (now f) ≡ true ⌝ }
     ensures { λ r. ⌜ Reads (now (f .entry)) (readFormat sorted (bytesOf (now (f .entry)))) r ⌝ }
 {
-    if let NameRead::Named(kind, unit) = format_names::fixed_name(f) {
-        return FormatRead::Numbers(named_type(kind, unit, sorted));
+    match format_names::fixed_name(f) {
+        NameRead::Leaf(kind, unit) => FormatRead::Numbers(Textless::Leaf(kind, unit)),
+        NameRead::Nested(kind) => FormatRead::Numbers(nested_type(kind, sorted)),
+        NameRead::Other => read_other(f),
     }
-    read_other(f)
 }

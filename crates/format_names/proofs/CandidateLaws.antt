@@ -1,7 +1,7 @@
 -- The names that a format is compared with: in an arm of a `match` the definition computes at the arm's digits; a first byte that is in no arm has no name of that
 -- length, by one test computed over the 256 bytes; and the theorem of document 02, #103, on what the code answers. Assumes nothing.
 use mathlib.Core.Path.{_≡_, refl, sym, ap, subst, _∙_}
-use mathlib.Core.Logic.{_≢_}
+use mathlib.Core.Logic.{_≢_, inl, inr}
 use mathlib.Core.Bool.{Bool, true, false, _&&_, _||_, cond}
 use mathlib.Core.List.{List, [], _∷_}
 use mathlib.Core.Option.{none, some}
@@ -10,13 +10,15 @@ use native.Mathlib.Omega.{arith}
 use lib.Dec.{eqb}
 use lib.ListN.{length, take, length-take}
 use lib.Seq.{take-all}
+use denote.Enum.Declared.{tagOf}
+use types.Run.{OneOf}
 use borrow.Author.Tests.{eqb-true, ne-eqb, ltb-true, not-true}
 use Rattle.sheets.specs.Rule.{Rule, is, each, Meets}
 use Rattle.sheets.specs.Bytes.{Bytes, all, isByte, same}
 use Rattle.sheets.specs.Text.{hex}
 use Rattle.sheets.specs.Metadata.{littleValue}
 use Rattle.sheets.specs.Format.{FormatRow, rowNamed}
-use Rattle.sheets.specs.FixedNames.{fixedRows, cellOf, chosen, comparedWith, hasLength, times, onceIfAlike}
+use Rattle.sheets.specs.FixedNames.{fixedRows, isNested, cellOf, chosen, comparedWith, hasLength, times, onceIfAlike}
 use Rattle.sheets.proofs.Tests.{never, meets, every, at-each}
 use Rattle.sheets.proofs.BytesLaws.{same-refl}
 use Rattle.sheets.proofs.FixedNameLaws.{found-compared, chosen-first, chosen-length, compared-once, compared-none}
@@ -31,6 +33,7 @@ use Rattle.format_names.specs.declared.candidates.Candidates.{Candidates
 use Rattle.format_names.specs.declared.candidates.Candidates.the-variants as C
 use Rattle.format_names.specs.Names.{rowsFrom, HasRows, leafOf, leafNamed}
 use Rattle.format_names.specs.ShortNames.{shortRows, kindAmong}
+use Rattle.format_names.proofs.candidates.Candidates.{the-type}
 use Rattle.format_names.proofs.NameLaws.{or-right}
 use Rattle.format_names.proofs.ShortLaws.{no-bytes, firstKind, kind-first}
 
@@ -125,6 +128,13 @@ no-kind w r c e =
 pub no-rows-of-one : {A : Type 0} (f : Bytes) (r : Candidates) (row count : ℕ) → AreCandidates 1 f r → r ≡ C.Rows row count → A
 no-rows-of-one f r row count c e = never (subst (AreCandidates 1 f) e c .placed .0)
 
+-- what is none of these is no name
+pub not-one : (w : ℕ) (r : Candidates) → AreCandidates 1 (bytesOf (lowBytes 2 w)) r → OneOf (0 ∷ 2 ∷ []) (tagOf the-type r) → none ≡ kindAmong (lowBytes 2 w) shortRows
+not-one w C.Nothing c o = no-kind w C.Nothing c refl
+not-one w (C.One kind) c (inl e) = absurd (omega (arith, e))
+not-one w (C.One kind) c (inr e) = absurd (omega (arith, e))
+not-one w (C.Rows row count) c o = no-rows-of-one (bytesOf (lowBytes 2 w)) (C.Rows row count) row count c refl
+
 -- ── a format
 
 -- the candidates of a format's length and first digits
@@ -164,14 +174,14 @@ pub named-nothing : {f : Bytes} (r : Candidates) → Chosen f r → r ≡ C.Noth
 named-nothing {f} r k e = among-candidates (subst (Chosen f) e k)
 
 -- a name that is its first byte is the format
-pub named-one : {f : Bytes} (r : Candidates) (kind : ℕ) → Chosen f r → r ≡ C.One kind → some (kind, 0) ≡ leafNamed (bytesOf f)
+pub named-one : {f : Bytes} (r : Candidates) (kind : ℕ) → Chosen f r → r ≡ C.One kind → (some (kind, 0) ≡ leafNamed (bytesOf f)) × (isNested kind ≡ false)
 named-one {f} r kind k e =
     let b = bytesOf f in
     let k1 = subst (Chosen f) e k in
     let size : length (take 1 b) ≡ length f / 2 = eqb-true (length (take 1 b)) (length f / 2) (candidates-length k1 .0) in
     let whole : take 1 b ≡ b = take-all 1 b (omega (arith, length-take 1 b, length-bytes f (k .isText), k .some)) in
     let same-name : same b (take 1 b) ≡ true = ap (same b) whole ∙ same-refl b in
-    ap (λ (u : Bool). leafOf (cond u (some (record { name = take 1 b; kind = kind; unit = 0 })) none)) (sym same-name) ∙ among-candidates k1
+    (ap (λ (u : Bool). leafOf (cond u (some (record { name = take 1 b; kind = kind; unit = 0 })) none)) (sym same-name) ∙ among-candidates k1, k1 .are .placed)
 
 pub has-rows : {f : Bytes} (r : Candidates) (row count : ℕ) → Chosen f r → r ≡ C.Rows row count → HasRows f row count
 has-rows {f} r row count k e =

@@ -1,7 +1,7 @@
 -- The table of fixed names: the rows of a range are looked through one by one, by digits as numbers, which are equal exactly if the names are; and what a
 -- row says. What the table holds is computed from `fixedRows`. Assumes nothing.
 use mathlib.Core.Path.{_≡_, refl, sym, _∙_, ap, ap₂, subst}
-use mathlib.Core.Bool.{Bool, true, false, _&&_, _||_}
+use mathlib.Core.Bool.{Bool, true, false, not, _&&_, _||_}
 use mathlib.Core.List.{List, [], _∷_, _++_}
 use mathlib.Core.List.{map as mapList}
 use mathlib.Core.Option.{Option, none, some}
@@ -19,8 +19,8 @@ use Rattle.sheets.specs.Text.{hex}
 use Rattle.sheets.specs.Metadata.{littleValue}
 use Rattle.sheets.specs.Answer.{given}
 use Rattle.sheets.specs.Format.{FormatRow, rowNamed, cut, readOther, readFormat}
-use Rattle.sheets.specs.FixedNames.{fixedRows, namedFormat, hasLength}
-use Rattle.sheets.proofs.Tests.{never, not-some, meets, every, at-each}
+use Rattle.sheets.specs.FixedNames.{fixedRows, isNested, namedFormat, hasLength}
+use Rattle.sheets.proofs.Tests.{never, not-some, and-left, and-right, meets, every, at-each}
 use Rattle.sheets.proofs.BytesLaws.{same-refl, same-eq}
 use Rattle.sheets.proofs.FixedNameLaws.{names-38, readFixed, read-fixed}
 use Rattle.hex.specs.Hex.{isHex, bytesOf}
@@ -138,6 +138,24 @@ lengths a b n test i low high =
 pub name-short : (i : ℕ) → i < tableLength → length (rowAt i .name) < 8
 unfolding rowAt
 name-short i h = ltb-true (length (rowAt i .name)) 8 (at-each tableLength (λ j. ltb (length (rowAt j .name)) 8) (meets (every tableLength (λ j. ltb (length (rowAt j .name)) 8)) refl) i h)
+
+-- the last four rows are of types with children, which have no unit, and no other
+pub leaf-row : (i : ℕ) → i < 34 → isNested (rowAt i .kind) ≡ false
+unfolding rowAt
+leaf-row i h = not-true (isNested (rowAt i .kind)) (at-each 34 (λ j. not (isNested (rowAt j .kind))) (meets (every 34 (λ j. not (isNested (rowAt j .kind)))) refl) i h)
+
+abbrev nestedTest : ℕ → Bool
+nestedTest j = ltb j 34 || (isNested (rowAt j .kind) && eqb (rowAt j .unit) 0)
+
+late-nested : (i : ℕ) → 34 ≤ i → i < tableLength → (isNested (rowAt i .kind) && eqb (rowAt i .unit) 0) ≡ true
+unfolding rowAt
+late-nested i low high = or-right (ltb i 34) (isNested (rowAt i .kind) && eqb (rowAt i .unit) 0) (le-ltb i 34 low) (at-each tableLength nestedTest (meets (every tableLength nestedTest) refl) i high)
+
+pub nested-row : (i : ℕ) → 34 ≤ i → i < tableLength → isNested (rowAt i .kind) ≡ true
+nested-row i low high = and-left (isNested (rowAt i .kind)) (eqb (rowAt i .unit) 0) (late-nested i low high)
+
+pub nested-unit : (i : ℕ) → 34 ≤ i → i < tableLength → 0 ≡ rowAt i .unit
+nested-unit i low high = sym (eqb-true (rowAt i .unit) 0 (and-right (isNested (rowAt i .kind)) (eqb (rowAt i .unit) 0) (late-nested i low high)))
 
 -- ── a format's digits
 

@@ -1,7 +1,7 @@
 -- The fixed names of formats as the code has them: the rows of the one table, each by its place; a format's digits as numbers; and the heads before a colon
 -- that name a unit or a mode. Assumes nothing.
 use mathlib.Core.Path.{_≡_}
-use mathlib.Core.Bool.{Bool, true, _&&_, _||_, cond}
+use mathlib.Core.Bool.{Bool, true, false, _&&_, _||_, cond}
 use mathlib.Core.List.{List, []}
 use mathlib.Core.Option.{Option, none, some}
 use Prim.Native.Nat.{ℕ, _+_, _/_, _≤_}
@@ -11,7 +11,7 @@ use Rattle.sheets.specs.Rule.{each, Meets}
 use Rattle.sheets.specs.Bytes.{Bytes, same, ascii}
 use Rattle.sheets.specs.Text.{hex}
 use Rattle.sheets.specs.Format.{FormatRow, rowNamed}
-use Rattle.sheets.specs.FixedNames.{fixedRows, hasLength}
+use Rattle.sheets.specs.FixedNames.{fixedRows, isNested, hasLength}
 use Rattle.sheets.specs.Metadata.{littleValue}
 use Rattle.hex.specs.Hex.{isHex}
 use Rattle.datatypes.specs.declared.units.TimeUnit.{TimeUnit}
@@ -21,7 +21,7 @@ use Rattle.datatypes.specs.declared.units.UnionMode.the-variants as UnionModes
 use Rattle.format_names.specs.declared.NameRow.{NameRow}
 use Rattle.format_names.specs.declared.Digits.{Digits}
 use Rattle.format_names.specs.declared.NameRead.{NameRead}
-use Rattle.format_names.specs.declared.NameRead.the-variants.{Named, Other}
+use Rattle.format_names.specs.declared.NameRead.the-variants.{Leaf, Nested, Other}
 
 -- ── the table
 
@@ -78,9 +78,17 @@ pub record HasRows (f : Bytes) (row count : ℕ) : Type 0 where
 
 -- ── a name
 
+-- the kind and the unit: no type with children has a unit
 abbrev pub nameOption : NameRead → Option (ℕ × ℕ)
-nameOption (Named kind unit) = some (kind, unit)
+nameOption (Leaf kind unit) = some (kind, unit)
+nameOption (Nested kind) = some (kind, 0)
 nameOption Other = none
+
+-- which types have children
+abbrev pub Told : NameRead → Type 0
+Told (Leaf kind unit) = isNested kind ≡ false
+Told (Nested kind) = isNested kind ≡ true
+Told Other = Unit {0}
 
 abbrev pub leafOf : Option FormatRow → Option (ℕ × ℕ)
 leafOf none = none

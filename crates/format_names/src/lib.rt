@@ -14,11 +14,12 @@ use datatypes::units::UnionMode;
 use datatypes::units::UnionModeAt;
 ghost use mathlib.Core.Path.{_≡_};
 ghost use mathlib.Core.Bool.{true};
+ghost use mathlib.Core.Option.{some};
 ghost use Prim.Native.Nat.{_<_};
 ghost use Rattle.sheets.specs.Format.{rowNamed};
 ghost use Rattle.hex.specs.Hex.{isHex, bytesOf};
 ghost use Rattle.datatypes.specs.At.{timeUnitOption, unionModeOption};
-ghost use Rattle.format_names.specs.Names.{tableLength, rowAt, rowsFrom, IsRow, HasDigits, DigitsOf, sameDigits, HasRows, nameOption, leafOf, leafNamed, headUnit, headMode};
+ghost use Rattle.format_names.specs.Names.{tableLength, rowAt, rowsFrom, IsRow, HasDigits, DigitsOf, sameDigits, HasRows, nameOption, Told, leafOf, leafNamed, headUnit, headMode};
 
 // The kinds of the rows; as bytes, since an array is stored anew wherever it is looked at.
 pub const KINDS: [u8; 38] = [
@@ -111,9 +112,10 @@ pub struct NameRow {
     pub unit: u64,
 }
 
-// A type that a fixed name tells, and its unit.
+// The type that a fixed name tells: its kind and its unit, or the kind of one with children.
 pub enum NameRead {
-    Named(u64, u64),
+    Leaf(u64, u64),
+    Nested(u64),
     Other,
 }
 
@@ -126,6 +128,18 @@ pub fn row_at(i: usize) -> NameRow
         kind: buffer::wide(KINDS[i]),
         unit: buffer::wide(UNITS[i]),
     }
+}
+
+// The type whose name row i has.
+fn type_at(i: usize) -> NameRead
+    requires { ⌜ i < tableLength ⌝ }
+    ensures { λ r. ⌜ (nameOption r ≡ some (rowAt i .kind, rowAt i .unit)) × Told r ⌝ }
+{
+    let r = row_at(i);
+    if names::LIST <= i {
+        return NameRead::Nested(r.kind);
+    }
+    NameRead::Leaf(r.kind, r.unit)
 }
 
 // A format's digits as numbers: the first eight, and those after them.
@@ -169,14 +183,13 @@ fn has_digits(i: usize, d: Digits) -> bool
 // The type whose name f is, if it is that of one of `count` rows from row `row` on, which all have names of its length.
 fn named(f: &[u8], row: usize, count: usize) -> NameRead
     requires { ⌜ HasRows (now f) row count ⌝ }
-    ensures { λ r. ⌜ nameOption r ≡ leafOf (rowNamed (bytesOf (now (f .entry))) (rowsFrom row count)) ⌝ }
+    ensures { λ r. ⌜ (nameOption r ≡ leafOf (rowNamed (bytesOf (now (f .entry))) (rowsFrom row count))) × Told r ⌝ }
 {
     let d = digits_of(f);
     let mut i = 0;
     while i < count {
         if has_digits(row + i, d) {
-            let r = row_at(row + i);
-            return NameRead::Named(r.kind, r.unit);
+            return type_at(row + i);
         }
         i += 1;
     }
@@ -186,7 +199,7 @@ fn named(f: &[u8], row: usize, count: usize) -> NameRead
 // The type that a fixed name tells: f is compared with the candidates of its length and first byte alone.
 pub fn fixed_name(f: &[u8]) -> NameRead
     requires { ⌜ isHex (now f) ≡ true ⌝ }
-    ensures { λ r. ⌜ nameOption r ≡ leafNamed (bytesOf (now (f .entry))) ⌝ }
+    ensures { λ r. ⌜ (nameOption r ≡ leafNamed (bytesOf (now (f .entry)))) × Told r ⌝ }
 {
     let n = f.len() / 2;
     if n == 0 {
@@ -194,7 +207,7 @@ pub fn fixed_name(f: &[u8]) -> NameRead
     }
     match candidates::candidates_of(n, words::word2_at(f, 0)) {
         Candidates::Nothing => NameRead::Other,
-        Candidates::One(kind) => NameRead::Named(kind, NO_UNIT),
+        Candidates::One(kind) => NameRead::Leaf(kind, NO_UNIT),
         Candidates::Rows(row, count) => named(f, row, count),
     }
 }

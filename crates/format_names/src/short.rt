@@ -17,9 +17,8 @@ pub fn short_name(w: u64) -> ShortName
     requires { ⌜ w < 65536 ⌝ }
     ensures { λ r. ⌜ kindOption r ≡ kindAmong (lowBytes 2 w) shortRows ⌝ }
 {
-    match candidates_of(1, w) {
-        Candidates::One(kind) => ShortName::Kind(kind),
-        Candidates::Nothing => ShortName::Other,
-        Candidates::Rows(_, _) => ShortName::Other,
+    if let Candidates::One(kind) = candidates_of(1, w) {
+        return ShortName::Kind(kind);
     }
+    ShortName::Other
 }

@@ -56,8 +56,8 @@ const FIRST_ROWS: [u8; 41] = [
     OTHER as u8,
 ];
 
-// The name of row i.
-pub fn put_row(out: &mut [u8], at: usize, i: usize) -> Exported
+// The name of row i, as much as fits.
+fn put_name(out: &mut [u8], at: usize, i: usize) -> Exported
     requires { ⌜ CanPutRow i at ⌝ }
     ensures { λ r. ⌜ Formats (given (rowAt i .name)) at r (now (out .entry)) (now (out .exit)) ⌝ }
 {
@@ -67,6 +67,21 @@ pub fn put_row(out: &mut [u8], at: usize, i: usize) -> Exported
     let len = 2 * names::name_length(i);
     let end = buffer::put_at(out, at, &text[..len]);
     Exported::Written(end, false)
+}
+
+// The same; a name of two bytes at once where there is room, as lists and structs have it.
+pub fn put_row(out: &mut [u8], at: usize, i: usize) -> Exported
+    requires { ⌜ CanPutRow i at ⌝ }
+    ensures { λ r. ⌜ Formats (given (rowAt i .name)) at r (now (out .entry)) (now (out .exit)) ⌝ }
+{
+    if names::name_length(i) != 2 {
+        return put_name(out, at, i);
+    }
+    if out.len() < at + 4 {
+        return put_name(out, at, i);
+    }
+    words::put_word4(out, at, names::low_digits(i));
+    Exported::Written(at + 4, false)
 }
 
 // The format of a type that its kind and its unit tell. Where the row that is looked at is another kind's, the kind has no format in this unit.

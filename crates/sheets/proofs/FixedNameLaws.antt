@@ -16,7 +16,7 @@ use Rattle.sheets.specs.Answer.{Answer, given}
 use Rattle.sheets.specs.Kind
 use Rattle.sheets.specs.Field.{leaf, list, largeList, map, struct}
 use Rattle.sheets.specs.Format.{FormatRow, rows, rowNamed, Format, ofScalar, ofNesting, ofGrouping, cut, readOther, readFormat}
-use Rattle.sheets.specs.FixedNames.{nestedRows, fixedRows, namedFormat, startsAlike, inCell, cellOf, chosen, hasLength, comparedWith, times, isFixed, onceIfAlike}
+use Rattle.sheets.specs.FixedNames.{nestedRows, fixedRows, isNested, namedFormat, startsAlike, inCell, cellOf, chosen, hasLength, comparedWith, times, isFixed, onceIfAlike}
 use Rattle.sheets.proofs.Tests.{never, not-some, same-some, and-left, meets, same-number}
 use Rattle.sheets.proofs.BytesLaws.{same-refl, same-eq}
 
@@ -54,9 +54,6 @@ pub found-compared : (f : Bytes) → rowNamed f fixedRows ≡ rowNamed f (compar
 found-compared f = found-among f fixedRows nonempty-rows
 
 -- ── what a name says
-
-abbrev isNested : ℕ → Bool
-isNested k = eqb k Kind.List || (eqb k Kind.LargeList || (eqb k Kind.Map || eqb k Kind.Struct))
 
 -- of a type without children
 pub leaf-format : (sorted : Bool) (k u : ℕ) → isNested k ≡ false → namedFormat sorted k u ≡ ofScalar (leaf k u)

@@ -26,6 +26,10 @@ unfoldable pub fixedRows : List FormatRow
 unfolding rows nestedRows
 fixedRows = rows ++ nestedRows
 
+-- a type with children that has a fixed name
+abbrev pub isNested : ℕ → Bool
+isNested k = eqb k Kind.List || (eqb k Kind.LargeList || (eqb k Kind.Map || eqb k Kind.Struct))
+
 -- what the name of a row says: a type with children, whose map has sorted keys or not, or the type of its kind and unit
 abbrev pub namedFormat : Bool → ℕ → ℕ → Format
 namedFormat sorted k u =

@@ -1,7 +1,6 @@
 -- `named` meets its contract. The loop's invariant: the name finds what it finds among the rows from i on. The measure is how many rows are left. Assumes nothing.
-use mathlib.Core.Path.{_≡_, refl, sym, _∙_, ap, ap₂}
-use mathlib.Core.Option.{some}
-use Prim.Native.Nat.{ℕ, _-_, _≤_}
+use mathlib.Core.Path.{_≡_, refl, sym, _∙_, ap}
+use Prim.Native.Nat.{_-_, _≤_}
 use native.Mathlib.Omega.{arith}
 use lib.ListN.{drop}
 use Rattle.sheets.specs.Format.{rowNamed}
@@ -30,11 +29,11 @@ add-has-digits c = omega (arith, c .before .before .before .before .pre .fit)
 has-digits-requires : tie.Need-has-digits-requires Inv-loop μ-loop
 has-digits-requires c κs = omega (arith, c .before .before .before .before .pre .fit)
 
-add-row-at : tie.Need-add-row-at Inv-loop μ-loop
-add-row-at c = omega (arith, c .before .before .before .before .before .before .pre .fit)
+add-type-at : tie.Need-add-type-at Inv-loop μ-loop
+add-type-at c = omega (arith, c .before .before .before .before .before .before .pre .fit)
 
-row-at-requires : tie.Need-row-at-requires Inv-loop μ-loop
-row-at-requires c κs = omega (arith, c .before .before .before .before .before .before .pre .fit)
+type-at-requires : tie.Need-type-at-requires Inv-loop μ-loop
+type-at-requires c κs = omega (arith, c .before .before .before .before .before .before .pre .fit)
 
 returns : tie.Need-returns Inv-loop μ-loop
 returns c =
@@ -42,7 +41,7 @@ returns c =
     let l = c .before .before .before .before .loop in
     let h = c .before .before .before .loop-test .taken in
     let here = sym (row-same _ (st .pre) (c .before .before .before .before .before .digits-of .ensures) (l .i) h) ∙ sym (c .before .before .has-digits .ensures) ∙ c .before .if1 .taken in
-    ap₂ (λ (k u : ℕ). some (k, u)) (c .row-at .ensures .kind) (c .row-at .ensures .unit) ∙ sym (ap leafOf (l .inv .1 ∙ rows-found (st .args .row) (st .args .count) (st .pre .fit) (bytesOf (st .args .f .now)) (l .i) h here))
+    (c .type-at .ensures .0 ∙ sym (ap leafOf (l .inv .1 ∙ rows-found (st .args .row) (st .args .count) (st .pre .fit) (bytesOf (st .args .f .now)) (l .i) h here)), c .type-at .ensures .1)
 
 add-i : tie.Need-add-i Inv-loop μ-loop
 add-i c = search needs
@@ -62,7 +61,7 @@ returns-2 : tie.Need-returns-2 Inv-loop μ-loop
 returns-2 c =
     let st = c .before .before .before .before in
     let l = c .before .loop in
-    sym (ap leafOf (l .inv .1 ∙ rows-end (st .args .row) (st .args .count) (st .pre .fit) (bytesOf (st .args .f .now)) (l .i) (c .loop-test .left)))
+    (sym (ap leafOf (l .inv .1 ∙ rows-end (st .args .row) (st .args .count) (st .pre .fit) (bytesOf (st .args .f .now)) (l .i) (c .loop-test .left))), tt)
 
 pub named-spec : {M : Type 1} → statement M
 named-spec =
@@ -74,8 +73,8 @@ named-spec =
     loop-holds
     add-has-digits
     has-digits-requires
-    add-row-at
-    row-at-requires
+    add-type-at
+    type-at-requires
     returns
     add-i
     loop-less

@@ -34,71 +34,71 @@ arms =
 
 returns : tie.Need-returns
 unfolding fixedRows lowBytes bytesOf
-returns c = at-digits (c .match .keys1) (record { chosen = refl; placed = tt })
+returns c = at-digits (c .match .keys1) (record { chosen = refl; placed = refl })
 
 returns-2 : tie.Need-returns-2
 unfolding fixedRows lowBytes bytesOf
-returns-2 c = at-digits (c .match .keys2) (record { chosen = refl; placed = tt })
+returns-2 c = at-digits (c .match .keys2) (record { chosen = refl; placed = refl })
 
 returns-3 : tie.Need-returns-3
 unfolding fixedRows lowBytes bytesOf
-returns-3 c = at-digits (c .match .keys3) (record { chosen = refl; placed = tt })
+returns-3 c = at-digits (c .match .keys3) (record { chosen = refl; placed = refl })
 
 returns-4 : tie.Need-returns-4
 unfolding fixedRows lowBytes bytesOf
-returns-4 c = at-digits (c .match .keys4) (record { chosen = refl; placed = tt })
+returns-4 c = at-digits (c .match .keys4) (record { chosen = refl; placed = refl })
 
 returns-5 : tie.Need-returns-5
 unfolding fixedRows lowBytes bytesOf
-returns-5 c = at-digits (c .match .keys5) (record { chosen = refl; placed = tt })
+returns-5 c = at-digits (c .match .keys5) (record { chosen = refl; placed = refl })
 
 returns-6 : tie.Need-returns-6
 unfolding fixedRows lowBytes bytesOf
-returns-6 c = at-digits (c .match .keys6) (record { chosen = refl; placed = tt })
+returns-6 c = at-digits (c .match .keys6) (record { chosen = refl; placed = refl })
 
 returns-7 : tie.Need-returns-7
 unfolding fixedRows lowBytes bytesOf
-returns-7 c = at-digits (c .match .keys7) (record { chosen = refl; placed = tt })
+returns-7 c = at-digits (c .match .keys7) (record { chosen = refl; placed = refl })
 
 returns-8 : tie.Need-returns-8
 unfolding fixedRows lowBytes bytesOf
-returns-8 c = at-digits (c .match .keys8) (record { chosen = refl; placed = tt })
+returns-8 c = at-digits (c .match .keys8) (record { chosen = refl; placed = refl })
 
 returns-9 : tie.Need-returns-9
 unfolding fixedRows lowBytes bytesOf
-returns-9 c = at-digits (c .match .keys9) (record { chosen = refl; placed = tt })
+returns-9 c = at-digits (c .match .keys9) (record { chosen = refl; placed = refl })
 
 returns-10 : tie.Need-returns-10
 unfolding fixedRows lowBytes bytesOf
-returns-10 c = at-digits (c .match .keys10) (record { chosen = refl; placed = tt })
+returns-10 c = at-digits (c .match .keys10) (record { chosen = refl; placed = refl })
 
 returns-11 : tie.Need-returns-11
 unfolding fixedRows lowBytes bytesOf
-returns-11 c = at-digits (c .match .keys11) (record { chosen = refl; placed = tt })
+returns-11 c = at-digits (c .match .keys11) (record { chosen = refl; placed = refl })
 
 returns-12 : tie.Need-returns-12
 unfolding fixedRows lowBytes bytesOf
-returns-12 c = at-digits (c .match .keys12) (record { chosen = refl; placed = tt })
+returns-12 c = at-digits (c .match .keys12) (record { chosen = refl; placed = refl })
 
 returns-13 : tie.Need-returns-13
 unfolding fixedRows lowBytes bytesOf
-returns-13 c = at-digits (c .match .keys13) (record { chosen = refl; placed = tt })
+returns-13 c = at-digits (c .match .keys13) (record { chosen = refl; placed = refl })
 
 returns-14 : tie.Need-returns-14
 unfolding fixedRows lowBytes bytesOf
-returns-14 c = at-digits (c .match .keys14) (record { chosen = refl; placed = tt })
+returns-14 c = at-digits (c .match .keys14) (record { chosen = refl; placed = refl })
 
 returns-15 : tie.Need-returns-15
 unfolding fixedRows lowBytes bytesOf
-returns-15 c = at-digits (c .match .keys15) (record { chosen = refl; placed = tt })
+returns-15 c = at-digits (c .match .keys15) (record { chosen = refl; placed = refl })
 
 returns-16 : tie.Need-returns-16
 unfolding fixedRows lowBytes bytesOf
-returns-16 c = at-digits (c .match .keys16) (record { chosen = refl; placed = tt })
+returns-16 c = at-digits (c .match .keys16) (record { chosen = refl; placed = refl })
 
 returns-17 : tie.Need-returns-17
 unfolding fixedRows lowBytes bytesOf
-returns-17 c = at-digits (c .match .keys17) (record { chosen = refl; placed = tt })
+returns-17 c = at-digits (c .match .keys17) (record { chosen = refl; placed = refl })
 
 returns-18 : tie.Need-returns-18
 unfolding fixedRows

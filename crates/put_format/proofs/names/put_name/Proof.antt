@@ -1,12 +1,12 @@
--- `names::put_row` meets its contract: the first bytes of the two words are the name's digits. Assumes nothing.
+-- `names::put_name` meets its contract: the first bytes of the two words are the name's digits. Assumes nothing.
 use mathlib.Core.Path.{sym}
 use native.Mathlib.Omega.{arith}
 use lib.Seq.{length-take-le}
 use Rattle.format_names.proofs.NameLaws.{name-short}
 use Rattle.put_format.proofs.LeafLaws.{words-length, name-text, text-short, row-put}
 use borrow.Author.Needs.{needs}
-use Rattle.put_format.proofs.names.put_row.Statement.{statement}
-use Rattle.put_format.proofs.names.put_row.Tie as tie
+use Rattle.put_format.proofs.names.put_name.Statement.{statement}
+use Rattle.put_format.proofs.names.put_name.Tie as tie
 
 slice-aggregate-put-word8 : tie.Need-slice-aggregate-put-word8
 slice-aggregate-put-word8 c = search needs
@@ -49,8 +49,8 @@ returns c =
     let st = c .before .before .before .before .before .before .before .before .before .before .before .before .before .before .before in
     row-put (st .args .i) (st .pre .known) _ (st .args .at) _ (st .args .out .now) _ (name-text (c .before .before .before .before .before .before .before .before .before .before .before .before .before .before .before .args .i) (c .before .before .before .before .before .before .before .before .before .before .before .before .before .before .before .pre .known) (c .before .before .before .before .before .before .before .before .before .before .before .before .low-digits .ensures) (c .before .before .before .before .before .before .before .before .high-digits .ensures) (c .before .before .before .before .before .name-length .ensures) (c .before .before .before .before .before .before .before .before .before .before .before .put-word8 .ensures) (c .before .before .before .before .before .before .before .put-word82 .ensures)) (c .before .before .put-at .ensures)
 
-pub put-row-spec : {M : Type 1} → statement M
-put-row-spec =
+pub put-name-spec : {M : Type 1} → statement M
+put-name-spec =
     tie.close
     (tie.spec
     slice-aggregate-put-word8
