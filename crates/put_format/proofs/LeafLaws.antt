@@ -4,15 +4,17 @@ use mathlib.Core.Path.{_≡_, refl, sym, ap, ap₂, subst, _∙_}
 use mathlib.Core.Bool.{Bool, true, false, not, _&&_, _||_, cond, true≢false}
 use mathlib.Core.List.{List, [], _∷_, _++_}
 use mathlib.Core.Option.{Option, none, some}
-use Prim.Native.Nat.{ℕ, _+_, _*_, _<_}
+use Prim.Native.Nat.{ℕ, _+_, _*_, _≤_, _<_}
 use native.Mathlib.Omega.{arith}
-use lib.Dec.{eqb, ltb}
+use lib.Dec.{eqb, leb, ltb}
 use lib.ListN.{length, getD, take, drop, replicate}
-use borrow.Author.Tests.{eqb-true, ltb-true, eq-eqb, ne-eqb, not-true}
+use lib.Seq.{take-all}
+use borrow.Author.Tests.{eqb-true, leb-true, ltb-true, eq-eqb, ne-eqb, not-true}
 use Rattle.sheets.specs.Refusal.{noFormat}
 use Rattle.sheets.specs.Rule.{passes, Meets}
 use Rattle.sheets.specs.Bytes.{Bytes, same}
 use Rattle.sheets.specs.Text.{hex}
+use Rattle.sheets.specs.Metadata.{littleValue}
 use Rattle.sheets.specs.Answer.{Answer, refused, given, _>>=_, found}
 use Rattle.sheets.specs.Field.{leaf, hasUnit, leafRule}
 use Rattle.sheets.specs.Format.{FormatRow, rows, rowOf, scalarFormat}
@@ -23,10 +25,12 @@ use Rattle.buffer.specs.Over.{overAt, PutAt}
 use Rattle.buffer.proofs.OverLaws.{length-overAt}
 use Rattle.hex.proofs.PartLaws.{length-hex}
 use Rattle.words.specs.Words.{lowBytes}
+use Rattle.words.proofs.WordLaws.{low-is, length-low}
+use Rattle.words.proofs.DigitLaws.{hex-bytes-small}
 use Rattle.format_names.specs.Names.{tableLength, rowAt, lowDigits, highDigits}
-use Rattle.format_names.proofs.NameLaws.{name-short}
+use Rattle.format_names.proofs.NameLaws.{name-short, row-bytes}
 use Rattle.column_text.specs.ColumnText.{hasZero}
-use Rattle.put_format.specs.Formats.{Formats}
+use Rattle.put_format.specs.Formats.{Formats, isWord}
 use Rattle.put_format.specs.declared.Exported.{Exported}
 use Rattle.put_format.specs.declared.Exported.the-variants.{Written}
 
@@ -108,6 +112,20 @@ pub name-clean : (i : ℕ) → i < tableLength → hasZero (rowAt i .name) ≡ f
 unfolding rowAt
 name-clean i h = not-true (hasZero (rowAt i .name)) (at-each tableLength nameTest (meets (every tableLength nameTest) refl) i h)
 
+-- ── a name of two bytes with room
+
+pub word-known : (room at i : ℕ) → isWord room at i ≡ true → (2 ≡ length (rowAt i .name)) × (at + 4 ≤ room)
+word-known room at i h = (
+  sym (eqb-true (length (rowAt i .name)) 2 (and-left (eqb (length (rowAt i .name)) 2) (leb (at + 4) room) h)),
+  leb-true (at + 4) room (and-right (eqb (length (rowAt i .name)) 2) (leb (at + 4) room) h),
+)
+
+pub no-word : (room at i n : ℕ) → n ≡ length (rowAt i .name) → (n ≡ 2 → ⊥) → false ≡ isWord room at i
+no-word room at i n e h = rw (ne-eqb (length (rowAt i .name)) 2 (λ x. h (e ∙ x)))
+
+pub word-fits : (room at i n : ℕ) → n ≡ length (rowAt i .name) → n ≡ 2 → leb (at + 4) room ≡ isWord room at i
+word-fits room at i n e h = rw (eq-eqb (length (rowAt i .name)) 2 (sym e ∙ h))
+
 -- ── a name's digits in a buffer of 16 bytes
 
 -- two words, one after the other
@@ -139,6 +157,16 @@ module _ (i : ℕ) (h : i < tableLength) where
   pub row-put : (t : Bytes) (at r : ℕ) (old out : Bytes) → t ≡ hex (rowAt i .name) → PutAt at t r old out → Formats (given (rowAt i .name)) at (Written r false) old out
   row-put t at r old out e k =
       (ap₂ (λ (x : ℕ) (z : Bool). given (x, z)) (k .0 ∙ ap (λ (b : Bytes). at + length b) e) (sym (name-clean i h)), k .1 ∙ ap (λ (b : Bytes). overAt at b old) e)
+
+  -- a name of two bytes, by one word
+  pub two-bytes-put : (low at : ℕ) (old out : Bytes) → 2 ≡ length (rowAt i .name) → low ≡ lowDigits (hex (rowAt i .name)) → out ≡ overAt at (lowBytes 4 low) old
+      → Formats (given (rowAt i .name)) at (Written (at + 4) false) old out
+  two-bytes-put low at old out n e p =
+      let h4 = hex (rowAt i .name) in
+      let four : length h4 ≡ 4 = length-hex (rowAt i .name) ∙ ap (λ (k : ℕ). 2 * k) (sym n) in
+      let whole : take 8 h4 ≡ h4 = take-all 8 h4 (omega arith) in
+      let text : lowBytes 4 low ≡ h4 = ap (λ (k : ℕ). lowBytes k low) (sym four) ∙ low-is h4 low (hex-bytes-small (rowAt i .name) (row-bytes i)) (ap littleValue (sym whole) ∙ sym e) in
+      row-put (lowBytes 4 low) at (at + 4) old out text (ap (λ (k : ℕ). at + k) (sym (length-low 4 low)), p)
 
   -- there are at most 14
   pub text-short : {t : Bytes} → t ≡ hex (rowAt i .name) → length t < 16

@@ -1,7 +1,8 @@
 -- What the writers of a format answer and leave in the buffer. Assumes nothing.
 use mathlib.Core.Path.{_≡_}
-use mathlib.Core.Bool.{Bool, false}
+use mathlib.Core.Bool.{Bool, false, _&&_}
 use Prim.Native.Nat.{ℕ, _+_, _<_, _^_}
+use lib.Dec.{eqb, leb}
 use lib.ListN.{length}
 use Rattle.sheets.specs.Rule.{Meets}
 use Rattle.sheets.specs.Bytes.{Bytes}
@@ -10,7 +11,7 @@ use Rattle.sheets.specs.Text.{hex}
 use Rattle.sheets.specs.Field.{leafRule}
 use Rattle.refusal.specs.Refusals.{refusalOf}
 use Rattle.buffer.specs.Over.{overAt}
-use Rattle.format_names.specs.Names.{tableLength}
+use Rattle.format_names.specs.Names.{tableLength, rowAt}
 use Rattle.column_text.specs.ColumnText.{hasZero}
 use Rattle.put_format.specs.declared.Exported.{Exported}
 use Rattle.put_format.specs.declared.Exported.the-variants.{Written, Refused}
@@ -43,6 +44,10 @@ pub record CanPutName (name : Bytes) (at : ℕ) : Type 0 where
 pub record CanPutRow (i at : ℕ) : Type 0 where
   pub known : i < tableLength
   pub low : at < 2 ^ 62
+
+-- the name of row i has two bytes, and there is room for its digits
+abbrev pub isWord : ℕ → ℕ → ℕ → Bool
+isWord room at i = eqb (length (rowAt i .name)) 2 && leb (at + 4) room
 
 pub record CanPutLeaf (kind unit at : ℕ) : Type 0 where
   pub rule : Meets (leafRule kind unit)

@@ -1,9 +1,10 @@
 // The fixed names of formats in hexadecimal, from the table that import reads.
+ghost use mathlib.Core.Path.{_≡_};
 ghost use Rattle.sheets.specs.Answer.{given};
 ghost use Rattle.sheets.specs.Field.{leaf};
 ghost use Rattle.sheets.specs.Format.{scalarFormat};
 ghost use Rattle.format_names.specs.Names.{rowAt};
-ghost use Rattle.put_format.specs.Formats.{Formats, CanPutRow, CanPutLeaf};
+ghost use Rattle.put_format.specs.Formats.{Formats, CanPutRow, isWord, CanPutLeaf};
 use crate::Exported;
 use format_names::names;
 use refusal::Refusal;
@@ -56,32 +57,32 @@ const FIRST_ROWS: [u8; 41] = [
     OTHER as u8,
 ];
 
-// The name of row i, as much as fits.
-fn put_name(out: &mut [u8], at: usize, i: usize) -> Exported
+// Whether the name of row i has two bytes, as those of lists and structs have, and its four digits fit.
+fn is_word(room: usize, at: usize, i: usize) -> bool
+    requires { ⌜ CanPutRow i at ⌝ }
+    ensures { λ r. ⌜ r ≡ isWord room at i ⌝ }
+{
+    if names::name_length(i) != 2 {
+        return false;
+    }
+    at + 4 <= room
+}
+
+// The name of row i, as much as fits; four digits at once.
+pub fn put_row(out: &mut [u8], at: usize, i: usize) -> Exported
     requires { ⌜ CanPutRow i at ⌝ }
     ensures { λ r. ⌜ Formats (given (rowAt i .name)) at r (now (out .entry)) (now (out .exit)) ⌝ }
 {
+    if is_word(out.len(), at, i) {
+        words::put_word4(out, at, names::low_digits(i));
+        return Exported::Written(at + 4, false);
+    }
     let mut text = [0u8; 16];
     words::put_word8(&mut text, 0, names::low_digits(i));
     words::put_word8(&mut text, 8, names::high_digits(i));
     let len = 2 * names::name_length(i);
     let end = buffer::put_at(out, at, &text[..len]);
     Exported::Written(end, false)
-}
-
-// The same; a name of two bytes at once where there is room, as lists and structs have it.
-pub fn put_row(out: &mut [u8], at: usize, i: usize) -> Exported
-    requires { ⌜ CanPutRow i at ⌝ }
-    ensures { λ r. ⌜ Formats (given (rowAt i .name)) at r (now (out .entry)) (now (out .exit)) ⌝ }
-{
-    if names::name_length(i) != 2 {
-        return put_name(out, at, i);
-    }
-    if out.len() < at + 4 {
-        return put_name(out, at, i);
-    }
-    words::put_word4(out, at, names::low_digits(i));
-    Exported::Written(at + 4, false)
 }
 
 // The format of a type that its kind and its unit tell. Where the row that is looked at is another kind's, the kind has no format in this unit.
