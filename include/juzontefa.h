@@ -62,8 +62,8 @@ enum juzontefa_refusal {
 #define JUZONTEFA_MAPPING_ROOM(n) JUZONTEFA_SHEET(n) /* of the five mappings that answer a sheet */
 #define JUZONTEFA_CONVERTED_ROOM 69 /* of the two conversions: heading and line of Decimal256, `36 32 32 ~ ~ ~ ~ ~ 0` */
 
-/* Bytes of stack to reserve for a call: what the greatest call used, a round trip's 60,136 bytes (measured by host/stack, x86-64; not proved), with
- * a margin of a third. Import's greatest was 59,992; of the others none used more than 19,704. */
+/* Bytes of stack to reserve for a call: what the greatest call used, a round trip's 59,624 bytes (measured by host/stack, x86-64; not proved), with
+ * a margin of a third. Import's greatest was 59,480; of the others none used more than 19,704. */
 #define JUZONTEFA_STACK 81920
 
 /* By value, in two registers. */
