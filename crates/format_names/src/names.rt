@@ -11,7 +11,7 @@ use words::hex_digits::pair_of;
 use words::hex_digits::three_pairs;
 use words::hex_digits::two_pairs;
 
-// The rows of the table by their types; of a type with units the row of the first unit that has a name.
+// The rows of the table by their types; of a type with units the row of its first unit.
 pub const NULL: usize = 0;
 
 pub const BOOLEAN: usize = 1;
@@ -55,8 +55,6 @@ pub const DATE32: usize = 19;
 pub const DATE64: usize = 20;
 
 pub const TIME32: usize = 21;
-
-pub const TIME64: usize = 23;
 
 pub const DURATION: usize = 25;
 
