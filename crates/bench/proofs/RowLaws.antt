@@ -1,7 +1,7 @@
 -- What is printed of a row's sheet has the number that the table wants: by the table's one proof, and since no answer in it is longer than the buffer.
 -- Assumes nothing.
 use mathlib.Core.Path.{_≡_, refl, sym, ap, _∙_}
-use mathlib.Core.Bool.{true}
+use mathlib.Core.Bool.{true, false}
 use mathlib.Core.List.{List, [], _∷_}
 use Prim.Native.Nat.{ℕ, zero, suc, _≤_}
 use native.Mathlib.Omega.{arith}
@@ -18,7 +18,7 @@ use Rattle.print_import.specs.Printed.{bufferSize, printedNumber}
 use Rattle.bench.specs.Rows.{rowAt, IsRow}
 
 abbrev none : Case
-none = record { call = imported; sheet = []; wanted = (1, []) }
+none = record { call = imported false; sheet = []; wanted = (1, []) }
 
 -- the table's proof, at a row
 row-right : (k : ℕ) → got (rowAt k) ≡ rowAt k .wanted
@@ -39,9 +39,9 @@ number-of (given x) out w e l =
     let long : length x ≡ length (w .1) = ap (λ (v : Answered). length (v .1)) e in
     rw (le-leb (length x) (length out) (omega arith)) (ap (λ (v : Answered). v .0) e)
 
-pub row-number : (k : ℕ) (sheet : Bytes) → IsRow k sheet → printedNumber sheet ≡ rowAt k .wanted .0
+pub row-number : (k : ℕ) (sheet : Bytes) → IsRow k sheet → printedNumber false sheet ≡ rowAt k .wanted .0
 unfolding printedNumber
 row-number k sheet h =
     let short = leb-true (length (rowAt k .wanted .1)) bufferSize (short-at cases k (meets (each (λ c. is (leb (length (c .wanted .1)) bufferSize)) cases) refl)) in
-    let answers : numbered (imported sheet) ≡ got (rowAt k) = ap (λ (b : Bytes). numbered (imported b)) (h .is) ∙ ap (λ (f : Bytes → Answer Bytes). numbered (f (rowAt k .sheet))) (sym (h .imports)) in
-    number-of (imported sheet) (replicate bufferSize 0) (rowAt k .wanted) (answers ∙ row-right k) (omega (arith, length-replicate {A = ℕ} bufferSize 0))
+    let answers : numbered (imported false sheet) ≡ got (rowAt k) = ap (λ (b : Bytes). numbered (imported false b)) (h .is) ∙ ap (λ (f : Bytes → Answer Bytes). numbered (f (rowAt k .sheet))) (sym (h .imports)) in
+    number-of (imported false sheet) (replicate bufferSize 0) (rowAt k .wanted) (answers ∙ row-right k) (omega (arith, length-replicate {A = ℕ} bufferSize 0))

@@ -8,7 +8,7 @@ fn case(row: usize, sheet: &[u8]) -> u8
     requires { ⌜ IsRow row (now sheet) ⌝ }
     ensures { λ r. ⌜ r ≡ rowAt row .wanted .0 ⌝ }
 {
-    print_import::print_import(sheet)
+    print_import::print_import(sheet, false)
 }
 
 fn flags_and_sizes() {

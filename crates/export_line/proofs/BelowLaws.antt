@@ -57,7 +57,7 @@ use Rattle.export_line.proofs.StepLaws.{isDictionary, dictionary-kind, 
 -- ── a field
 
 -- a field at `tree`: its first line, and the line of its type in all extensions
-module _ {s : Bytes} (tree : Subtree) {i : Option Info} {t : ArrowDataType} {es : List Entry} (f : TypeAt s (tree .at) (tree .levels) (tree .inside) i t es)
+module _ (big : Bool) {s : Bytes} (tree : Subtree) {i : Option Info} {t : ArrowDataType} {es : List Entry} (f : TypeAt s (tree .at) (tree .levels) (tree .inside) i t es)
     (first : FieldLine) (a : FieldLineAt s (tree .at) first) {v : StorageLine} (g : StorageAt s tree t es v) (alone : Bool) (is : alone ≡ isAlone (first .kind) (v .line .kind)) where
   abbrev l : FieldLine
   l = v .line
@@ -131,15 +131,15 @@ module _ {s : Bytes} (tree : Subtree) {i : Option Info} {t : ArrowDataType} {es 
   -- ── the columns
 
   abbrev numbers : LineNumbers
-  numbers = numbersOf (info .nullable) (isDictionary inner && isSome around) (columns inner .kind) (columns inner .p) (columns inner .q) (typeCount (toStorage t))
+  numbers = numbersOf (info .nullable) (isDictionary inner && isSome around) (columns inner .kind) (columns inner .p) (columns inner .q) (typeCount (toStorage t)) big
 
-  numbers-are : numbersOf (first .bare || first .nullable) alone (l .kind) (l .p) (l .q) (l .children) ≡ numbers
+  numbers-are : numbersOf (first .bare || first .nullable) alone (l .kind) (l .p) (l .q) (l .children) big ≡ numbers
   numbers-are =
       let b : (first .bare || first .nullable) ≡ info .nullable = ap₂ _||_ (shown .bare) (shown .nullable) ∙ nullable-is i in
-      λ j. numbersOf (b j) (alone-is j) (kind-is j) (p-is j) (q-is j) (count-is j)
+      λ j. numbersOf (b j) (alone-is j) (kind-is j) (p-is j) (q-is j) (count-is j) big
 
-  abbrev wrote : WrittenType (toStorage t) info around numbers
-  wrote = written info (toStorage t) (Storage.storage-plain t) inner-rule around
+  abbrev wrote : WrittenType big (toStorage t) info around numbers
+  wrote = written big info (toStorage t) (Storage.storage-plain t) inner-rule around
 
   text-at : PartAt s (l .text) (columns inner .text)
   text-at = subst (λ (h : Shape). PartAt s (l .text) (columns h .text)) (sym shape-is) (g .line .shows .text)
@@ -187,7 +187,7 @@ module _ {s : Bytes} (tree : Subtree) {i : Option Info} {t : ArrowDataType} {es 
         metadata = part-text (f .short) (extensionMore (typeShape t)) more-at (r .1);
       }
 
-  pub can-put : (c : LineColumns) (n : LineNumbers) → c ≡ columnsFrom first l → n ≡ numbersOf (first .bare || first .nullable) alone (l .kind) (l .p) (l .q) (l .children)
+  pub can-put : (c : LineColumns) (n : LineNumbers) → c ≡ columnsFrom first l → n ≡ numbersOf (first .bare || first .nullable) alone (l .kind) (l .p) (l .q) (l .children) big
       → CanPutLine s c n
   can-put c n e d =
       subst (λ (y : LineColumns). CanPutLine s y n) (sym e) (subst (λ (y : LineNumbers). CanPutLine s (columnsFrom first l) y) (sym (d ∙ numbers-are))
@@ -204,7 +204,7 @@ module _ {s : Bytes} (tree : Subtree) {i : Option Info} {t : ArrowDataType} {es 
 
   abbrev ownLine : Bytes → Bytes
   ownLine h =
-      schemaLine .write (lineOf (record { format = some h; name = some (info .name); flags = pos (flag (info .nullable) NULLABLE + shapeFlags (wrote .shape)); metadata = schemaMetadata (info .pairs) around }) (wrote .children) (wrote .values))
+      schemaLine .write (lineOf (record { format = some h; name = some (info .name); flags = pos (flag (info .nullable) NULLABLE + shapeFlags (wrote .shape)); metadata = schemaMetadata big (info .pairs) around }) (wrote .children) (wrote .values))
 
   abbrev lineOut : Bytes → Bytes
   lineOut = lineText numbers (infoColumns i .0) (infoColumns i .1 .1) (writeText (extensionName (typeShape t))) (writeText (extensionMore (typeShape t)))
@@ -242,7 +242,7 @@ module _ {s : Bytes} (tree : Subtree) {i : Option Info} {t : ArrowDataType} {es 
   line-is h =
       let r = extension-rules (typeShape t) (own-rules .1) in
       line-said i (own-rules .0) (extensionName (typeShape t)) (extensionMore (typeShape t)) (r .0) (r .1) numbers h
-      ∙ λ j. schemaLine .write (lineOf (record { format = some h; name = some (info .name); flags = pos (flags-are j); metadata = schemaMetadata (info .pairs) (extension-said (typeShape t) j) }) (wrote .is j .children) (wrote .is j .dictionary)) ++ (lineEnd ∷ [])
+      ∙ λ j. schemaLine .write (lineOf (record { format = some h; name = some (info .name); flags = pos (flags-are j); metadata = schemaMetadata (wrote .is j .big) (info .pairs) (extension-said (typeShape t) j) }) (wrote .is j .children) (wrote .is j .dictionary)) ++ (lineEnd ∷ [])
 
   -- ── the walk
 
@@ -250,7 +250,7 @@ module _ {s : Bytes} (tree : Subtree) {i : Option Info} {t : ArrowDataType} {es 
   format = lineFormat (numbers .kind) (numbers .p) (numbers .q) (columns inner .text) (numbers .children)
 
   abbrev stepOf : Bytes → Step (Option Bearer)
-  stepOf h = writes (schemaOwn info around h (shapeFlags (wrote .shape)) (wrote .children) (wrote .values)) (wrote .below)
+  stepOf h = writes (schemaOwn big info around h (shapeFlags (wrote .shape)) (wrote .children) (wrote .values)) (wrote .below)
 
   format-is : shapeFormat (wrote .shape) (wrote .children) ≡ format
   format-is =
@@ -259,43 +259,43 @@ module _ {s : Bytes} (tree : Subtree) {i : Option Info} {t : ArrowDataType} {es 
       ∙ ap (λ (y : Bytes). lineFormat (columns w .kind) (columns w .p) (columns w .q) y (wrote .children)) (wrote .text)
       ∙ ap (λ (k : LineNumbers). lineFormat (k .kind) (k .p) (k .q) (columns inner .text) (k .children)) (sym (wrote .is))
 
-  opened : (y : Answer Bytes) → format ≡ y → typeWalk schemaStep t i none ≡ lineWritten (y >>= λ h. given (stepOf h)) (λ τ. rowWalk schemaStep below τ) (entryLines below)
+  opened : (y : Answer Bytes) → format ≡ y → typeWalk (schemaStep big) t i none ≡ lineWritten (y >>= λ h. given (stepOf h)) (λ τ. rowWalk (schemaStep big) below τ) (entryLines below)
   opened y e =
-      export-opened t i
-      ∙ ap (λ (x : Answer (Step (Option Bearer))). lineWritten x (λ τ. rowWalk schemaStep below τ) (entryLines below)) (wrote .step ∙ ap (λ (x : Answer Bytes). x >>= λ h. given (stepOf h)) (format-is ∙ e))
+      export-opened big t i
+      ∙ ap (λ (x : Answer (Step (Option Bearer))). lineWritten x (λ τ. rowWalk (schemaStep big) below τ) (entryLines below)) (wrote .step ∙ ap (λ (x : Answer Bytes). x >>= λ h. given (stepOf h)) (format-is ∙ e))
 
   module _ (w : Subtrees) (left : RowLeft s tree l alone w) (old out : Bytes) where
     -- the line is written
     begun : (h : Bytes) → format ≡ given h → (len : ℕ) (pending : Answer (Unit {0})) → Owns (stepOf h .own) pending len old out → len ≤ ownLimit
-        → Begins schemaStep s (tree .at) (tree .levels) (tree .inside) (typeWalk schemaStep t i none) es old out
+        → Begins (schemaStep big) s (tree .at) (tree .levels) (tree .inside) (typeWalk (schemaStep big) t i none) es old out
         (record { from = w .at; count = w .count; levels = w .levels; inside = w .inside; state = none; len = len; pending = pending })
     begun h e len pending owns short =
-        Storage.begun tree f g schemaStep none (typeWalk schemaStep t i none) (stepOf h) (opened (given h) e) (isDictionary inner && isSome around) w (subst (λ (b : Bool). RowLeft s tree l b w) alone-is left) old out len pending owns short (wrote .left)
+        Storage.begun tree f g (schemaStep big) none (typeWalk (schemaStep big) t i none) (stepOf h) (opened (given h) e) (isDictionary inner && isSome around) w (subst (λ (b : Bool). RowLeft s tree l b w) alone-is left) old out len pending owns short (wrote .left)
 
     -- what was written, or why nothing was
     told : (r : Exported) → At (λ text name pairs extension more. PutsColumns numbers text name pairs extension more r old out)
-        → BeginsAs schemaStep s (tree .at) (tree .levels) (tree .inside) (typeWalk schemaStep t i none) es old out (begunWith w (exportedAnswer r))
+        → BeginsAs (schemaStep big) s (tree .at) (tree .levels) (tree .inside) (typeWalk (schemaStep big) t i none) es old out (begunWith w (exportedAnswer r))
     told r p = go format refl p
       where
         go : (y : Answer Bytes) → format ≡ y → PutsLine y (infoColumns i .0) lineOut r old out
-            → BeginsAs schemaStep s (tree .at) (tree .levels) (tree .inside) (typeWalk schemaStep t i none) es old out (begunWith w (exportedAnswer r))
+            → BeginsAs (schemaStep big) s (tree .at) (tree .levels) (tree .inside) (typeWalk (schemaStep big) t i none) es old out (begunWith w (exportedAnswer r))
         go (refused q) e k =
-            subst (λ (z : Answer (ℕ × Bool)). BeginsAs schemaStep s (tree .at) (tree .levels) (tree .inside) (typeWalk schemaStep t i none) es old out (begunWith w z)) (sym (k .0)) (opened (refused q) e)
+            subst (λ (z : Answer (ℕ × Bool)). BeginsAs (schemaStep big) s (tree .at) (tree .levels) (tree .inside) (typeWalk (schemaStep big) t i none) es old out (begunWith w z)) (sym (k .0)) (opened (refused q) e)
         go (given h) e k =
             let zeros : (hasZero h || hasZero (nodeName (infoColumns i .0))) ≡ (not (passes (lacks 0 h)) || not (passes (lacks 0 (info .name)))) =
             ap (λ (y : Bytes). hasZero h || hasZero y) (name-is i (own-rules .0)) in
             let own : Owns (stepOf h .own) (zeroPending (hasZero h || hasZero (nodeName (infoColumns i .0)))) (length (lineOut h)) old out =
             subst (λ (z : Bool). Owns (stepOf h .own) (zeroPending z) (length (lineOut h)) old out) (sym zeros)
             (own-put (passes (lacks 0 (info .name))) (passes (lacks 0 h)) (ownLine h) (length (lineOut h)) old out (ap length (line-is h), k .1 ∙ ap (λ (y : Bytes). over y old) (line-is h))) in
-            subst (λ (z : Answer (ℕ × Bool)). BeginsAs schemaStep s (tree .at) (tree .levels) (tree .inside) (typeWalk schemaStep t i none) es old out (begunWith w z)) (sym (k .0))
+            subst (λ (z : Answer (ℕ × Bool)). BeginsAs (schemaStep big) s (tree .at) (tree .levels) (tree .inside) (typeWalk (schemaStep big) t i none) es old out (begunWith w z)) (sym (k .0))
             (begun h e (length (lineOut h)) (zeroPending (hasZero h || hasZero (nodeName (infoColumns i .0)))) own (line-low h e))
 
     -- the same by the parts of the sheet and by what is answered
-    pub begins : (c : LineColumns) (n : LineNumbers) → c ≡ columnsFrom first l → n ≡ numbersOf (first .bare || first .nullable) alone (l .kind) (l .p) (l .q) (l .children)
+    pub begins : (c : LineColumns) (n : LineNumbers) → c ≡ columnsFrom first l → n ≡ numbersOf (first .bare || first .nullable) alone (l .kind) (l .p) (l .q) (l .children) big
         → (r : Exported) → LinePut s c n r old out → (z : LineBegun) → begunAnswer (λ (levels : ℕ) (inside : Bool). none) z ≡ begunWith w (exportedAnswer r)
-        → BeginsAs schemaStep s (tree .at) (tree .levels) (tree .inside) (typeWalk schemaStep t i none) es old out (begunAnswer (λ (levels : ℕ) (inside : Bool). none) z)
+        → BeginsAs (schemaStep big) s (tree .at) (tree .levels) (tree .inside) (typeWalk (schemaStep big) t i none) es old out (begunAnswer (λ (levels : ℕ) (inside : Bool). none) z)
     begins c n e d r p z k =
-        subst (BeginsAs schemaStep s (tree .at) (tree .levels) (tree .inside) (typeWalk schemaStep t i none) es old out) (sym k)
+        subst (BeginsAs (schemaStep big) s (tree .at) (tree .levels) (tree .inside) (typeWalk (schemaStep big) t i none) es old out) (sym k)
         (told r
         (moved (λ text name pairs extension more. PutsColumns numbers text name pairs extension more r old out) (text-at .is) (shown .name .is) (shown .pairs .is) (extension-at .is) (more-at .is)
         (subst (λ (y : LineNumbers). LinePut s (columnsFrom first l) y r old out) (d ∙ numbers-are) (subst (λ (y : LineColumns). LinePut s y n r old out) e p))))

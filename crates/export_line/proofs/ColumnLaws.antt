@@ -160,6 +160,6 @@ module _ (w : Shape) (plain : isExtension w ≡ false) (rule : Meets (shapeRule 
 -- of a field's node, with its byte 10
 pub line-said : (i : Option Info) → Meets (ownRule i) → (x m : Option Bytes) → Meets (textRule x) → Meets (textRule m) → (n : LineNumbers) (f : Bytes)
     → lineText n (infoColumns i .0) (infoColumns i .1 .1) (writeText x) (writeText m) f
-    ≡ schemaLine .write (lineOf (record { format = some f; name = some (orValues i .name); flags = pos (n .flags); metadata = schemaMetadata (orValues i .pairs) (extensionOf x m) }) (n .children) (n .dictionary)) ++ (lineEnd ∷ [])
+    ≡ schemaLine .write (lineOf (record { format = some f; name = some (orValues i .name); flags = pos (n .flags); metadata = schemaMetadata (n .big) (orValues i .pairs) (extensionOf x m) }) (n .children) (n .dictionary)) ++ (lineEnd ∷ [])
 line-said none h x m k l n f = bare-line x m n f k l
 line-said (some i) h x m k l n f = node-line x m n f k l i h

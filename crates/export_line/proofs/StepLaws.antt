@@ -74,7 +74,7 @@ extended (ofExtension a m) = refl
 -- ── the step
 
 -- the type that is written for the type v, under the extension e, and its step
-pub record WrittenType (v : ArrowDataType) (i : Info) (e : Option Extension) (n : LineNumbers) : Type 0 where
+pub record WrittenType (big : Bool) (v : ArrowDataType) (i : Info) (e : Option Extension) (n : LineNumbers) : Type 0 where
   pub shape : Shape
   pub children : ℕ
   pub values : ℕ
@@ -82,23 +82,23 @@ pub record WrittenType (v : ArrowDataType) (i : Info) (e : Option Extension) (n 
   pub plain : isExtension shape ≡ false
   pub rule : Meets (shapeRule shape)
   pub text : columns shape .text ≡ columns (typeShape v) .text
-  pub is : n ≡ numbersWith (i .nullable) (columns shape .kind) (columns shape .p) (columns shape .q) children values
+  pub is : n ≡ numbersWith (i .nullable) (columns shape .kind) (columns shape .p) (columns shape .q) children values big
   pub few : children ≤ typeCount v
   pub one : values ≤ 1
-  pub step : schemaStepOf (typeShape v) (typeCount v) i e ≡ (shapeFormat shape children >>= λ f. given (writes (schemaOwn i e f (shapeFlags shape) children values) below))
+  pub step : schemaStepOf big (typeShape v) (typeCount v) i e ≡ (shapeFormat shape children >>= λ f. given (writes (schemaOwn big i e f (shapeFlags shape) children values) below))
   pub left : Leaves {S = Option Bearer} none (typeBelow v) below (isDictionary (typeShape v) && isSome e)
 
-module _ (i : Info) where
+module _ (big : Bool) (i : Info) where
   abbrev numbersFor : ArrowDataType → Option Extension → LineNumbers
   numbersFor v e =
-      numbersOf (i .nullable) (isDictionary (typeShape v) && isSome e) (columns (typeShape v) .kind) (columns (typeShape v) .p) (columns (typeShape v) .q) (typeCount v)
+      numbersOf (i .nullable) (isDictionary (typeShape v) && isSome e) (columns (typeShape v) .kind) (columns (typeShape v) .p) (columns (typeShape v) .q) (typeCount v) big
 
   -- no dictionary
-  other : (s : Shape) → Meets (shapeRule s) → isDictionary s ≡ false → (n : ℕ) → numbersOf (i .nullable) false (columns s .kind) (columns s .p) (columns s .q) n ≡ numbersWith (i .nullable) (columns s .kind) (columns s .p) (columns s .q) n 0
+  other : (s : Shape) → Meets (shapeRule s) → isDictionary s ≡ false → (n : ℕ) → numbersOf (i .nullable) false (columns s .kind) (columns s .p) (columns s .q) n big ≡ numbersWith (i .nullable) (columns s .kind) (columns s .p) (columns s .q) n 0 big
   other s h d n =
-      ap (λ (b : Bool). cond b (numbersWith (i .nullable) (columns s .kind) (columns s .p) (columns s .q) 0 1) (numbersWith (i .nullable) (columns s .kind) (columns s .p) (columns s .q) n 0)) (dictionary-kind s h ∙ d)
+      ap (λ (b : Bool). cond b (numbersWith (i .nullable) (columns s .kind) (columns s .p) (columns s .q) 0 1 big) (numbersWith (i .nullable) (columns s .kind) (columns s .p) (columns s .q) n 0 big)) (dictionary-kind s h ∙ d)
 
-  pub written : (v : ArrowDataType) → isExtension (typeShape v) ≡ false → Meets (shapeRule (typeShape v)) → (e : Option Extension) → WrittenType v i e (numbersFor v e)
+  pub written : (v : ArrowDataType) → isExtension (typeShape v) ≡ false → Meets (shapeRule (typeShape v)) → (e : Option Extension) → WrittenType big v i e (numbersFor v e)
   written (scalar s) p h e =
       record { shape = ofScalar s; children = 0; values = 0; below = skip; plain = refl; rule = h; text = refl; is = other (ofScalar s) h refl 0; few = omega arith; one = omega arith; step = refl; left = nothing refl refl refl }
   written (nested n j t) p h e =

@@ -36,16 +36,16 @@ columnsFrom first l =
       more = first .more;
     }
 
-abbrev pub numbersWith : Bool → ℕ → ℕ → ℕ → ℕ → ℕ → LineNumbers
-numbersWith nullable kind p q children dictionary =
-    record { kind = kind; p = p; q = q; flags = lineFlags nullable kind p q; children = children; dictionary = dictionary }
+abbrev pub numbersWith : Bool → ℕ → ℕ → ℕ → ℕ → ℕ → Bool → LineNumbers
+numbersWith nullable kind p q children dictionary big =
+    record { kind = kind; p = p; q = q; flags = lineFlags nullable kind p q; children = children; dictionary = dictionary; big = big }
 
 -- an index type alone is a type of its own; a dictionary's values are no child of it
-abbrev pub numbersOf : Bool → Bool → ℕ → ℕ → ℕ → ℕ → LineNumbers
-numbersOf nullable alone kind p q children =
-    cond alone (numbersWith nullable (p + Kind.Int8) 0 0 0 0)
-    (cond (eqb kind Kind.Dictionary) (numbersWith nullable kind p q 0 1)
-    (numbersWith nullable kind p q children 0))
+abbrev pub numbersOf : Bool → Bool → ℕ → ℕ → ℕ → ℕ → Bool → LineNumbers
+numbersOf nullable alone kind p q children big =
+    cond alone (numbersWith nullable (p + Kind.Int8) 0 0 0 0 big)
+    (cond (eqb kind Kind.Dictionary) (numbersWith nullable kind p q 0 1 big)
+    (numbersWith nullable kind p q children 0 big))
 
 -- ── what is left
 
@@ -60,5 +60,5 @@ begunWith w (given (len, zero)) =
     given (record { from = w .at; count = w .count; levels = w .levels; inside = w .inside; state = none; len = len; pending = zeroPending zero })
 
 -- what export writes for the field at `tree`, and what is left below; no line is visited in a state
-abbrev pub ExportBegins : Bytes → Subtree → Bytes → Bytes → LineBegun → Type 0
-ExportBegins s t out out' r = TypeBegins schemaStep s (t .at) (t .levels) (t .inside) none out out' (begunAnswer (λ (levels : ℕ) (inside : Bool). none) r)
+abbrev pub ExportBegins : Bool → Bytes → Subtree → Bytes → Bytes → LineBegun → Type 0
+ExportBegins big s t out out' r = TypeBegins (schemaStep big) s (t .at) (t .levels) (t .inside) none out out' (begunAnswer (λ (levels : ℕ) (inside : Bool). none) r)

@@ -64,8 +64,9 @@ fn numbers_with(
     q: u64,
     children: u64,
     dictionary: u64,
+    big: bool,
 ) -> LineNumbers
-    ensures { λ r. ⌜ r ≡ numbersWith nullable kind p q children dictionary ⌝ }
+    ensures { λ r. ⌜ r ≡ numbersWith nullable kind p q children dictionary big ⌝ }
 {
     LineNumbers {
         kind,
@@ -74,21 +75,22 @@ fn numbers_with(
         flags: put_schema_line::line_flags(nullable, kind, p, q),
         children,
         dictionary,
+        big,
     }
 }
 
 // The integer types stand in `ArrowDataType` in the order of `IntegerType`.
-fn line_numbers(nullable: bool, alone: bool, l: FieldLine) -> LineNumbers
+fn line_numbers(nullable: bool, alone: bool, l: FieldLine, big: bool) -> LineNumbers
     requires { ⌜ (alone ≡ true → l .p < 10) ⌝ }
-    ensures { λ r. ⌜ r ≡ numbersOf nullable alone (l .kind) (l .p) (l .q) (l .children) ⌝ }
+    ensures { λ r. ⌜ r ≡ numbersOf nullable alone (l .kind) (l .p) (l .q) (l .children) big ⌝ }
 {
     if alone {
-        return numbers_with(nullable, l.p + kind::INT8, 0, 0, 0, 0);
+        return numbers_with(nullable, l.p + kind::INT8, 0, 0, 0, 0, big);
     }
     if l.kind == kind::DICTIONARY {
-        return numbers_with(nullable, l.kind, l.p, l.q, 0, 1);
+        return numbers_with(nullable, l.kind, l.p, l.q, 0, 1, big);
     }
-    numbers_with(nullable, l.kind, l.p, l.q, l.children, 0)
+    numbers_with(nullable, l.kind, l.p, l.q, l.children, 0, big)
 }
 
 fn pending_of(zero: bool) -> Pending
@@ -111,9 +113,9 @@ fn line_begun(row: Subtrees, line: Exported) -> LineBegun
 }
 
 // Writes the schema line of the field at `tree.at`, as much as fits. The bare line of a dictionary's values is nullable.
-pub fn begin_export(s: &[u8], tree: Subtree, out: &mut [u8]) -> LineBegun
+pub fn begin_export(s: &[u8], tree: Subtree, big: bool, out: &mut [u8]) -> LineBegun
     requires { ⌜ HasType (now s) (tree .at) (tree .levels) (tree .inside) ⌝ }
-    ensures { λ r. ⌜ ExportBegins (now (s .entry)) tree (now (out .entry)) (now (out .exit)) r ⌝ }
+    ensures { λ r. ⌜ ExportBegins big (now (s .entry)) tree (now (out .entry)) (now (out .exit)) r ⌝ }
 {
     let first = read_field_line::field_line_at(s, tree.at);
     let inner = storage_line::storage_line(s, tree, first);
@@ -121,7 +123,7 @@ pub fn begin_export(s: &[u8], tree: Subtree, out: &mut [u8]) -> LineBegun
     let alone = is_alone(first.kind, l.kind);
     let row = below::row_below(s, tree, l, alone);
     let columns = line_columns(first, l);
-    let numbers = line_numbers(first.bare | first.nullable, alone, l);
+    let numbers = line_numbers(first.bare | first.nullable, alone, l, big);
     let line = put_schema_line::put_schema_line(out, s, columns, numbers);
     line_begun(row, line)
 }

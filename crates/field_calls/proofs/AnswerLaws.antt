@@ -51,7 +51,7 @@ sheet-opened step σ heading b = λ x. readFieldSheet b >>= λ f. typeWalk step 
 
 -- the answer is the walk of the call's step, after its opening
 call-walked : (c : Call) (b : Bytes) → answerOf c b ≡ (readFieldSheet b >>= λ f. sheetFor c (f .info) (f .type))
-call-walked Export b = sheet-exported b ∙ sheet-opened (stepOf Export) none schemaHeading b
+call-walked (Export big) b = sheet-exported big b ∙ sheet-opened (stepOf (Export big)) none schemaHeading b
 call-walked Plain b = sheet-plain b ∙ sheet-opened (stepOf Plain) false fieldHeading b
 call-walked ToStorageRecursive b = sheet-recursive b ∙ sheet-opened (stepOf ToStorageRecursive) none fieldHeading b
 call-walked UnderlyingPhysicalType b = sheet-underlying b ∙ sheet-opened (stepOf UnderlyingPhysicalType) none fieldHeading b
@@ -64,7 +64,7 @@ treeAt at = record { at = at; levels = levelLimit; inside = false }
 -- ── the opening and the lines
 
 pub opening-short : (c : Call) → length (openingOf c) ≤ 48
-opening-short Export = omega arith
+opening-short (Export big) = omega arith
 opening-short Plain = omega arith
 opening-short ToStorageRecursive = omega arith
 opening-short UnderlyingPhysicalType = omega arith

@@ -24,7 +24,7 @@ use Rattle.field_walk.specs.Calls.{stepOf, stateOf}
 -- ── what is answered, or the refusal
 
 abbrev pub answerOf : Call → Bytes → Answer Bytes
-answerOf Export = exported
+answerOf (Export big) = exported big
 answerOf Plain = plained
 answerOf ToStorageRecursive = mapped toStorageRecursive
 answerOf UnderlyingPhysicalType = mapped underlyingPhysicalType
@@ -35,7 +35,7 @@ callOutcome c s out = outcome (answerOf c s) out
 
 -- what stands before the lines of the answer: export answers a schema sheet, plain form and the mappings a field sheet, and a page has no heading
 abbrev pub openingOf : Call → Bytes
-openingOf Export = headingLine schemaHeading
+openingOf (Export big) = headingLine schemaHeading
 openingOf Plain = headingLine fieldHeading
 openingOf ToStorageRecursive = headingLine fieldHeading
 openingOf UnderlyingPhysicalType = headingLine fieldHeading

@@ -1,6 +1,6 @@
 // The calls that take a field sheet's bytes and answer a sheet, or a page, in a lent buffer.
 ghost use mathlib.Core.Path.{_≡_};
-ghost use Rattle.sheets.specs.Outcome.{exportOutcome, plainOutcome, toStorageRecursiveOutcome, underlyingPhysicalTypeOutcome, pageOutcome};
+ghost use Rattle.sheets.specs.Outcome.{exportOutcomeIn, plainOutcome, toStorageRecursiveOutcome, underlyingPhysicalTypeOutcome, pageOutcome};
 ghost use Rattle.buffer.specs.Over.{PutAt};
 ghost use Rattle.outcome.specs.Answers.{outcomeOf};
 ghost use Rattle.field_calls.specs.Answers.{openingOf, callOutcome, HasField, SheetWrote};
@@ -15,7 +15,11 @@ fn put_opening(call: Call, out: &mut [u8]) -> usize
     ensures { λ r. ⌜ PutAt 0 (openingOf call) r (now (out .entry)) (now (out .exit)) ⌝ }
 {
     match call {
-        Call::Export => buffer::put_at(out, 0, b"format name flags metadata children dictionary\n"),
+        Call::Export(_) => buffer::put_at(
+            out,
+            0,
+            b"format name flags metadata children dictionary\n",
+        ),
         Call::Plain => field_line::put_heading(out),
         Call::ToStorageRecursive => field_line::put_heading(out),
         Call::UnderlyingPhysicalType => field_line::put_heading(out),
@@ -57,11 +61,11 @@ fn answer(call: Call, s: &[u8], out: &mut [u8]) -> Answered
     }
 }
 
-// The schema sheet of a field sheet.
-pub fn export(s: &[u8], out: &mut [u8]) -> Answered
-    ensures { λ r. ⌜ outcomeOf (r .number) (r .length) (now (out .exit)) ≡ exportOutcome (now (s .entry)) (now (out .entry)) ⌝ }
+// The schema sheet of a field sheet, its metadata big-endian (`big`) or not.
+pub fn export(s: &[u8], big: bool, out: &mut [u8]) -> Answered
+    ensures { λ r. ⌜ outcomeOf (r .number) (r .length) (now (out .exit)) ≡ exportOutcomeIn big (now (s .entry)) (now (out .entry)) ⌝ }
 {
-    answer(Call::Export, s, out)
+    answer(Call::Export(big), s, out)
 }
 
 // The plain form of a field sheet.

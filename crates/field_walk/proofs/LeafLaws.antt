@@ -104,16 +104,16 @@ same-dates e = cc
 
 module _ (s : Bytes) (at levels : ℕ) (inside : Bool) (out out' : Bytes) where
   -- export: the schema line of the leaf
-  leaf-exported : (o : Option (ℕ × ℕ)) → SchemaLeafTold s at out out' o → LeafWrote schemaStep s at levels inside none out out' o
-  leaf-exported none w = w .1
-  leaf-exported (some (next, len)) w =
+  leaf-exported : (big : Bool) (o : Option (ℕ × ℕ)) → SchemaLeafTold s at out out' o → LeafWrote (schemaStep big) s at levels inside none out out' o
+  leaf-exported big none w = w .1
+  leaf-exported big (some (next, len)) w =
       λ i t es h.
       let k = w .leaf in
       let written = schemaLines (schema (w .node) end absent) in (
         written,
-        ap₂ (λ (u : ArrowDataType) (j : Option Info). typeWalk schemaStep u j none) (is-type k i t es (h .stands)) (is-info k i t es (h .stands))
-            ∙ type-exported (scalar (leaf (w .kind) 0)) (some (leafInfo (k .bytes) (w .nullable))) none
-            ∙ ap (λ (a : Answer Schema). a >>= λ x. given (schemaLines x)) (w .made),
+        ap₂ (λ (u : ArrowDataType) (j : Option Info). typeWalk (schemaStep big) u j none) (is-type k i t es (h .stands)) (is-info k i t es (h .stands))
+            ∙ type-exported big (scalar (leaf (w .kind) 0)) (some (leafInfo (k .bytes) (w .nullable))) none
+            ∙ ap (λ (a : Answer Schema). a >>= λ x. given (schemaLines x)) (w .made big),
         w .put,
         rest-stands k i t es (h .stands) next (w .after),
         omega (arith, w .short, w .after, k .begins, k .long),
@@ -186,21 +186,21 @@ leaf-paged s tree out out' (some (next, len)) w =
 
 module _ (s : Bytes) (t : Subtree) (out out' : Bytes) (r : LeafPut) where
   pub schema-written : (c : Call) → leafLineOf c ≡ L.Schema → SchemaLeafTold s (t .at) out out' (putOption r) → CallLeafWrote c s t out out' r
-  schema-written Export e w = leaf-exported s (t .at) (t .levels) (t .inside) out out' (putOption r) w
+  schema-written (Export big) e w = leaf-exported s (t .at) (t .levels) (t .inside) out out' big (putOption r) w
   schema-written Plain e w = absurd (not-schema e)
   schema-written ToStorageRecursive e w = absurd (not-schema e)
   schema-written UnderlyingPhysicalType e w = absurd (not-schema e)
   schema-written Page e w = absurd (page-schema e)
 
   pub same-written : (c : Call) (dates : Bool) → leafLineOf c ≡ L.Same dates → LeafCopyTold s (t .at) dates out out' (putOption r) → CallLeafWrote c s t out out' r
-  same-written Export d e w = absurd (not-schema (sym e))
+  same-written (Export big) d e w = absurd (not-schema (sym e))
   same-written Plain d e w = leaf-plain s (t .at) (t .levels) (t .inside) out out' (putOption r) (subst (λ (x : Bool). LeafCopyTold s (t .at) x out out' (putOption r)) (sym (same-dates e)) w)
   same-written ToStorageRecursive d e w = leaf-stored s (t .at) (t .levels) (t .inside) out out' (putOption r) (subst (λ (x : Bool). LeafCopyTold s (t .at) x out out' (putOption r)) (sym (same-dates e)) w)
   same-written UnderlyingPhysicalType d e w = leaf-underlying s (t .at) (t .levels) (t .inside) out out' (putOption r) (subst (λ (x : Bool). LeafCopyTold s (t .at) x out out' (putOption r)) (sym (same-dates e)) w)
   same-written Page d e w = absurd (page-same e)
 
   pub page-written : (c : Call) → leafLineOf c ≡ L.Page → PageLeafTold s t out out' (putOption r) → CallLeafWrote c s t out out' r
-  page-written Export e w = absurd (page-schema (sym e))
+  page-written (Export big) e w = absurd (page-schema (sym e))
   page-written Plain e w = absurd (page-same (sym e))
   page-written ToStorageRecursive e w = absurd (page-same (sym e))
   page-written UnderlyingPhysicalType e w = absurd (page-same (sym e))

@@ -55,23 +55,23 @@ node-of h = record { line = h .line; shows = h .there .shows; short = h .there .
 module _ {s : Bytes} {l : SchemaLine} {levels : ℕ} {x : Line} {cs : Schemas} {d : Dictionary} {ts : List Schema} (h : TypeAt s l levels x cs d ts) where
   -- ── the lines of the type
 
-  module _ (j : Option Info) where
+  module _ (big : Bool) (j : Option Info) where
     abbrev firstLine : Shape → Bytes
     firstLine sh = fieldLine .write (lineOf sh j (below sh (childrenOf x)))
 
     abbrev rest : Shape → Answer (List Bytes)
-    rest sh = rowWritten (isBare sh) (visited sh cs d) >>= λ ls. given (firstLine sh ∷ ls)
+    rest sh = rowWritten big (isBare sh) (visited sh cs d) >>= λ ls. given (firstLine sh ∷ ls)
 
     -- the lines of the type, by its line
-    becomes : typeWritten j (schema (nodeOf x) cs d) ≡ (lineType x >>= rest)
+    becomes : typeWritten big j (schema (nodeOf x) cs d) ≡ (lineType x >>= rest)
     unfolding lineType
     becomes =
-        type-written j (nodeOf x) cs d
+        type-written big j (nodeOf x) cs d
         ∙ chained (formatText (nodeOf x .format)) (λ f. nodeShape f (nodeOf x .flags) (countSchemas cs) (countDictionary d)) (step (countSchemas cs))
         ∙ ap₂ (λ (k m : ℕ). formatText (nodeOf x .format) >>= (λ f. nodeShape f (nodeOf x .flags) k m) >>= step k) (h .children) (h .dictionary)
       where
         step : ℕ → Shape → Answer (List Bytes)
-        step k sh = rowWritten (isBare sh) (visited sh cs d) >>= λ ls. given (fieldLine .write (lineOf sh j (below sh k)) ∷ ls)
+        step k sh = rowWritten big (isBare sh) (visited sh cs d) >>= λ ls. given (fieldLine .write (lineOf sh j (below sh k)) ∷ ls)
 
   fits : (sh : Shape) → lineType x ≡ given sh → Fits sh (countSchemas cs) (countDictionary d)
   unfolding lineType
@@ -84,10 +84,10 @@ module _ {s : Bytes} {l : SchemaLine} {levels : ℕ} {x : Line} {cs : Schemas} {
 
   module _ (w : Shown) (es : List ℕ) (out mid : Bytes) (r : FormatPut) (puts : TypeLinePuts s l w es out mid r) where
     -- the type is refused
-    pub type-refused : (q : Reason) → r ≡ Put.Refused q → (j : Option Info) → typeWritten j (schema (nodeOf x) cs d) ≡ refused (refusalOf q)
+    pub type-refused : (q : Reason) → r ≡ Put.Refused q → (j : Option Info) → typeWritten (w .big) j (schema (nodeOf x) cs d) ≡ refused (refusalOf q)
     type-refused q e j =
         let told : lineType x ≡ refused (refusalOf q) = subst (λ (y : FormatPut). TypeLinePuts s l w es out mid y) e puts x (h .shows) in
-        becomes j ∙ ap (λ (a : Answer Shape). a >>= rest j) told
+        becomes (w .big) j ∙ ap (λ (a : Answer Shape). a >>= rest (w .big) j) told
 
     module _ (len : ℕ) (b : Below) (e : r ≡ Put.Put len b) where
       abbrev own : Bytes
@@ -132,14 +132,14 @@ module _ {s : Bytes} {l : SchemaLine} {levels : ℕ} {x : Line} {cs : Schemas} {
 
           -- the visited trees stand next
           pub begins : (next : ℕ) → k ≡ To next → (j : Option Info) → own ≡ infoPiece j
-              → LineBegins s l levels (typeWritten j (schema (nodeOf x) cs d)) (typeLength s l w es) ts out mid next len v
+              → LineBegins (w .big) s l levels (typeWritten (w .big) j (schema (nodeOf x) cs d)) (typeLength s l w es) ts out mid next len v
           begins next e j shows =
               let m = subst (λ (y : Skipped). SkipsRow s (l .end) (v .first) levels (skipAnswer y)) e skips (parts .first) next-trees stands (parts .firstCount) in
-              let line-is : typeText sh own (below sh (childrenOf x)) ≡ ended (firstLine j sh ∷ []) = line-text sh j (below sh (childrenOf x)) own shows in
+              let line-is : typeText sh own (below sh (childrenOf x)) ≡ ended (firstLine (w .big) j sh ∷ []) = line-text sh j (below sh (childrenOf x)) own shows in
               record {
                 us = visited sh cs d;
                 vs = parts .last;
-                line = firstLine j sh;
+                line = firstLine (w .big) j sh;
                 visited = record {
                   stands = m .1;
                   counted = parts .count;
@@ -150,9 +150,9 @@ module _ {s : Bytes} {l : SchemaLine} {levels : ℕ} {x : Line} {cs : Schemas} {
                 others = parts .lastCount;
                 low = omega (arith, h .deep, parts .lastDeep);
                 becomes =
-                    becomes j
-                    ∙ ap (λ (a : Answer Shape). a >>= rest j) (told .1)
-                    ∙ ap (λ (y : Bool). rowWritten y (visited sh cs d) >>= λ ls. given (firstLine j sh ∷ ls)) (sym (visit-bare sh (countSchemas cs) (countDictionary d) (fits sh (told .1))) ∙ ap (λ (y : Visit). y .bare) visit);
+                    becomes (w .big) j
+                    ∙ ap (λ (a : Answer Shape). a >>= rest (w .big) j) (told .1)
+                    ∙ ap (λ (y : Bool). rowWritten (w .big) y (visited sh cs d) >>= λ ls. given (firstLine (w .big) j sh ∷ ls)) (sym (visit-bare sh (countSchemas cs) (countDictionary d) (fits sh (told .1))) ∙ ap (λ (y : Visit). y .bare) visit);
                 put = subst (λ (y : Bytes). PutFirst y len out mid) line-is (put-over (typeText sh own (below sh (childrenOf x))) out (told .2));
                 long = omega (arith, told .4, m .2);
               }

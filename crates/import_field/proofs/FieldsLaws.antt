@@ -30,54 +30,54 @@ both-before a b (refused r) = refl
 both-before a b (given ls) = ap given (sym (append-assoc a b ls))
 
 -- the tree that stands at a place
-abbrev pub treeAt : ℕ → ℕ → Bool → Tree
-treeAt here levels bare = record { at = here; levels = levels; bare = bare }
+abbrev pub treeAt : ℕ → ℕ → Bool → Bool → Tree
+treeAt here levels bare big = record { at = here; levels = levels; bare = bare; big = big }
 
 -- i of the n trees us, which stood at `at` with ts after them, are written: their lines are laid over out₀, and vs are left at here
-pub record Going (s : Bytes) (at n levels : ℕ) (bare : Bool) (out₀ out : Bytes) (here sum i : ℕ) (us : Schemas) (ts : List Schema) : Type 0 where
+pub record Going (s : Bytes) (at n levels : ℕ) (bare big : Bool) (out₀ out : Bytes) (here sum i : ℕ) (us : Schemas) (ts : List Schema) : Type 0 where
   pub vs : Schemas
   pub lines : List Bytes
   pub left : FieldsAt s here (n - i) levels vs ts
-  pub becomes : rowWritten bare us ≡ (rowWritten bare vs >>= λ ls. given (lines ++ ls))
+  pub becomes : rowWritten big bare us ≡ (rowWritten big bare vs >>= λ ls. given (lines ++ ls))
   pub put : PutFirst (ended lines) sum out₀ out
   pub long : sum + 32 * at ≤ 32 * here
 
-module _ (s : Bytes) (at n levels : ℕ) (bare : Bool) (out₀ : Bytes) (us : Schemas) (ts : List Schema) where
-  pub going-none : FieldsAt s at n levels us ts → Going s at n levels bare out₀ out₀ at 0 0 us ts
+module _ (s : Bytes) (at n levels : ℕ) (bare big : Bool) (out₀ : Bytes) (us : Schemas) (ts : List Schema) where
+  pub going-none : FieldsAt s at n levels us ts → Going s at n levels bare big out₀ out₀ at 0 0 us ts
   going-none h =
       record {
         vs = us;
         lines = [];
         left = record { stands = h .stands; counted = omega (arith, h .counted); deep = h .deep; within = h .within; short = h .short };
-        becomes = none-before (rowWritten bare us);
+        becomes = none-before (rowWritten big bare us);
         put = (refl, sym (over-nothing out₀));
         long = omega arith;
       }
 
-  module _ (out : Bytes) (here sum i : ℕ) (g : Going s at n levels bare out₀ out here sum i us ts) where
+  module _ (out : Bytes) (here sum i : ℕ) (g : Going s at n levels bare big out₀ out here sum i us ts) where
     -- the first tree that is left
     first-at : (t : Schema) (vs : Schemas) → FieldsAt s here (n - i) levels (t & vs) ts → FieldAt s here levels t (pushChildren vs ts)
     first-at t vs h = record { stands = h .stands; deep = omega (arith, h .deep); short = h .short }
 
-    pub going-field : i < n → HasField s (treeAt here levels bare)
+    pub going-field : i < n → HasField s (treeAt here levels bare big)
     going-field l = go (g .vs) (g .left)
       where
-        go : (vs : Schemas) → FieldsAt s here (n - i) levels vs ts → HasField s (treeAt here levels bare)
+        go : (vs : Schemas) → FieldsAt s here (n - i) levels vs ts → HasField s (treeAt here levels bare big)
         go end h = absurd (omega (arith, h .counted))
         go (t & vs) h = (t, pushChildren vs ts, first-at t vs h)
 
     -- it is written
     pub going-more : i < n → (w : ℕ) → w ≡ min sum (length out) → (part : Bytes) (r : Step) (next len : ℕ) → r ≡ Done next len
-        → FieldWrote s (treeAt here levels bare) (take (length out - w) (drop w out)) part r
-        → Going s at n levels bare out₀ (take w out ++ (part ++ drop (length out - w) (drop w out))) next (sum + len) (i + 1) us ts
+        → FieldWrote s (treeAt here levels bare big) (take (length out - w) (drop w out)) part r
+        → Going s at n levels bare big out₀ (take w out ++ (part ++ drop (length out - w) (drop w out))) next (sum + len) (i + 1) us ts
     going-more l w e part r next len isDone wrote = go (g .vs) (g .left) (g .becomes)
       where
-        go : (vs : Schemas) → FieldsAt s here (n - i) levels vs ts → rowWritten bare us ≡ (rowWritten bare vs >>= λ ls. given (g .lines ++ ls))
-            → Going s at n levels bare out₀ (take w out ++ (part ++ drop (length out - w) (drop w out))) next (sum + len) (i + 1) us ts
+        go : (vs : Schemas) → FieldsAt s here (n - i) levels vs ts → rowWritten big bare us ≡ (rowWritten big bare vs >>= λ ls. given (g .lines ++ ls))
+            → Going s at n levels bare big out₀ (take w out ++ (part ++ drop (length out - w) (drop w out))) next (sum + len) (i + 1) us ts
         go end h b = absurd (omega (arith, h .counted))
         go (t & vs) h b =
-            let f : FieldWrote s (treeAt here levels bare) (take (length out - w) (drop w out)) part (Done next len) =
-            subst (λ (x : Step). FieldWrote s (treeAt here levels bare) (take (length out - w) (drop w out)) part x) isDone wrote in
+            let f : FieldWrote s (treeAt here levels bare big) (take (length out - w) (drop w out)) part (Done next len) =
+            subst (λ (x : Step). FieldWrote s (treeAt here levels bare big) (take (length out - w) (drop w out)) part x) isDone wrote in
             let (ls, is, put, there, long, within) = f t (pushChildren vs ts) (first-at t vs h) in
             record {
               vs = vs;
@@ -85,29 +85,29 @@ module _ (s : Bytes) (at n levels : ℕ) (bare : Bool) (out₀ : Bytes) (us : Sc
               left = record { stands = there; counted = omega (arith, h .counted); deep = omega (arith, h .deep); within = within; short = h .short };
               becomes =
                   b
-                  ∙ ap (λ (o : Answer (List Bytes)). (o >>= λ a. rowWritten bare vs >>= λ b. given (a ++ b)) >>= λ b. given (g .lines ++ b)) is
-                  ∙ both-before (g .lines) ls (rowWritten bare vs);
+                  ∙ ap (λ (o : Answer (List Bytes)). (o >>= λ a. rowWritten big bare vs >>= λ b. given (a ++ b)) >>= λ b. given (g .lines ++ b)) is
+                  ∙ both-before (g .lines) ls (rowWritten big bare vs);
               put = subst (λ (x : Bytes). PutFirst x (sum + len) out₀ (take w out ++ (part ++ drop (length out - w) (drop w out)))) (sym (ended-append (g .lines) ls)) (put-lent (ended (g .lines)) (ended ls) out₀ (g .put) e put refl);
               long = omega (arith, g .long, long);
             }
 
     -- it is refused
-    pub going-refused : i < n → (lent part : Bytes) (r : Step) (q : Reason) → r ≡ Refused q → FieldWrote s (treeAt here levels bare) lent part r
-        → rowWritten bare us ≡ refused (refusalOf q)
+    pub going-refused : i < n → (lent part : Bytes) (r : Step) (q : Reason) → r ≡ Refused q → FieldWrote s (treeAt here levels bare big) lent part r
+        → rowWritten big bare us ≡ refused (refusalOf q)
     going-refused l lent part r q isRefused wrote = go (g .vs) (g .left) (g .becomes)
       where
-        go : (vs : Schemas) → FieldsAt s here (n - i) levels vs ts → rowWritten bare us ≡ (rowWritten bare vs >>= λ ls. given (g .lines ++ ls))
-            → rowWritten bare us ≡ refused (refusalOf q)
+        go : (vs : Schemas) → FieldsAt s here (n - i) levels vs ts → rowWritten big bare us ≡ (rowWritten big bare vs >>= λ ls. given (g .lines ++ ls))
+            → rowWritten big bare us ≡ refused (refusalOf q)
         go end h b = absurd (omega (arith, h .counted))
         go (t & vs) h b =
-            let f : FieldWrote s (treeAt here levels bare) lent part (Refused q) = subst (λ (x : Step). FieldWrote s (treeAt here levels bare) lent part x) isRefused wrote in
-            b ∙ ap (λ (o : Answer (List Bytes)). (o >>= λ a. rowWritten bare vs >>= λ b. given (a ++ b)) >>= λ b. given (g .lines ++ b)) (f t (pushChildren vs ts) (first-at t vs h))
+            let f : FieldWrote s (treeAt here levels bare big) lent part (Refused q) = subst (λ (x : Step). FieldWrote s (treeAt here levels bare big) lent part x) isRefused wrote in
+            b ∙ ap (λ (o : Answer (List Bytes)). (o >>= λ a. rowWritten big bare vs >>= λ b. given (a ++ b)) >>= λ b. given (g .lines ++ b)) (f t (pushChildren vs ts) (first-at t vs h))
 
     -- all are written
-    pub going-all : n ≤ i → Wrote s at 0 ts (rowWritten bare us) out₀ out (Done here sum)
+    pub going-all : n ≤ i → Wrote s at 0 ts (rowWritten big bare us) out₀ out (Done here sum)
     going-all l = go (g .vs) (g .left) (g .becomes)
       where
-        go : (vs : Schemas) → FieldsAt s here (n - i) levels vs ts → rowWritten bare us ≡ (rowWritten bare vs >>= λ ls. given (g .lines ++ ls))
-            → Wrote s at 0 ts (rowWritten bare us) out₀ out (Done here sum)
+        go : (vs : Schemas) → FieldsAt s here (n - i) levels vs ts → rowWritten big bare us ≡ (rowWritten big bare vs >>= λ ls. given (g .lines ++ ls))
+            → Wrote s at 0 ts (rowWritten big bare us) out₀ out (Done here sum)
         go end h b = (g .lines, b ∙ ap given (append-nil (g .lines)), g .put, h .stands, omega (arith, g .long), h .within)
         go (t & vs) h b = absurd (omega (arith, h .counted))

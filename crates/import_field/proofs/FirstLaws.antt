@@ -15,7 +15,7 @@ use Rattle.import_field.specs.declared.Step.{Step}
 
 -- the row of one tree
 abbrev pub rowOf : Tree → Trees
-rowOf t = record { at = t .at; count = 1; levels = t .levels; bare = t .bare }
+rowOf t = record { at = t .at; count = 1; levels = t .levels; bare = t .bare; big = t .big }
 
 module _ (s : Bytes) (t : Tree) where
   row-at : (u : Schema) (ts : List Schema) → FieldAt s (t .at) (t .levels) u ts → FieldsAt s (t .at) 1 (t .levels) (u & end) ts
@@ -37,4 +37,4 @@ module _ (s : Bytes) (t : Tree) where
 
   pub row-wrote : (out out' : Bytes) (r : Step) → FieldsWrote s (rowOf t) out out' r → FieldWrote s t out out' r
   row-wrote out out' r h u ts f =
-      subst (λ (o : Answer (List Bytes)). Wrote s (t .at) 0 ts o out out' r) (one-written (written (t .bare) u)) (h (u & end) ts (row-at u ts f))
+      subst (λ (o : Answer (List Bytes)). Wrote s (t .at) 0 ts o out out' r) (one-written (written (t .big) (t .bare) u)) (h (u & end) ts (row-at u ts f))

@@ -45,13 +45,13 @@ abbrev fieldText : ℕ → Bytes → ℕ → Bytes
 fieldText kind name flags = fieldLine .write (lineOf (scalarShape (leaf kind 0)) (some (info name flags)) 0)
 
 -- what import makes of the node
-leaf-becomes : (f n : Bytes) (kind flags : ℕ) → isUtf8 f ≡ true → isUtf8 n ≡ true → ((sorted : Bool) → readFormat sorted f ≡ given (ofScalar (leaf kind 0)))
-    → written false (schema (record { format = some f; name = some n; flags = pos flags; metadata = none }) end absent) ≡ given (fieldText kind n flags ∷ [])
-leaf-becomes f n kind flags hf hn means = rw (hf, means (isSorted (pos flags)), hn)
+leaf-becomes : (big : Bool) (f n : Bytes) (kind flags : ℕ) → isUtf8 f ≡ true → isUtf8 n ≡ true → ((sorted : Bool) → readFormat sorted f ≡ given (ofScalar (leaf kind 0)))
+    → written big false (schema (record { format = some f; name = some n; flags = pos flags; metadata = none }) end absent) ≡ given (fieldText kind n flags ∷ [])
+leaf-becomes big f n kind flags hf hn means = rw (hf, means (isSorted (pos flags)), hn)
 
 -- ── the tree that stands there
 
-module _ {s : Bytes} {at : ℕ} {out out' : Bytes} {next len : ℕ} (w : LeafWritten s at out out' next len) where
+module _ {s : Bytes} {at : ℕ} {out out' : Bytes} {next len : ℕ} (big : Bool) (w : LeafWritten s at out out' next len) where
   text : leafText (w .kind) (part s (at + 3) (w .e)) (w .flags / 2 % 2) ≡ ended (fieldText (w .kind) (w .leaf .bytes) (w .flags) ∷ [])
   text =
       ap (λ (b : Bytes). leafText (w .kind) b (w .flags / 2 % 2)) (w .leaf .name)
@@ -73,14 +73,14 @@ module _ {s : Bytes} {at : ℕ} {out out' : Bytes} {next len : ℕ} (w : LeafWri
     node x = schema (nodeOf x) end absent
 
     opened : (cs : Schemas) (d : Dictionary) → countSchemas cs ≡ 0 → countDictionary d ≡ 0 → t ≡ schema (nodeOf (w .leaf .line .line)) cs d
-        → Standing (drop (w .e + 9) s) (pushChildren cs (pushDictionary d ts)) → Wrote s at 0 ts (written false t) out out' (Done next len)
+        → Standing (drop (w .e + 9) s) (pushChildren cs (pushDictionary d ts)) → Wrote s at 0 ts (written big false t) out out' (Done next len)
     opened (c & cs) d n m e h = absurd (omega arith)
     opened end (present c) n m e h = absurd (omega arith)
     opened end absent n m e h =
         let k = w .leaf in (
           fieldText (w .kind) (k .bytes) (w .flags) ∷ [],
-          ap (written false) (e ∙ ap node (leaf-says k))
-              ∙ leaf-becomes (k .byte ∷ []) (k .bytes) (w .kind) (w .flags) (ascii-utf8 (k .byte ∷ []) (le-leb (k .byte) 127 (omega (arith, k .names .ascii)), refl)) (k .utf8) (k .names .means),
+          ap (written big false) (e ∙ ap node (leaf-says k))
+              ∙ leaf-becomes big (k .byte ∷ []) (k .bytes) (w .kind) (w .flags) (ascii-utf8 (k .byte ∷ []) (le-leb (k .byte) 127 (omega (arith, k .names .ascii)), refl)) (k .utf8) (k .names .means),
           subst (λ (b : Bytes). PutFirst b len out out') text (w .put),
           subst (λ (i : ℕ). Standing (drop i s) ts) (sym (w .after)) h,
           omega (arith, text-short),
@@ -88,7 +88,7 @@ module _ {s : Bytes} {at : ℕ} {out out' : Bytes} {next len : ℕ} (w : LeafWri
         )
 
   -- all that `to_field` tells
-  pub leaf-field : (levels : ℕ) → FieldWrote s (treeAt at levels false) out out' (Done next len)
+  pub leaf-field : (levels : ℕ) → FieldWrote s (treeAt at levels false big) out out' (Done next len)
   leaf-field levels t ts f =
       let p = w .leaf .line in
       let q = p .stands in
@@ -101,7 +101,7 @@ module _ (s : Bytes) (t : Tree) (out mid : Bytes) (r : LeafPut) (h : LeafPuts s 
   pub leaf-done : (next len : ℕ) → r ≡ Put next len → FieldWrote s t out mid (Done next len)
   leaf-done next len e =
       let p : (t .bare ≡ false) × LeafWritten s (t .at) out mid next len = subst (LeafPuts s (t .at) (t .bare) out mid) e h in
-      subst (λ (b : Bool). FieldWrote s (treeAt (t .at) (t .levels) b) out mid (Done next len)) (sym (p .0)) (leaf-field (p .1) (t .levels))
+      subst (λ (b : Bool). FieldWrote s (treeAt (t .at) (t .levels) b (t .big)) out mid (Done next len)) (sym (p .0)) (leaf-field (t .big) (p .1) (t .levels))
 
   pub leaf-other : r ≡ Other → (last : Bytes) (z : Step) → FieldWrote s t mid last z → FieldWrote s t out last z
   leaf-other e last z f =

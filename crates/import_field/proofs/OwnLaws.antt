@@ -103,8 +103,8 @@ module _ {s : Bytes} {at : ℕ} {l : SchemaLine} (p : LineAt s at l) where
           short = f .short;
         }
 
-    module _ {bare : Bool} {es : List ℕ} {out mid : Bytes} {b : Begun} (begins : FieldBegins s l bare es out mid b) where
-      k : OwnBegins s l bare (p .line) es out mid b
+    module _ {bare big : Bool} {es : List ℕ} {out mid : Bytes} {b : Begun} (begins : FieldBegins s l bare big es out mid b) where
+      k : OwnBegins s l bare big (p .line) es out mid b
       k = begins (p .line) (p .shows)
 
       abbrev own : Bytes
@@ -118,7 +118,7 @@ module _ {s : Bytes} {at : ℕ} {l : SchemaLine} (p : LineAt s at l) where
         pub j : Option Info
         pub head : Answer (List Bytes)
         pub shows : own ≡ infoPiece j
-        pub becomes : written bare u ≡ (typeWritten j tree >>= λ ls. head >>= λ a. given (a ++ ls))
+        pub becomes : written big bare u ≡ (typeWritten big j tree >>= λ ls. head >>= λ a. given (a ++ ls))
         pub pends : endedField (pendingAnswer (b .pending)) 0 0 ≡ (head >>= λ a. given (0, 0))
         pub put : (a : List Bytes) → head ≡ given a → PutFirst (ended a) (b .len) out mid
 
@@ -132,13 +132,13 @@ module _ {s : Bytes} {at : ℕ} {l : SchemaLine} (p : LineAt s at l) where
       front : Front
       front = go (pendingAnswer (b .pending)) refl (k .told)
         where
-          go : (y : Answer (Unit {0})) → pendingAnswer (b .pending) ≡ y → OwnTold bare (p .line) own out mid (b .len) y → Front
+          go : (y : Answer (Unit {0})) → pendingAnswer (b .pending) ≡ y → OwnTold bare big (p .line) own out mid (b .len) y → Front
           go (refused q) e (is, len, shows) =
               record {
                 j = none;
                 head = refused q;
                 shows = shows;
-                becomes = ap (written bare) (opened .isNode) ∙ own-refused bare (nodeOf (p .line)) (opened .children) (opened .dictionary) q is none;
+                becomes = ap (written big bare) (opened .isNode) ∙ own-refused big bare (nodeOf (p .line)) (opened .children) (opened .dictionary) q is none;
                 pends = ap (λ (y : Answer (Unit {0})). endedField y 0 0) e;
                 put = λ a h. let z : _≡_ {A = ℕ} 0 1 = cc in absurd (omega arith);
               }
@@ -147,7 +147,7 @@ module _ {s : Bytes} {at : ℕ} {l : SchemaLine} (p : LineAt s at l) where
                 j = shown bare i;
                 head = given [];
                 shows = shows;
-                becomes = ap (written bare) (opened .isNode) ∙ own-plain bare (nodeOf (p .line)) (opened .children) (opened .dictionary) i is ∙ nothing-before (typeWritten (shown bare i) tree);
+                becomes = ap (written big bare) (opened .isNode) ∙ own-plain big bare (nodeOf (p .line)) (opened .children) (opened .dictionary) i is ∙ nothing-before (typeWritten big (shown bare i) tree);
                 pends = ap (λ (y : Answer (Unit {0})). endedField y 0 0) e;
                 put = λ a h. subst (λ (c : List Bytes). PutFirst (ended c) (b .len) out mid) (given-same [] a h) put;
               }
@@ -156,7 +156,7 @@ module _ {s : Bytes} {at : ℕ} {l : SchemaLine} (p : LineAt s at l) where
                 j = none;
                 head = given (fieldLine .write (lineOf (ofExtension (ex .0) (ex .1)) (shown bare i) 1) ∷ []);
                 shows = shows;
-                becomes = ap (written bare) (opened .isNode) ∙ own-extended bare (nodeOf (p .line)) (opened .children) (opened .dictionary) i ex is;
+                becomes = ap (written big bare) (opened .isNode) ∙ own-extended big bare (nodeOf (p .line)) (opened .children) (opened .dictionary) i ex is;
                 pends = ap (λ (y : Answer (Unit {0})). endedField y 0 0) e;
                 put = λ a h. subst (λ (c : List Bytes). PutFirst (ended c) (b .len) out mid) (given-same (fieldLine .write (lineOf (ofExtension (ex .0) (ex .1)) (shown bare i) 1) ∷ []) a h) put;
               }
@@ -175,18 +175,20 @@ module _ {s : Bytes} {at : ℕ} {l : SchemaLine} (p : LineAt s at l) where
           }
 
       module _ (lent last : Bytes) (r : Step) (w : TypeWrote s l (b .shown) (levels - 1) es lent last r) where
-        told : Wrote s (l .end) (108 + 21 * length (columnIn s (l .format)) + length own) ts (typeWritten (front .j) tree) lent last r
-        told = w (p .line) (opened .children) (opened .dictionary) ts (front .j) type-at (front .shows)
+        told : Wrote s (l .end) (108 + 21 * length (columnIn s (l .format)) + length own) ts (typeWritten big (front .j) tree) lent last r
+        told =
+            subst (λ (y : Bool). Wrote s (l .end) (108 + 21 * length (columnIn s (l .format)) + length own) ts (typeWritten y (front .j) tree) lent last r) (k .order)
+            (w (p .line) (opened .children) (opened .dictionary) ts (front .j) type-at (front .shows))
 
         -- the type is refused
-        pub type-turned : (q : Reason) → r ≡ Turned q → written bare u ≡ refused (refusalOf q)
+        pub type-turned : (q : Reason) → r ≡ Turned q → written big bare u ≡ refused (refusalOf q)
         type-turned q e =
-            let t : typeWritten (front .j) tree ≡ refused (refusalOf q) = subst (λ (y : Step). Wrote s (l .end) (108 + 21 * length (columnIn s (l .format)) + length own) ts (typeWritten (front .j) tree) lent last y) e told in
+            let t : typeWritten big (front .j) tree ≡ refused (refusalOf q) = subst (λ (y : Step). Wrote s (l .end) (108 + 21 * length (columnIn s (l .format)) + length own) ts (typeWritten big (front .j) tree) lent last y) e told in
             front .becomes ∙ ap (λ (m : Answer (List Bytes)). m >>= λ ls. front .head >>= λ a. given (a ++ ls)) t
 
         module _ (next len : ℕ) (e : r ≡ Done next len) where
-          done : Wrote s (l .end) (108 + 21 * length (columnIn s (l .format)) + length own) ts (typeWritten (front .j) tree) lent last (Done next len)
-          done = subst (λ (y : Step). Wrote s (l .end) (108 + 21 * length (columnIn s (l .format)) + length own) ts (typeWritten (front .j) tree) lent last y) e told
+          done : Wrote s (l .end) (108 + 21 * length (columnIn s (l .format)) + length own) ts (typeWritten big (front .j) tree) lent last (Done next len)
+          done = subst (λ (y : Step). Wrote s (l .end) (108 + 21 * length (columnIn s (l .format)) + length own) ts (typeWritten big (front .j) tree) lent last y) e told
 
           -- the sum of both lengths does not wrap
           pub field-long : b .len + len + 32 * at ≤ 32 * next
@@ -198,14 +200,14 @@ module _ {s : Bytes} {at : ℕ} {l : SchemaLine} (p : LineAt s at l) where
           -- all is written, or what was pending is refused
           pub field-ended : (v : ℕ) → v ≡ min (b .len) (length mid) → lent ≡ take (length mid - v) (drop v mid)
               → (z : Step) → FieldEnds (b .pending) next (b .len + len) z
-              → Wrote s at 0 ts (written bare u) out (take v mid ++ (last ++ drop (length mid - v) (drop v mid))) z
+              → Wrote s at 0 ts (written big bare u) out (take v mid ++ (last ++ drop (length mid - v) (drop v mid))) z
           field-ended v e₁ e₂ z h =
-              subst (WroteAs s at 0 ts (written bare u) out (take v mid ++ (last ++ drop (length mid - v) (drop v mid)))) (sym h)
+              subst (WroteAs s at 0 ts (written big bare u) out (take v mid ++ (last ++ drop (length mid - v) (drop v mid)))) (sym h)
               (go (pendingAnswer (b .pending)) (front .head) (front .becomes) (front .pends) (front .put))
             where
-              go : (y : Answer (Unit {0})) (head : Answer (List Bytes)) → written bare u ≡ (typeWritten (front .j) tree >>= λ ls. head >>= λ a. given (a ++ ls))
+              go : (y : Answer (Unit {0})) (head : Answer (List Bytes)) → written big bare u ≡ (typeWritten big (front .j) tree >>= λ ls. head >>= λ a. given (a ++ ls))
                   → endedField y 0 0 ≡ (head >>= λ a. given (0, 0)) → ((a : List Bytes) → head ≡ given a → PutFirst (ended a) (b .len) out mid)
-                  → WroteAs s at 0 ts (written bare u) out (take v mid ++ (last ++ drop (length mid - v) (drop v mid))) (endedField y next (b .len + len))
+                  → WroteAs s at 0 ts (written big bare u) out (take v mid ++ (last ++ drop (length mid - v) (drop v mid))) (endedField y next (b .len + len))
               go (refused q) (refused q') is p head-put =
                   let same : q ≡ q' = refused-same q q' p in
                   is ∙ ap (λ (m : Answer (List Bytes)). m >>= λ ls. refused q' >>= λ a. given (a ++ ls)) (done .1) ∙ ap refused (sym same)

@@ -1,5 +1,6 @@
 -- What is known at each place of `to_dtype` after its type's line is written: what its fields come to, and what is left to skip. Assumes nothing.
 use mathlib.Core.Path.{_≡_, sym, ap, subst, _∙_}
+use mathlib.Core.Bool.{Bool}
 use mathlib.Core.List.{List, [], _∷_, _++_}
 use Prim.Native.Nat.{ℕ, _+_, _-_, _≤_, min}
 use native.Mathlib.Omega.{arith}
@@ -25,8 +26,8 @@ use Rattle.import_field.specs.declared.Step.the-variants.{Done, Refused}
 use Rattle.import_field.specs.Contracts.{LeftAt, HasFields, HasLeft, HasType, typeLength, stepAnswer, WroteAs, Wrote, FieldsWrote, LineBegins, Ends, TypeEnds}
 
 -- the row that a type visits
-abbrev pub rowAt : ℕ → ℕ → Visit → Trees
-rowAt from levels v = record { at = from; count = v .count; levels = levels; bare = v .bare }
+abbrev pub rowAt : ℕ → ℕ → Visit → Bool → Trees
+rowAt from levels v big = record { at = from; count = v .count; levels = levels; bare = v .bare; big = big }
 
 -- the line of a type is no longer than a sheet allows
 pub type-short : {s : Bytes} {l : SchemaLine} {w : Shown} {levels : ℕ} {es : List ℕ} → HasType s l w levels es → typeLength s l w es ≤ 1507420
@@ -41,23 +42,23 @@ type-short {s = s} {l = l} {w = w} {es = es} h =
       h .ready .pairs .short,
     )
 
-module _ {s : Bytes} {l : SchemaLine} {levels : ℕ} {o : Answer (List Bytes)} {extra : ℕ} {ts : List Schema} {out mid : Bytes} {from len : ℕ} {v : Visit} (g : LineBegins s l levels o extra ts out mid from len v) where
+module _ {big : Bool} {s : Bytes} {l : SchemaLine} {levels : ℕ} {o : Answer (List Bytes)} {extra : ℕ} {ts : List Schema} {out mid : Bytes} {from len : ℕ} {v : Visit} (g : LineBegins big s l levels o extra ts out mid from len v) where
   -- the visited trees are there
-  pub fields-there : HasFields s (rowAt from levels v)
+  pub fields-there : HasFields s (rowAt from levels v big)
   fields-there = (g .us, g .vs ++ ts, g .visited)
 
   abbrev after : Answer (List Bytes) → Answer (List Bytes)
   after m = m >>= λ ls. given (g .line ∷ ls)
 
   -- one of them is refused
-  pub fields-refused : (lent part : Bytes) (r : Step) (q : Reason) → r ≡ Refused q → FieldsWrote s (rowAt from levels v) lent part r → o ≡ refused (refusalOf q)
+  pub fields-refused : (lent part : Bytes) (r : Step) (q : Reason) → r ≡ Refused q → FieldsWrote s (rowAt from levels v big) lent part r → o ≡ refused (refusalOf q)
   fields-refused lent part r q e h =
-      let w : FieldsWrote s (rowAt from levels v) lent part (Refused q) = subst (λ (y : Step). FieldsWrote s (rowAt from levels v) lent part y) e h in
+      let w : FieldsWrote s (rowAt from levels v big) lent part (Refused q) = subst (λ (y : Step). FieldsWrote s (rowAt from levels v big) lent part y) e h in
       g .becomes ∙ ap after (w (g .us) (g .vs ++ ts) (g .visited))
 
-  module _ (lent part : Bytes) (r : Step) (next below : ℕ) (e : r ≡ Done next below) (h : FieldsWrote s (rowAt from levels v) lent part r) where
-    fields-done : Wrote s from 0 (g .vs ++ ts) (rowWritten (v .bare) (g .us)) lent part (Done next below)
-    fields-done = subst (λ (y : Step). FieldsWrote s (rowAt from levels v) lent part y) e h (g .us) (g .vs ++ ts) (g .visited)
+  module _ (lent part : Bytes) (r : Step) (next below : ℕ) (e : r ≡ Done next below) (h : FieldsWrote s (rowAt from levels v big) lent part r) where
+    fields-done : Wrote s from 0 (g .vs ++ ts) (rowWritten big (v .bare) (g .us)) lent part (Done next below)
+    fields-done = subst (λ (y : Step). FieldsWrote s (rowAt from levels v big) lent part y) e h (g .us) (g .vs ++ ts) (g .visited)
 
     -- the others are there
     left-at : LeftAt s next (v .last) levels (g .vs) ts

@@ -1,7 +1,7 @@
 -- What the functions of a field's import ask and tell. The trees that they read are those that stand at a place of the sheet; what they write is what
 -- import makes of these trees, laid over the lent buffer. Assumes nothing.
 use mathlib.Core.Path.{_≡_}
-use mathlib.Core.Bool.{true, false}
+use mathlib.Core.Bool.{Bool, true, false}
 use mathlib.Core.List.{List, [], _∷_, _++_}
 use mathlib.Core.Option.{Option}
 use Prim.Native.Nat.{ℕ, _+_, _*_, _-_, _≤_, max}
@@ -110,11 +110,11 @@ Wrote s from extra ts o out out' r = WroteAs s from extra ts o out out' (stepAns
 
 abbrev pub FieldWrote : Bytes → Tree → Bytes → Bytes → Step → Type 0
 FieldWrote s t out out' r =
-    (u : Schema) (ts : List Schema) → FieldAt s (t .at) (t .levels) u ts → Wrote s (t .at) 0 ts (written (t .bare) u) out out' r
+    (u : Schema) (ts : List Schema) → FieldAt s (t .at) (t .levels) u ts → Wrote s (t .at) 0 ts (written (t .big) (t .bare) u) out out' r
 
 abbrev pub FieldsWrote : Bytes → Trees → Bytes → Bytes → Step → Type 0
 FieldsWrote s w out out' r =
-    (us : Schemas) (ts : List Schema) → FieldsAt s (w .at) (w .count) (w .levels) us ts → Wrote s (w .at) 0 ts (rowWritten (w .bare) us) out out' r
+    (us : Schemas) (ts : List Schema) → FieldsAt s (w .at) (w .count) (w .levels) us ts → Wrote s (w .at) 0 ts (rowWritten (w .big) (w .bare) us) out out' r
 
 -- a type's line is not much longer than its format and what it shows
 abbrev pub typeLength : Bytes → SchemaLine → Shown → List ℕ → ℕ
@@ -124,7 +124,7 @@ typeLength s l w es = 108 + 21 * length (columnIn s (l .format)) + length (shown
 abbrev pub TypeWrote : Bytes → SchemaLine → Shown → ℕ → List ℕ → Bytes → Bytes → Step → Type 0
 TypeWrote s l w levels es out out' r =
     (x : Line) (cs : Schemas) (d : Dictionary) (ts : List Schema) (j : Option Info) → TypeAt s l levels x cs d ts → shownIn s l es w ≡ infoPiece j
-    → Wrote s (l .end) (typeLength s l w es) ts (typeWritten j (schema (nodeOf x) cs d)) out out' r
+    → Wrote s (l .end) (typeLength s l w es) ts (typeWritten (w .big) j (schema (nodeOf x) cs d)) out out' r
 
 -- ── the subtrees below a node
 
@@ -146,26 +146,26 @@ abbrev pub begunAnswer : TypeBegun → Answer (ℕ × (ℕ × Visit))
 begunAnswer (Begun.Row from len v) = given (from, (len, v))
 begunAnswer (Begun.Refused r) = refused (refusalOf r)
 
--- The type's line is written, and from `from` on stand the trees us that it visits, then vs that it does not, then ts.
-pub record LineBegins (s : Bytes) (l : SchemaLine) (levels : ℕ) (o : Answer (List Bytes)) (extra : ℕ) (ts : List Schema) (out out' : Bytes) (from len : ℕ) (v : Visit) : Type 0 where
+-- The type's line is written, and, with metadata in that order, from `from` on stand the trees us that it visits, then vs that it does not, then ts.
+pub record LineBegins (big : Bool) (s : Bytes) (l : SchemaLine) (levels : ℕ) (o : Answer (List Bytes)) (extra : ℕ) (ts : List Schema) (out out' : Bytes) (from len : ℕ) (v : Visit) : Type 0 where
   pub us : Schemas
   pub vs : List Schema
   pub line : Bytes
   pub visited : FieldsAt s from (v .count) levels us (vs ++ ts)
   pub others : length vs ≡ v .last
   pub low : tallest schemaLevels vs ≤ levels
-  pub becomes : o ≡ (rowWritten (v .bare) us >>= λ ls. given (line ∷ ls))
+  pub becomes : o ≡ (rowWritten big (v .bare) us >>= λ ls. given (line ∷ ls))
   pub put : PutFirst (ended (line ∷ [])) len out out'
   pub long : len + 32 * l .end ≤ 32 * from + extra
 
-abbrev pub BeginsAs : Bytes → SchemaLine → ℕ → Answer (List Bytes) → ℕ → List Schema → Bytes → Bytes → Answer (ℕ × (ℕ × Visit)) → Type 0
-BeginsAs s l levels o extra ts out out' (given (from, (len, v))) = LineBegins s l levels o extra ts out out' from len v
-BeginsAs s l levels o extra ts out out' (refused q) = o ≡ refused q
+abbrev pub BeginsAs : Bool → Bytes → SchemaLine → ℕ → Answer (List Bytes) → ℕ → List Schema → Bytes → Bytes → Answer (ℕ × (ℕ × Visit)) → Type 0
+BeginsAs big s l levels o extra ts out out' (given (from, (len, v))) = LineBegins big s l levels o extra ts out out' from len v
+BeginsAs big s l levels o extra ts out out' (refused q) = o ≡ refused q
 
 abbrev pub TypeBegins : Bytes → SchemaLine → Shown → ℕ → List ℕ → Bytes → Bytes → TypeBegun → Type 0
 TypeBegins s l w levels es out out' r =
     (x : Line) (cs : Schemas) (d : Dictionary) (ts : List Schema) (j : Option Info) → TypeAt s l levels x cs d ts → shownIn s l es w ≡ infoPiece j
-    → BeginsAs s l levels (typeWritten j (schema (nodeOf x) cs d)) (typeLength s l w es) ts out out' (begunAnswer r)
+    → BeginsAs (w .big) s l levels (typeWritten (w .big) j (schema (nodeOf x) cs d)) (typeLength s l w es) ts out out' (begunAnswer r)
 
 -- ── what is left
 

@@ -12,11 +12,12 @@ use refusal::Refusal;
 use schema_line::SchemaLine;
 use schema_sheet::subtrees::Skipped;
 
-// A schema of at most `levels` levels that stands at `at`; the first line of its field is bare or not.
+// A schema of at most `levels` levels that stands at `at`; the first line of its field is bare or not, and its metadata is big-endian or not.
 pub struct Tree {
     pub at: usize,
     pub levels: usize,
     pub bare: bool,
+    pub big: bool,
 }
 
 // `count` such schemas, one after the other.
@@ -25,6 +26,7 @@ pub struct Trees {
     pub count: u64,
     pub levels: usize,
     pub bare: bool,
+    pub big: bool,
 }
 
 // Of the subtrees below a node the first ones are skipped, then `count` are visited, bare or not, then the last ones are skipped.
@@ -143,7 +145,7 @@ pub fn to_field(
     ensures { λ r. ⌜ FieldWrote (now (s .entry)) tree (now (out .entry)) (now (out .exit)) r ⌝ }
 {
     let line = schema_line::read::line_at(s, tree.at);
-    let begun = node::begin_field(s, line, tree.bare, out, entries, spare);
+    let begun = node::begin_field(s, line, tree.bare, tree.big, out, entries, spare);
     let shown = begun.shown;
     let pending = begun.pending;
     let w = buffer::within(begun.len, out.len());
@@ -183,6 +185,7 @@ fn to_dtype(
                 count: visit.count,
                 levels,
                 bare: visit.bare,
+                big: shown.big,
             };
             match to_fields(s, row, &mut out[w..], entries, spare) {
                 Step::Refused(r) => Step::Refused(r),
@@ -212,6 +215,7 @@ fn to_fields(s: &[u8], row: Trees, out: &mut [u8], entries: &mut [u32], spare: &
             at: here,
             levels: row.levels,
             bare: row.bare,
+            big: row.big,
         };
         match next_field(s, tree, &mut out[w..], entries, spare) {
             Step::Refused(r) => {
@@ -257,6 +261,7 @@ pub fn to_first_field(
         count: 1,
         levels: tree.levels,
         bare: tree.bare,
+        big: tree.big,
     };
     to_fields(s, row, out, entries, spare)
 }

@@ -1,5 +1,5 @@
 -- What the functions of import tell of the whole sheet. Assumes nothing.
-use mathlib.Core.Bool.{false}
+use mathlib.Core.Bool.{Bool, false}
 use mathlib.Core.List.{List}
 use Prim.Native.Nat.{ℕ}
 use Rattle.sheets.specs.Bytes.{Bytes}
@@ -11,18 +11,18 @@ use Rattle.sheets.specs.Import.{toField}
 use Rattle.outcome.specs.Answers.{SheetTold}
 use Rattle.import_field.specs.declared.Tree.{Tree}
 use Rattle.import_field.specs.declared.Step.{Step}
-use Rattle.import_field.specs.Contracts.{FieldAt, HasField, stepAnswer}
+use Rattle.import_field.specs.Contracts.{FieldAt, stepAnswer}
 
--- the field sheet of a schema
-unfoldable pub sheetOf : Schema → Answer Bytes
-sheetOf t = toField t >>= λ f. given (writeFieldSheet f)
+-- the field sheet of a schema, with metadata in that order
+unfoldable pub sheetOf : Bool → Schema → Answer Bytes
+sheetOf big t = toField big t >>= λ f. given (writeFieldSheet f)
 
 -- the tree of the sheet's first line
-abbrev pub treeOf : ℕ → Tree
-treeOf at = record { at = at; levels = levelLimit; bare = false }
+abbrev pub treeOf : ℕ → Bool → Tree
+treeOf at big = record { at = at; levels = levelLimit; bare = false; big = big }
 
-abbrev pub SheetWrote : Bytes → ℕ → Bytes → Bytes → Step → Type 0
-SheetWrote s at out out' r = (t : Schema) (ts : List Schema) → FieldAt s at levelLimit t ts → SheetTold (sheetOf t) out out' (stepAnswer r)
+abbrev pub SheetWrote : Bytes → ℕ → Bool → Bytes → Bytes → Step → Type 0
+SheetWrote s at big out out' r = (t : Schema) (ts : List Schema) → FieldAt s at levelLimit t ts → SheetTold (sheetOf big t) out out' (stepAnswer r)
 
 abbrev pub HasSheet : Bytes → ℕ → Type 0
-HasSheet s at = HasField s (treeOf at)
+HasSheet s at = (t : Schema) × (ts : List Schema) × FieldAt s at levelLimit t ts

@@ -2,7 +2,7 @@
 ghost use mathlib.Core.Path.{_≡_};
 ghost use Prim.Native.Nat.{_≤_};
 ghost use lib.ListN.{length};
-ghost use Rattle.sheets.specs.Outcome.{importOutcome};
+ghost use Rattle.sheets.specs.Outcome.{importOutcomeIn};
 ghost use Rattle.outcome.specs.Answers.{outcomeOf};
 ghost use Rattle.node.specs.Info.{HasEntries};
 ghost use Rattle.import_sheet.specs.Sheets.{HasSheet, SheetWrote};
@@ -12,9 +12,16 @@ use outcome::Answered;
 use schema_sheet::SheetRead;
 
 // Writes the heading and the field's lines, as far as they fit.
-fn put_sheet(s: &[u8], at: usize, out: &mut [u8], entries: &mut [u32], spare: &mut [u32]) -> Step
+fn put_sheet(
+    s: &[u8],
+    at: usize,
+    big: bool,
+    out: &mut [u8],
+    entries: &mut [u32],
+    spare: &mut [u32],
+) -> Step
     requires { ⌜ HasSheet (now s) at × HasEntries (now s) (now entries) (now spare) ⌝ }
-    ensures { λ r. ⌜ SheetWrote (now (s .entry)) at (now (out .entry)) (now (out .exit)) r ⌝ }
+    ensures { λ r. ⌜ SheetWrote (now (s .entry)) at big (now (out .entry)) (now (out .exit)) r ⌝ }
 {
     let head = field_line::put_heading(out);
     let w = buffer::within(head, out.len());
@@ -22,6 +29,7 @@ fn put_sheet(s: &[u8], at: usize, out: &mut [u8], entries: &mut [u32], spare: &m
         at,
         levels: schema_sheet::LEVELS,
         bare: false,
+        big,
     };
     match import_field::to_first_field(s, tree, &mut out[w..], entries, spare) {
         Step::Refused(r) => Step::Refused(r),
@@ -34,41 +42,42 @@ fn put_sheet(s: &[u8], at: usize, out: &mut [u8], entries: &mut [u32], spare: &m
 
 // A metadata pair takes 16 digits of the sheet. The entries of the pairs are lent down from here, so that they stand on the stack once and not at
 // each of 32 levels; and there are two sizes, so that a short sheet does not pay for clearing 32,768 bytes.
-fn put_short(s: &[u8], at: usize, out: &mut [u8]) -> Step
+fn put_short(s: &[u8], at: usize, big: bool, out: &mut [u8]) -> Step
     requires { ⌜ HasSheet (now s) at × (length (now s) ≤ 2048) ⌝ }
-    ensures { λ r. ⌜ SheetWrote (now (s .entry)) at (now (out .entry)) (now (out .exit)) r ⌝ }
+    ensures { λ r. ⌜ SheetWrote (now (s .entry)) at big (now (out .entry)) (now (out .exit)) r ⌝ }
 {
     let mut entries: [u32; 128] = [0; 128];
     let mut spare: [u32; 128] = [0; 128];
-    put_sheet(s, at, out, &mut entries[..], &mut spare[..])
+    put_sheet(s, at, big, out, &mut entries[..], &mut spare[..])
 }
 
-fn put_long(s: &[u8], at: usize, out: &mut [u8]) -> Step
+fn put_long(s: &[u8], at: usize, big: bool, out: &mut [u8]) -> Step
     requires { ⌜ HasSheet (now s) at ⌝ }
-    ensures { λ r. ⌜ SheetWrote (now (s .entry)) at (now (out .entry)) (now (out .exit)) r ⌝ }
+    ensures { λ r. ⌜ SheetWrote (now (s .entry)) at big (now (out .entry)) (now (out .exit)) r ⌝ }
 {
     let mut entries: [u32; 4096] = [0; 4096];
     let mut spare: [u32; 4096] = [0; 4096];
-    put_sheet(s, at, out, &mut entries[..], &mut spare[..])
+    put_sheet(s, at, big, out, &mut entries[..], &mut spare[..])
 }
 
-fn put_by_length(s: &[u8], at: usize, out: &mut [u8]) -> Step
+fn put_by_length(s: &[u8], at: usize, big: bool, out: &mut [u8]) -> Step
     requires { ⌜ HasSheet (now s) at ⌝ }
-    ensures { λ r. ⌜ SheetWrote (now (s .entry)) at (now (out .entry)) (now (out .exit)) r ⌝ }
+    ensures { λ r. ⌜ SheetWrote (now (s .entry)) at big (now (out .entry)) (now (out .exit)) r ⌝ }
 {
     if s.len() <= 2048 {
-        return put_short(s, at, out);
+        return put_short(s, at, big, out);
     }
-    put_long(s, at, out)
+    put_long(s, at, big, out)
 }
 
-// The field sheet of a schema sheet, written over the first bytes of out; or the number of its refusal, and zeros.
-pub fn import(s: &[u8], out: &mut [u8]) -> Answered
-    ensures { λ r. ⌜ outcomeOf (r .number) (r .length) (now (out .exit)) ≡ importOutcome (now (s .entry)) (now (out .entry)) ⌝ }
+// The field sheet of a schema sheet, whose metadata is big-endian (`big`) or not, written over the first bytes of out; or the number of its refusal, and
+// zeros.
+pub fn import(s: &[u8], big: bool, out: &mut [u8]) -> Answered
+    ensures { λ r. ⌜ outcomeOf (r .number) (r .length) (now (out .exit)) ≡ importOutcomeIn big (now (s .entry)) (now (out .entry)) ⌝ }
 {
     match schema_sheet::read_sheet(s) {
         SheetRead::Refused(r) => outcome::refuse(out, r),
-        SheetRead::Body(at) => match put_by_length(s, at, out) {
+        SheetRead::Body(at) => match put_by_length(s, at, big, out) {
             Step::Refused(r) => outcome::refuse(out, r),
             Step::Done { next: _, len } => outcome::written(out, len),
         },

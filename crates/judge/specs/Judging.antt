@@ -6,7 +6,7 @@ use Prim.Native.Nat.{ℕ, zero, suc, _-_}
 use lib.Dec.{eqb}
 use lib.ListN.{length, replicate}
 use Rattle.sheets.specs.Bytes.{Bytes, same}
-use Rattle.sheets.specs.Outcome.{Outcome, Places, YesNo, importOutcome, exportOutcome, plainOutcome, toPhysicalTypeOutcome, underlyingPhysicalTypeOutcome, toStorageOutcome, toStorageRecursiveOutcome, innerDtypeOutcome, getChildOutcome, isNestedOutcome, containsDictionaryOutcome, fromIntegerTypeOutcome, fromPrimitiveTypeOutcome, pageOutcome}
+use Rattle.sheets.specs.Outcome.{Outcome, Places, YesNo, isYes, importOutcomeIn, exportOutcomeIn, plainOutcome, toPhysicalTypeOutcome, underlyingPhysicalTypeOutcome, toStorageOutcome, toStorageRecursiveOutcome, innerDtypeOutcome, getChildOutcome, isNestedOutcome, containsDictionaryOutcome, fromIntegerTypeOutcome, fromPrimitiveTypeOutcome, pageOutcome}
 use Rattle.recorded_list.specs.Codes.{importCall, exportCall, plainCall, toPhysicalTypeCall, underlyingPhysicalTypeCall, toStorageCall, toStorageRecursiveCall, innerDtypeCall, getChildCall, isNestedCall, containsDictionaryCall, fromIntegerTypeCall, pageCall}
 use Rattle.recorded_list.specs.ListText.{Record}
 use Rattle.recorded_list.specs.declared.records.Header.{Header}
@@ -43,8 +43,8 @@ difference came told = cond (sameOutcome came told) none (some (record { number 
 -- the outcome of each, by its code. The definition's outcome stands for the answer, since the call is proved to have it. The last has the code that is left
 abbrev pub sheetOutcome : ℕ → ℕ → Bytes → Bytes → Outcome
 sheetOutcome call argument s out =
-    cond (eqb call importCall) (importOutcome s out)
-    (cond (eqb call exportCall) (exportOutcome s out)
+    cond (eqb call importCall) (importOutcomeIn (isYes argument) s out)
+    (cond (eqb call exportCall) (exportOutcomeIn (isYes argument) s out)
     (cond (eqb call plainCall) (plainOutcome s out)
     (cond (eqb call underlyingPhysicalTypeCall) (underlyingPhysicalTypeOutcome s out)
     (cond (eqb call toStorageCall) (toStorageOutcome s out)

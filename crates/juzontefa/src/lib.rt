@@ -1,7 +1,7 @@
 // The calls for a host: over pointers and lengths, with nothing demanded of the caller. `include/juzontefa.h` declares them for C.
 ghost use mathlib.Core.Path.{_≡_};
-ghost use Rattle.sheets.specs.Outcome.{importOutcome, exportOutcome, plainOutcome, pageOutcome, toPhysicalTypeOutcome, underlyingPhysicalTypeOutcome, toStorageOutcome, toStorageRecursiveOutcome, innerDtypeOutcome, getChildOutcome, isNestedOutcome, containsDictionaryOutcome, fromIntegerTypeOutcome, fromPrimitiveTypeOutcome};
-ghost use Rattle.sheets.specs.RoundTrip.{roundTripOutcome};
+ghost use Rattle.sheets.specs.Outcome.{isYes, importOutcomeIn, exportOutcomeIn, importOutcome, exportOutcome, plainOutcome, pageOutcome, toPhysicalTypeOutcome, underlyingPhysicalTypeOutcome, toStorageOutcome, toStorageRecursiveOutcome, innerDtypeOutcome, getChildOutcome, isNestedOutcome, containsDictionaryOutcome, fromIntegerTypeOutcome, fromPrimitiveTypeOutcome};
+ghost use Rattle.sheets.specs.RoundTrip.{roundTripOutcomeIn, roundTripOutcome};
 ghost use Rattle.outcome.specs.Answers.{outcomeOf};
 ghost use Rattle.round_trips.specs.Trips.{four};
 ghost use Rattle.juzontefa.specs.Answers.{answerFor, placesTold, placesFor, yesNoTold, yesNoFor};
@@ -31,7 +31,15 @@ fn answer_of(answered: Answered) -> Answer
 pub extern "C" fn juzontefa_import(sheet: &[u8], out: &mut [u8]) -> Answer
     ensures { λ r. ⌜ outcomeOf (r .number) (r .length) (now (out .exit)) ≡ importOutcome (now (sheet .entry)) (now (out .entry)) ⌝ }
 {
-    answer_of(import_sheet::import(sheet, out))
+    answer_of(import_sheet::import(sheet, false, out))
+}
+
+// The same of metadata in the order that the caller says: big-endian unless the number is 0.
+#[no_mangle]
+pub extern "C" fn juzontefa_import_with_order(sheet: &[u8], big: u64, out: &mut [u8]) -> Answer
+    ensures { λ r. ⌜ outcomeOf (r .number) (r .length) (now (out .exit)) ≡ importOutcomeIn (isYes big) (now (sheet .entry)) (now (out .entry)) ⌝ }
+{
+    answer_of(import_sheet::import(sheet, big != 0, out))
 }
 
 // The schema sheet of a field sheet.
@@ -39,7 +47,15 @@ pub extern "C" fn juzontefa_import(sheet: &[u8], out: &mut [u8]) -> Answer
 pub extern "C" fn juzontefa_export(sheet: &[u8], out: &mut [u8]) -> Answer
     ensures { λ r. ⌜ outcomeOf (r .number) (r .length) (now (out .exit)) ≡ exportOutcome (now (sheet .entry)) (now (out .entry)) ⌝ }
 {
-    answer_of(field_calls::export(sheet, out))
+    answer_of(field_calls::export(sheet, false, out))
+}
+
+// The same with metadata in the order that the caller says: big-endian unless the number is 0.
+#[no_mangle]
+pub extern "C" fn juzontefa_export_with_order(sheet: &[u8], big: u64, out: &mut [u8]) -> Answer
+    ensures { λ r. ⌜ outcomeOf (r .number) (r .length) (now (out .exit)) ≡ exportOutcomeIn (isYes big) (now (sheet .entry)) (now (out .entry)) ⌝ }
+{
+    answer_of(field_calls::export(sheet, big != 0, out))
 }
 
 // The plain form of a field sheet.
@@ -112,7 +128,22 @@ pub extern "C" fn juzontefa_round_trip(
 ) -> Trip
     ensures { λ r. ⌜ hostTold (r .answer) (r .number) (four (now (exported .exit)) (now (imported .exit)) (now (plain .exit)) (now (again .exit))) ≡ hostTrip (roundTripOutcome (now (sheet .entry)) (four (now (exported .entry)) (now (imported .entry)) (now (plain .entry)) (now (again .entry)))) ⌝ }
 {
-    trip_of(round_trips::round_trip(sheet, exported, imported, plain, again))
+    trip_of(round_trips::round_trip(sheet, false, exported, imported, plain, again))
+}
+
+// The same with metadata in the order that the caller says: big-endian unless the number is 0.
+#[no_mangle]
+pub extern "C" fn juzontefa_round_trip_with_order(
+    sheet: &[u8],
+    big: u64,
+    exported: &mut [u8],
+    imported: &mut [u8],
+    plain: &mut [u8],
+    again: &mut [u8],
+) -> Trip
+    ensures { λ r. ⌜ hostTold (r .answer) (r .number) (four (now (exported .exit)) (now (imported .exit)) (now (plain .exit)) (now (again .exit))) ≡ hostTrip (roundTripOutcomeIn (isYes big) (now (sheet .entry)) (four (now (exported .entry)) (now (imported .entry)) (now (plain .entry)) (now (again .entry)))) ⌝ }
+{
+    trip_of(round_trips::round_trip(sheet, big != 0, exported, imported, plain, again))
 }
 
 // The number, 0 for success, and the places of the physical type and of the primitive or index type that it carries, 0 if it carries none.

@@ -12,18 +12,19 @@ use Rattle.sheets.specs.Metadata.{somePairs}
 use Rattle.metadata.specs.Entry.{pairAt, pairsAt, valueAt}
 use Rattle.metadata.specs.Pairs.{pairsColumn, valueColumn}
 
-pub pairs-column : (b : Bytes) (es : List ℕ) (n : ℕ) → pairsColumn b es n ≡ writeList pairText (somePairs (pairsAt b es n))
-unfolding pairsColumn
-pairs-column b es n = refl
+module _ (big : Bool) where
+  pub pairs-column : (b : Bytes) (es : List ℕ) (n : ℕ) → pairsColumn big b es n ≡ writeList pairText (somePairs (pairsAt big b es n))
+  unfolding pairsColumn
+  pairs-column b es n = refl
 
-pub value-column : (b : Bytes) (e : ℕ) → valueColumn b e ≡ writeText (valueAt b e)
-unfolding valueColumn
-value-column b e = refl
+  pub value-column : (b : Bytes) (e : ℕ) → valueColumn big b e ≡ writeText (valueAt big b e)
+  unfolding valueColumn
+  value-column b e = refl
 
-pub no-value : (b : Bytes) (e : ℕ) → e ≡ 0 → valueAt b e ≡ none
-unfolding valueAt
-no-value b e z = ap (λ (t : Bool). cond t none (some (pairAt b e .1))) (eq-eqb e 0 z)
+  pub no-value : (b : Bytes) (e : ℕ) → e ≡ 0 → valueAt big b e ≡ none
+  unfolding valueAt
+  no-value b e z = ap (λ (t : Bool). cond t none (some (pairAt big b e .1))) (eq-eqb e 0 z)
 
-pub has-value : (b : Bytes) (e : ℕ) → (e ≡ 0 → ⊥) → valueAt b e ≡ some (pairAt b e .1)
-unfolding valueAt
-has-value b e d = ap (λ (t : Bool). cond t none (some (pairAt b e .1))) (ne-eqb e 0 d)
+  pub has-value : (b : Bytes) (e : ℕ) → (e ≡ 0 → ⊥) → valueAt big b e ≡ some (pairAt big b e .1)
+  unfolding valueAt
+  has-value b e d = ap (λ (t : Bool). cond t none (some (pairAt big b e .1))) (ne-eqb e 0 d)

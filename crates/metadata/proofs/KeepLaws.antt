@@ -70,87 +70,89 @@ other-key text key h d = lengths-differ (bytesOf text) key (λ e. d (omega (arit
 
 -- ── entries
 
-value-at : (b : Bytes) (e : ℕ) → EntryStands b e → valueAt b e ≡ some (pairAt b e .1)
-unfolding valueAt
-value-at b e s = ap (λ (t : Bool). cond t none (some (pairAt b e .1))) (not-none b e s)
+module _ (big : Bool) where
+  value-at : (b : Bytes) (e : ℕ) → EntryStands big b e → valueAt big b e ≡ some (pairAt big b e .1)
+  unfolding valueAt
+  value-at b e s = ap (λ (t : Bool). cond t none (some (pairAt big b e .1))) (not-none big b e s)
 
 -- no entries
 abbrev pub nothing : Metadata
 nothing = record { count = 0; name = 0; more = 0 }
 
-pub kept-none : (b : Bytes) (es : List ℕ) → keptAt b es nothing ≡ keptOf []
-unfolding pairsAt valueAt
-kept-none b es = refl
+module _ (big : Bool) where
+  pub kept-none : (b : Bytes) (es : List ℕ) → keptAt big b es nothing ≡ keptOf []
+  unfolding pairsAt valueAt
+  kept-none b es = refl
 
-pub none-stand : (b : Bytes) (es : List ℕ) → EntriesStand b es nothing
-none-stand b es =
-    record {
-      entries = record { count = omega arith; each = tt };
-      hasName = λ z. absurd (true≢false z);
-      hasMore = λ z. absurd (true≢false z);
-    }
+  pub none-stand : (b : Bytes) (es : List ℕ) → EntriesStand big b es nothing
+  none-stand b es =
+      record {
+        entries = record { count = omega arith; each = tt };
+        hasName = λ z. absurd (true≢false z);
+        hasMore = λ z. absurd (true≢false z);
+      }
 
-module _ (b : Bytes) (es : List ℕ) (f : Metadata) (e : ℕ) (s : EntryStands b e) (w : EntriesStand b es f) where
-  -- which of the reserved keys it is, decides what the key is
-  is-reserved : (t u : Bool) → same (pairAt b e .0) nameKey ≡ t → same (pairAt b e .0) metadataKey ≡ u → reserved (pairAt b e .0) ≡ (t || u)
-  is-reserved t u p q = ap₂ (λ (x y : Bool). x || y) p q
+  module _ (b : Bytes) (es : List ℕ) (f : Metadata) (e : ℕ) (s : EntryStands big b e) (w : EntriesStand big b es f) where
+    -- which of the reserved keys it is, decides what the key is
+    is-reserved : (t u : Bool) → same (pairAt big b e .0) nameKey ≡ t → same (pairAt big b e .0) metadataKey ≡ u → reserved (pairAt big b e .0) ≡ (t || u)
+    is-reserved t u p q = ap₂ (λ (x y : Bool). x || y) p q
 
-  pub adds-name : same (pairAt b e .0) nameKey ≡ true → Adds b es f e es (record { count = f .count; name = e; more = f .more })
-  adds-name n = (record { entries = w .entries; hasName = λ z. s; hasMore = w .hasMore }, kept)
-    where
-      other : same (pairAt b e .0) metadataKey ≡ false
-      other = ap (λ (k : Bytes). same k metadataKey) (same-eq (pairAt b e .0) nameKey n)
-
-      kept : (ps : List Pair) → keptAt b es f ≡ keptOf ps → keptAt b es (record { count = f .count; name = e; more = f .more }) ≡ keptOf (ps ++ (pairAt b e ∷ []))
-      kept ps h =
-          let x = ap (λ (k : Kept). k .pairs) h ∙ sym (unreserved-old ps (pairAt b e) (is-reserved true false n other)) in
-          let y = value-at b e s ∙ sym (value-new nameKey ps (pairAt b e) n) in
-          let z = ap (λ (k : Kept). k .more) h ∙ sym (value-old metadataKey ps (pairAt b e) other) in
-          λ i. record { pairs = x i; name = y i; more = z i }
-
-  module _ (n : same (pairAt b e .0) nameKey ≡ false) where
-    pub adds-more : same (pairAt b e .0) metadataKey ≡ true → Adds b es f e es (record { count = f .count; name = f .name; more = e })
-    adds-more m = (record { entries = w .entries; hasName = w .hasName; hasMore = λ z. s }, kept)
+    pub adds-name : same (pairAt big b e .0) nameKey ≡ true → Adds big b es f e es (record { count = f .count; name = e; more = f .more })
+    adds-name n = (record { entries = w .entries; hasName = λ z. s; hasMore = w .hasMore }, kept)
       where
-        kept : (ps : List Pair) → keptAt b es f ≡ keptOf ps → keptAt b es (record { count = f .count; name = f .name; more = e }) ≡ keptOf (ps ++ (pairAt b e ∷ []))
+        other : same (pairAt big b e .0) metadataKey ≡ false
+        other = ap (λ (k : Bytes). same k metadataKey) (same-eq (pairAt big b e .0) nameKey n)
+
+        kept : (ps : List Pair) → keptAt big b es f ≡ keptOf ps → keptAt big b es (record { count = f .count; name = e; more = f .more }) ≡ keptOf (ps ++ (pairAt big b e ∷ []))
         kept ps h =
-            let x = ap (λ (k : Kept). k .pairs) h ∙ sym (unreserved-old ps (pairAt b e) (is-reserved false true n m)) in
-            let y = ap (λ (k : Kept). k .name) h ∙ sym (value-old nameKey ps (pairAt b e) n) in
-            let z = value-at b e s ∙ sym (value-new metadataKey ps (pairAt b e) m) in
+            let x = ap (λ (k : Kept). k .pairs) h ∙ sym (unreserved-old ps (pairAt big b e) (is-reserved true false n other)) in
+            let y = value-at big b e s ∙ sym (value-new nameKey ps (pairAt big b e) n) in
+            let z = ap (λ (k : Kept). k .more) h ∙ sym (value-old metadataKey ps (pairAt big b e) other) in
             λ i. record { pairs = x i; name = y i; more = z i }
 
-    module _ (m : same (pairAt b e .0) metadataKey ≡ false) (room : f .count < length es) where
-      one-more : take (f .count + 1) (set es (f .count) e) ≡ take (f .count) es ++ (e ∷ [])
-      one-more = ap (λ (n : ℕ). take n (set es (f .count) e)) (add-one (f .count)) ∙ take-suc-set es (f .count) e room
-
-      pairs-more : pairsAt b (set es (f .count) e) (f .count + 1) ≡ pairsAt b es (f .count) ++ (pairAt b e ∷ [])
-      unfolding pairsAt
-      pairs-more = ap (map (pairAt b)) one-more ∙ map-append (pairAt b) (take (f .count) es) (e ∷ [])
-
-      pub adds-pair : Adds b es f e (set es (f .count) e) (record { count = f .count + 1; name = f .name; more = f .more })
-      adds-pair = (
-        record {
-          entries =
-              record {
-                count = omega (arith, length-set es (f .count) e);
-                each = subst (Each (EntryStands b)) (sym one-more) (each-more b (take (f .count) es) e (w .entries .each) s);
-              };
-          hasName = w .hasName;
-          hasMore = w .hasMore;
-        },
-        kept,
-      )
+    module _ (n : same (pairAt big b e .0) nameKey ≡ false) where
+      pub adds-more : same (pairAt big b e .0) metadataKey ≡ true → Adds big b es f e es (record { count = f .count; name = f .name; more = e })
+      adds-more m = (record { entries = w .entries; hasName = w .hasName; hasMore = λ z. s }, kept)
         where
-          kept : (ps : List Pair) → keptAt b es f ≡ keptOf ps
-              → keptAt b (set es (f .count) e) (record { count = f .count + 1; name = f .name; more = f .more }) ≡ keptOf (ps ++ (pairAt b e ∷ []))
+          kept : (ps : List Pair) → keptAt big b es f ≡ keptOf ps → keptAt big b es (record { count = f .count; name = f .name; more = e }) ≡ keptOf (ps ++ (pairAt big b e ∷ []))
           kept ps h =
-              let x =
-              pairs-more
-              ∙ ap (λ (k : Kept). k .pairs ++ (pairAt b e ∷ [])) h
-              ∙ sym (unreserved-new ps (pairAt b e) (is-reserved false false n m)) in
-              let y = ap (λ (k : Kept). k .name) h ∙ sym (value-old nameKey ps (pairAt b e) n) in
-              let z = ap (λ (k : Kept). k .more) h ∙ sym (value-old metadataKey ps (pairAt b e) m) in
+              let x = ap (λ (k : Kept). k .pairs) h ∙ sym (unreserved-old ps (pairAt big b e) (is-reserved false true n m)) in
+              let y = ap (λ (k : Kept). k .name) h ∙ sym (value-old nameKey ps (pairAt big b e) n) in
+              let z = value-at big b e s ∙ sym (value-new metadataKey ps (pairAt big b e) m) in
               λ i. record { pairs = x i; name = y i; more = z i }
+
+      module _ (m : same (pairAt big b e .0) metadataKey ≡ false) (room : f .count < length es) where
+        one-more : take (f .count + 1) (set es (f .count) e) ≡ take (f .count) es ++ (e ∷ [])
+        one-more = ap (λ (n : ℕ). take n (set es (f .count) e)) (add-one (f .count)) ∙ take-suc-set es (f .count) e room
+
+        pairs-more : pairsAt big b (set es (f .count) e) (f .count + 1) ≡ pairsAt big b es (f .count) ++ (pairAt big b e ∷ [])
+        unfolding pairsAt
+        pairs-more = ap (map (pairAt big b)) one-more ∙ map-append (pairAt big b) (take (f .count) es) (e ∷ [])
+
+        pub adds-pair : Adds big b es f e (set es (f .count) e) (record { count = f .count + 1; name = f .name; more = f .more })
+        adds-pair = (
+          record {
+            entries =
+                record {
+                  count = omega (arith, length-set es (f .count) e);
+                  each = subst (Each (EntryStands big b)) (sym one-more) (each-more big b (take (f .count) es) e (w .entries .each) s);
+                };
+            hasName = w .hasName;
+            hasMore = w .hasMore;
+          },
+          kept,
+        )
+          where
+            kept : (ps : List Pair) → keptAt big b es f ≡ keptOf ps
+                → keptAt big b (set es (f .count) e) (record { count = f .count + 1; name = f .name; more = f .more }) ≡ keptOf (ps ++ (pairAt big b e ∷ []))
+            kept ps h =
+                let x =
+                pairs-more
+                ∙ ap (λ (k : Kept). k .pairs ++ (pairAt big b e ∷ [])) h
+                ∙ sym (unreserved-new ps (pairAt big b e) (is-reserved false false n m)) in
+                let y = ap (λ (k : Kept). k .name) h ∙ sym (value-old nameKey ps (pairAt big b e) n) in
+                let z = ap (λ (k : Kept). k .more) h ∙ sym (value-old metadataKey ps (pairAt big b e) m) in
+                λ i. record { pairs = x i; name = y i; more = z i }
 
 -- ── what is kept means what the pairs mean
 

@@ -27,18 +27,19 @@ use Rattle.metadata.proofs.EntryLaws.{key-text, each-at}
 
 -- ── a pair
 
--- the key of an entry, and its value
-module _ (m : Bytes) (h : isHex m ≡ true) (e : ℕ) (s : EntryStands (bytesOf m) e) (key value : Bytes) (k : key ≡ keyAt m e) (v : value ≡ hex (pairAt (bytesOf m) e .1)) where
-  is-key : key ≡ hex (pairAt (bytesOf m) e .0)
-  is-key = k ∙ key-text m h e s
+module _ (big : Bool) where
+  -- the key of an entry, and its value
+  module _ (m : Bytes) (h : isHex m ≡ true) (e : ℕ) (s : EntryStands big (bytesOf m) e) (key value : Bytes) (k : key ≡ keyAt m e) (v : value ≡ hex (pairAt big (bytesOf m) e .1)) where
+    is-key : key ≡ hex (pairAt big (bytesOf m) e .0)
+    is-key = k ∙ key-text big m h e s
 
-  pub pair-written : pairPiece key value ≡ pairText (pairAt (bytesOf m) e)
-  pair-written = ap₂ pairPiece is-key v ∙ pair-hex (pairAt (bytesOf m) e .0) (pairAt (bytesOf m) e .1)
+    pub pair-written : pairPiece key value ≡ pairText (pairAt big (bytesOf m) e)
+    pair-written = ap₂ pairPiece is-key v ∙ pair-hex (pairAt big (bytesOf m) e .0) (pairAt big (bytesOf m) e .1)
 
-  pub pair-size : length (pairText (pairAt (bytesOf m) e)) ≡ 1 + length key + length value
-  pair-size =
-      length-append (hex (pairAt (bytesOf m) e .0)) (equals ∷ hex (pairAt (bytesOf m) e .1))
-      ∙ omega (arith, ap length is-key, ap length v)
+    pub pair-size : length (pairText (pairAt big (bytesOf m) e)) ≡ 1 + length key + length value
+    pair-size =
+        length-append (hex (pairAt big (bytesOf m) e .0)) (equals ∷ hex (pairAt big (bytesOf m) e .1))
+        ∙ omega (arith, ap length is-key, ap length v)
 
 -- ── what is left of the column
 
@@ -52,114 +53,116 @@ joined p [] = sym (append-nil (pairText p))
 joined p (q ∷ ps) = ap (λ (t : Bytes). pairText p ++ (comma ∷ t)) (joined q ps)
 
 -- the entries that are left after i of them
-abbrev pub restOf : Bytes → List ℕ → ℕ → ℕ → Bytes
-restOf b es n i = afterCommas (map (pairAt b) (drop i (take n es)))
+abbrev pub restOf : Bool → Bytes → List ℕ → ℕ → ℕ → Bytes
+restOf big b es n i = afterCommas (map (pairAt big b) (drop i (take n es)))
 
-module _ (b : Bytes) (es : List ℕ) (n : ℕ) (h : n ≤ length es) where
-  next-entry : (i : ℕ) → i < n → drop i (take n es) ≡ getD es i 0 ∷ drop (suc i) (take n es)
-  next-entry i l =
-      drop-cons (take n es) i 0 (omega (arith, length-take-le n es h))
-      ∙ ap (λ (e : ℕ). e ∷ drop (suc i) (take n es)) (getD-take n es i 0 l)
+module _ (big : Bool) where
+  module _ (b : Bytes) (es : List ℕ) (n : ℕ) (h : n ≤ length es) where
+    next-entry : (i : ℕ) → i < n → drop i (take n es) ≡ getD es i 0 ∷ drop (suc i) (take n es)
+    next-entry i l =
+        drop-cons (take n es) i 0 (omega (arith, length-take-le n es h))
+        ∙ ap (λ (e : ℕ). e ∷ drop (suc i) (take n es)) (getD-take n es i 0 l)
 
-  pub rest-next : (i : ℕ) → i < n → restOf b es n i ≡ comma ∷ (pairText (pairAt b (getD es i 0)) ++ restOf b es n (i + 1))
-  rest-next i l = ap (λ (t : List ℕ). afterCommas (map (pairAt b) t)) (next-entry i l) ∙ ap (λ (j : ℕ). comma ∷ (pairText (pairAt b (getD es i 0)) ++ restOf b es n j)) (sym (add-one i))
+    pub rest-next : (i : ℕ) → i < n → restOf big b es n i ≡ comma ∷ (pairText (pairAt big b (getD es i 0)) ++ restOf big b es n (i + 1))
+    rest-next i l = ap (λ (t : List ℕ). afterCommas (map (pairAt big b) t)) (next-entry i l) ∙ ap (λ (j : ℕ). comma ∷ (pairText (pairAt big b (getD es i 0)) ++ restOf big b es n j)) (sym (add-one i))
 
-  pub rest-none : (i : ℕ) → n ≤ i → restOf b es n i ≡ []
-  rest-none i l = ap (λ (t : List ℕ). afterCommas (map (pairAt b) t)) (drop-of-length-le (take n es) {i = i} (omega (arith, length-take-le n es h)))
+    pub rest-none : (i : ℕ) → n ≤ i → restOf big b es n i ≡ []
+    rest-none i l = ap (λ (t : List ℕ). afterCommas (map (pairAt big b) t)) (drop-of-length-le (take n es) {i = i} (omega (arith, length-take-le n es h)))
 
-  pub column-first : 0 < n → pairsColumn b es n ≡ pairText (pairAt b (getD es 0 0)) ++ restOf b es n 1
+    pub column-first : 0 < n → pairsColumn big b es n ≡ pairText (pairAt big b (getD es 0 0)) ++ restOf big b es n 1
+    unfolding pairsColumn pairsAt
+    column-first l = ap (λ (t : List ℕ). writeList pairText (somePairs (map (pairAt big b) t))) (next-entry 0 l) ∙ joined (pairAt big b (getD es 0 0)) (map (pairAt big b) (drop 1 (take n es)))
+
+  pub column-none : (b : Bytes) (es : List ℕ) (n : ℕ) → n ≡ 0 → 126 ∷ [] ≡ pairsColumn big b es n
   unfolding pairsColumn pairsAt
-  column-first l = ap (λ (t : List ℕ). writeList pairText (somePairs (map (pairAt b) t))) (next-entry 0 l) ∙ joined (pairAt b (getD es 0 0)) (map (pairAt b) (drop 1 (take n es)))
-
-pub column-none : (b : Bytes) (es : List ℕ) (n : ℕ) → n ≡ 0 → 126 ∷ [] ≡ pairsColumn b es n
-unfolding pairsColumn pairsAt
-column-none b es n e = ap (λ (i : ℕ). writeList pairText (somePairs (map (pairAt b) (take i es)))) (sym e)
+  column-none b es n e = ap (λ (i : ℕ). writeList pairText (somePairs (map (pairAt big b) (take i es)))) (sym e)
 
 -- ── the writing
 
 -- after i of the entries, of which the first was written before `start`
-pub record Putting (b : Bytes) (es : List ℕ) (n start : ℕ) (old out : Bytes) (end i : ℕ) : Type 0 where
+pub record Putting (big : Bool) (b : Bytes) (es : List ℕ) (n start : ℕ) (old out : Bytes) (end i : ℕ) : Type 0 where
   pub text : Bytes
   pub turns : i ≤ n
   pub written : Written start text old end out
-  pub rest : restOf b es n 1 ≡ text ++ restOf b es n i
+  pub rest : restOf big b es n 1 ≡ text ++ restOf big b es n i
 
-module _ (m : Bytes) (es : List ℕ) (n at : ℕ) (h : CanPut m es n at) where
-  pub entry-at : (i : ℕ) → i < n → EntryStands (bytesOf m) (getD es i 0)
-  entry-at i l =
-      subst (EntryStands (bytesOf m)) (getD-take n es i 0 l) (each-at (bytesOf m) (take n es) i (omega (arith, length-take-le n es (h .entries .count))) (h .entries .each))
+module _ (big : Bool) where
+  module _ (m : Bytes) (es : List ℕ) (n at : ℕ) (h : CanPut big m es n at) where
+    pub entry-at : (i : ℕ) → i < n → EntryStands big (bytesOf m) (getD es i 0)
+    entry-at i l =
+        subst (EntryStands big (bytesOf m)) (getD-take n es i 0 l) (each-at big (bytesOf m) (take n es) i (omega (arith, length-take-le n es (h .entries .count))) (h .entries .each))
 
-  module _ (l : 0 < n) where
-    first-size : length (pairsColumn (bytesOf m) es n) ≡ length (pairText (pairAt (bytesOf m) (getD es 0 0))) + length (restOf (bytesOf m) es n 1)
-    first-size =
-        ap length (column-first (bytesOf m) es n (h .entries .count) l)
-        ∙ length-append (pairText (pairAt (bytesOf m) (getD es 0 0))) (restOf (bytesOf m) es n 1)
+    module _ (l : 0 < n) where
+      first-size : length (pairsColumn big (bytesOf m) es n) ≡ length (pairText (pairAt big (bytesOf m) (getD es 0 0))) + length (restOf big (bytesOf m) es n 1)
+      first-size =
+          ap length (column-first big (bytesOf m) es n (h .entries .count) l)
+          ∙ length-append (pairText (pairAt big (bytesOf m) (getD es 0 0))) (restOf big (bytesOf m) es n 1)
 
-    pub first-fits : at + length (pairText (pairAt (bytesOf m) (getD es 0 0))) < 2 ^ 64
-    first-fits = omega (arith, h .fits, first-size)
+      pub first-fits : at + length (pairText (pairAt big (bytesOf m) (getD es 0 0))) < 2 ^ 64
+      first-fits = omega (arith, h .fits, first-size)
 
-    module _ (start : ℕ) (old first : Bytes)
-        (p : PutAt at (pairText (pairAt (bytesOf m) (getD es 0 0))) start old first) where
-      pub first-put : Putting (bytesOf m) es n start first first start 1
-      first-put = record { text = []; turns = l; written = none-yet start first; rest = refl }
+      module _ (start : ℕ) (old first : Bytes)
+          (p : PutAt at (pairText (pairAt big (bytesOf m) (getD es 0 0))) start old first) where
+        pub first-put : Putting big (bytesOf m) es n start first first start 1
+        first-put = record { text = []; turns = l; written = none-yet start first; rest = refl }
 
-      module _ (out : Bytes) (end i : ℕ) (w : Putting (bytesOf m) es n start first out end i) where
-        pub put-finished : n ≤ i → PutAt at (pairsColumn (bytesOf m) es n) end old out
-        put-finished d =
-            let e : w .text ≡ restOf (bytesOf m) es n 1 = sym (w .rest ∙ ap (λ (t : Bytes). w .text ++ t) (rest-none (bytesOf m) es n (h .entries .count) i d) ∙ append-nil (w .text)) in
-            let all = and-then (w .text) (and-then (pairText (pairAt (bytesOf m) (getD es 0 0))) (none-yet at old) p) (w .written .place, w .written .holds) in
-            let c : pairText (pairAt (bytesOf m) (getD es 0 0)) ++ w .text ≡ pairsColumn (bytesOf m) es n = ap (λ (t : Bytes). pairText (pairAt (bytesOf m) (getD es 0 0)) ++ t) e ∙ sym (column-first (bytesOf m) es n (h .entries .count) l) in
-            (all .place ∙ ap (λ (t : Bytes). at + length t) c, all .holds ∙ ap (λ (t : Bytes). overAt at t old) c)
+        module _ (out : Bytes) (end i : ℕ) (w : Putting big (bytesOf m) es n start first out end i) where
+          pub put-finished : n ≤ i → PutAt at (pairsColumn big (bytesOf m) es n) end old out
+          put-finished d =
+              let e : w .text ≡ restOf big (bytesOf m) es n 1 = sym (w .rest ∙ ap (λ (t : Bytes). w .text ++ t) (rest-none big (bytesOf m) es n (h .entries .count) i d) ∙ append-nil (w .text)) in
+              let all = and-then (w .text) (and-then (pairText (pairAt big (bytesOf m) (getD es 0 0))) (none-yet at old) p) (w .written .place, w .written .holds) in
+              let c : pairText (pairAt big (bytesOf m) (getD es 0 0)) ++ w .text ≡ pairsColumn big (bytesOf m) es n = ap (λ (t : Bytes). pairText (pairAt big (bytesOf m) (getD es 0 0)) ++ t) e ∙ sym (column-first big (bytesOf m) es n (h .entries .count) l) in
+              (all .place ∙ ap (λ (t : Bytes). at + length t) c, all .holds ∙ ap (λ (t : Bytes). overAt at t old) c)
 
-        module _ (d : i < n) where
-          rest-more : restOf (bytesOf m) es n 1 ≡ w .text ++ (comma ∷ (pairText (pairAt (bytesOf m) (getD es i 0)) ++ restOf (bytesOf m) es n (i + 1)))
-          rest-more = w .rest ∙ ap (λ (t : Bytes). w .text ++ t) (rest-next (bytesOf m) es n (h .entries .count) i d)
+          module _ (d : i < n) where
+            rest-more : restOf big (bytesOf m) es n 1 ≡ w .text ++ (comma ∷ (pairText (pairAt big (bytesOf m) (getD es i 0)) ++ restOf big (bytesOf m) es n (i + 1)))
+            rest-more = w .rest ∙ ap (λ (t : Bytes). w .text ++ t) (rest-next big (bytesOf m) es n (h .entries .count) i d)
 
-          pub next-fits : end + 1 + length (pairText (pairAt (bytesOf m) (getD es i 0))) < 2 ^ 64
-          next-fits =
-              omega (
-                arith,
-                h .fits,
-                first-size,
-                p .0,
-                w .written .place,
-                ap length rest-more,
-                length-append (w .text) (comma ∷ (pairText (pairAt (bytesOf m) (getD es i 0)) ++ restOf (bytesOf m) es n (i + 1))),
-                length-append (pairText (pairAt (bytesOf m) (getD es i 0))) (restOf (bytesOf m) es n (i + 1)),
-              )
+            pub next-fits : end + 1 + length (pairText (pairAt big (bytesOf m) (getD es i 0))) < 2 ^ 64
+            next-fits =
+                omega (
+                  arith,
+                  h .fits,
+                  first-size,
+                  p .0,
+                  w .written .place,
+                  ap length rest-more,
+                  length-append (w .text) (comma ∷ (pairText (pairAt big (bytesOf m) (getD es i 0)) ++ restOf big (bytesOf m) es n (i + 1))),
+                  length-append (pairText (pairAt big (bytesOf m) (getD es i 0))) (restOf big (bytesOf m) es n (i + 1)),
+                )
 
-          pub next-put : (sign : ℕ) (out' : Bytes) → PutAt end (comma ∷ []) sign out out' → (end' : ℕ) (out'' : Bytes)
-              → PutAt sign (pairText (pairAt (bytesOf m) (getD es i 0))) end' out' out''
-              → Putting (bytesOf m) es n start first out'' end' (i + 1)
-          next-put sign out' q end' out'' r =
-              record {
-                text = (w .text ++ (comma ∷ [])) ++ pairText (pairAt (bytesOf m) (getD es i 0));
-                turns = omega arith;
-                written = and-then (pairText (pairAt (bytesOf m) (getD es i 0))) (and-then (comma ∷ []) (w .written) q) r;
-                rest =
-                    rest-more
-                    ∙ sym (append-assoc (w .text) (comma ∷ []) (pairText (pairAt (bytesOf m) (getD es i 0)) ++ restOf (bytesOf m) es n (i + 1)))
-                    ∙ sym (append-assoc (w .text ++ (comma ∷ [])) (pairText (pairAt (bytesOf m) (getD es i 0))) (restOf (bytesOf m) es n (i + 1)));
-              }
+            pub next-put : (sign : ℕ) (out' : Bytes) → PutAt end (comma ∷ []) sign out out' → (end' : ℕ) (out'' : Bytes)
+                → PutAt sign (pairText (pairAt big (bytesOf m) (getD es i 0))) end' out' out''
+                → Putting big (bytesOf m) es n start first out'' end' (i + 1)
+            next-put sign out' q end' out'' r =
+                record {
+                  text = (w .text ++ (comma ∷ [])) ++ pairText (pairAt big (bytesOf m) (getD es i 0));
+                  turns = omega arith;
+                  written = and-then (pairText (pairAt big (bytesOf m) (getD es i 0))) (and-then (comma ∷ []) (w .written) q) r;
+                  rest =
+                      rest-more
+                      ∙ sym (append-assoc (w .text) (comma ∷ []) (pairText (pairAt big (bytesOf m) (getD es i 0)) ++ restOf big (bytesOf m) es n (i + 1)))
+                      ∙ sym (append-assoc (w .text ++ (comma ∷ [])) (pairText (pairAt big (bytesOf m) (getD es i 0))) (restOf big (bytesOf m) es n (i + 1)));
+                }
 
--- ── a value
+  -- ── a value
 
-pub value-none : (b : Bytes) (e : ℕ) → e ≡ 0 → 126 ∷ [] ≡ valueColumn b e
-unfolding valueColumn valueAt
-value-none b e z = ap (λ (i : ℕ). writeText (valueAt b i)) (sym z)
-
-module _ (b : Bytes) (e : ℕ) (d : e ≡ 0 → ⊥) where
-  is-value : valueColumn b e ≡ writeText (some (pairAt b e .1))
+  pub value-none : (b : Bytes) (e : ℕ) → e ≡ 0 → 126 ∷ [] ≡ valueColumn big b e
   unfolding valueColumn valueAt
-  is-value = ap (λ (t : Bool). writeText (cond t none (some (pairAt b e .1)))) (ne-eqb e 0 d)
+  value-none b e z = ap (λ (i : ℕ). writeText (valueAt big b i)) (sym z)
 
-  -- by the value's text: `-` where that is empty, and else the text itself
-  column-of : (v : Bytes) → (length (hex v) ≡ 0 → 45 ∷ [] ≡ writeText (some v)) × ((length (hex v) ≡ 0 → ⊥) → hex v ≡ writeText (some v))
-  column-of [] = (λ z. refl, λ z. absurd (z refl))
-  column-of (x ∷ v) = (λ z. absurd (omega arith), λ z. refl)
+  module _ (b : Bytes) (e : ℕ) (d : e ≡ 0 → ⊥) where
+    is-value : valueColumn big b e ≡ writeText (some (pairAt big b e .1))
+    unfolding valueColumn valueAt
+    is-value = ap (λ (t : Bool). writeText (cond t none (some (pairAt big b e .1)))) (ne-eqb e 0 d)
 
-  pub value-empty : (t : Bytes) → t ≡ hex (pairAt b e .1) → length t ≡ 0 → 45 ∷ [] ≡ valueColumn b e
-  value-empty t f z = column-of (pairAt b e .1) .0 (sym (ap length f) ∙ z) ∙ sym is-value
+    -- by the value's text: `-` where that is empty, and else the text itself
+    column-of : (v : Bytes) → (length (hex v) ≡ 0 → 45 ∷ [] ≡ writeText (some v)) × ((length (hex v) ≡ 0 → ⊥) → hex v ≡ writeText (some v))
+    column-of [] = (λ z. refl, λ z. absurd (z refl))
+    column-of (x ∷ v) = (λ z. absurd (omega arith), λ z. refl)
 
-  pub value-text : (t : Bytes) → t ≡ hex (pairAt b e .1) → (length t ≡ 0 → ⊥) → t ≡ valueColumn b e
-  value-text t f z = f ∙ column-of (pairAt b e .1) .1 (λ y. z (ap length f ∙ y)) ∙ sym is-value
+    pub value-empty : (t : Bytes) → t ≡ hex (pairAt big b e .1) → length t ≡ 0 → 45 ∷ [] ≡ valueColumn big b e
+    value-empty t f z = column-of (pairAt big b e .1) .0 (sym (ap length f) ∙ z) ∙ sym is-value
+
+    pub value-text : (t : Bytes) → t ≡ hex (pairAt big b e .1) → (length t ≡ 0 → ⊥) → t ≡ valueColumn big b e
+    value-text t f z = f ∙ column-of (pairAt big b e .1) .1 (λ y. z (ap length f ∙ y)) ∙ sym is-value

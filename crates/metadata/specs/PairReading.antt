@@ -1,6 +1,6 @@
 -- Texts and pairs of a metadata block, read in place: how many bytes they have, or why they are refused. Assumes nothing.
 use mathlib.Core.Path.{_≡_}
-use mathlib.Core.Bool.{true}
+use mathlib.Core.Bool.{Bool, true}
 use Prim.Native.Nat.{ℕ, _+_, _*_, _≤_, _<_}
 use lib.ListN.{length, drop}
 use Rattle.sheets.specs.Bytes.{Bytes}
@@ -24,18 +24,18 @@ pub record BlockPlace (m : Bytes) (k : ℕ) : Type 0 where
   pub within : 2 * k ≤ length m
 
 -- the bytes of the text whose length stands at byte k
-abbrev pub textSize : Bytes → ℕ → Answer ℕ
-textSize b k = takeText (drop k b) >>= λ (t, rest). given (length t)
+abbrev pub textSize : Bool → Bytes → ℕ → Answer ℕ
+textSize big b k = takeText big (drop k b) >>= λ (t, rest). given (length t)
 
 abbrev pub textAnswer : TextRead → Answer ℕ
 textAnswer (Text.Size n) = given n
 textAnswer (Text.Refused q) = refused (refusalOf q)
 
 -- a key whose length stands at byte k, and the value after it: the bytes of the key, and the byte after the value
-abbrev pub pairPlaces : Bytes → ℕ → Answer (ℕ × ℕ)
-pairPlaces b k = do
-  key ← textSize b k
-  value ← textSize b (k + 4 + key)
+abbrev pub pairPlaces : Bool → Bytes → ℕ → Answer (ℕ × ℕ)
+pairPlaces big b k = do
+  key ← textSize big b k
+  value ← textSize big b (k + 4 + key)
   given (key, k + 4 + key + 4 + value)
 
 abbrev pub pairAnswer : PairRead → Answer (ℕ × ℕ)
@@ -43,5 +43,5 @@ pairAnswer (Pairs.Between key next) = given (key, next)
 pairAnswer (Pairs.Refused q) = refused (refusalOf q)
 
 -- a key of n bytes at byte k of the block
-abbrev pub KeyIn : Bytes → ℕ → ℕ → Type 0
-KeyIn m k n = Block m × (textSize (bytesOf m) k ≡ given n)
+abbrev pub KeyIn : Bool → Bytes → ℕ → ℕ → Type 0
+KeyIn big m k n = Block m × (textSize big (bytesOf m) k ≡ given n)

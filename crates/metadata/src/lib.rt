@@ -1,4 +1,5 @@
-// `metadata_from_bytes` over the hexadecimal text of a schema line's metadata, in place: pairs are entries, numbers that say where they stand.
+// `metadata_from_bytes` over the hexadecimal text of a schema line's metadata, in place: pairs are entries, numbers that say where they stand. The
+// count and the lengths are big-endian (`big`) or not.
 pub mod pair;
 pub mod put;
 
@@ -9,9 +10,9 @@ ghost use lib.ListN.{drop};
 ghost use Rattle.sheets.specs.Bytes.{same};
 ghost use Rattle.sheets.specs.Metadata.{countOf, nameKey, metadataKey, metadataFromBytes};
 ghost use Rattle.hex.specs.Hex.{isHex, bytesOf};
-ghost use Rattle.little_endian.specs.Word.{HasWord};
+ghost use Rattle.endian.specs.Word.{HasWord};
 ghost use Rattle.metadata.specs.Entry.{lengthAt};
-ghost use Rattle.metadata.specs.Reading.{keptPairs, keptAt, meaningOf, meaningAt, keptAnswer, metadataAnswer, EntriesStand, MetadataStands, Adds, RoomFor, Room, HasCount, CanOrder};
+ghost use Rattle.metadata.specs.Reading.{keptPairs, keptAnswer, metadataAnswer, MetadataStands, CanKeep, Keeps, Room, HasCount, CanOrderKeys, OrdersKeys};
 use crate::pair::PairRead;
 use refusal::Refusal;
 
@@ -48,10 +49,10 @@ fn is_more(text: &[u8]) -> bool
     hex::says(text, b"ARROW:extension:metadata")
 }
 
-// The reserved keys do not become pairs; of equal ones the last is kept.
+// The reserved keys do not become pairs; of equal ones the last is kept. Keys are the same in either order.
 fn keep(m: &[u8], entries: &mut [u32], f: Metadata, e: u32) -> Metadata
-    requires { ⌜ RoomFor (now m) (now entries) f e ⌝ }
-    ensures { λ r. ⌜ Adds (bytesOf (now (m .entry))) (now (entries .entry)) f e (now (entries .exit)) r ⌝ }
+    requires { ⌜ CanKeep (now m) (now entries) f e ⌝ }
+    ensures { λ r. ⌜ Keeps (now (m .entry)) (now (entries .entry)) f e (now (entries .exit)) r ⌝ }
 {
     let count = f.count;
     let key = key_order::key_of(m, e);
@@ -78,10 +79,10 @@ fn keep(m: &[u8], entries: &mut [u32], f: Metadata, e: u32) -> Metadata
 }
 
 // Reads n pairs, each once: tests them and records their entries.
-fn walk(m: &[u8], n: u32, entries: &mut [u32]) -> MetadataRead
+fn walk(m: &[u8], n: u32, big: bool, entries: &mut [u32]) -> MetadataRead
     requires { ⌜ HasCount (now m) (now entries) ⌝ }
-    ensures { λ r. ⌜ keptAnswer (bytesOf (now (m .entry))) (now (entries .exit)) r ≡ keptPairs n (drop 4 (bytesOf (now (m .entry)))) ⌝ }
-    ensures { λ r. ⌜ MetadataStands (bytesOf (now (m .entry))) (now (entries .exit)) r ⌝ }
+    ensures { λ r. ⌜ keptAnswer big (bytesOf (now (m .entry))) (now (entries .exit)) r ≡ keptPairs big n (drop 4 (bytesOf (now (m .entry)))) ⌝ }
+    ensures { λ r. ⌜ MetadataStands big (bytesOf (now (m .entry))) (now (entries .exit)) r ⌝ }
 {
     let mut f = Metadata {
         count: 0,
@@ -91,7 +92,7 @@ fn walk(m: &[u8], n: u32, entries: &mut [u32]) -> MetadataRead
     let mut k = 4;
     let mut i = 0;
     while i < n {
-        match crate::pair::read_pair(m, k) {
+        match crate::pair::read_pair(m, k, big) {
             PairRead::Refused(q) => return MetadataRead::Refused(q),
             PairRead::Between(size, next) => {
                 f = keep(m, entries, f, key_order::entry_of(2 * (k + 4), 2 * size));
@@ -104,11 +105,11 @@ fn walk(m: &[u8], n: u32, entries: &mut [u32]) -> MetadataRead
 }
 
 // "A count of 0 or less gives no pairs": a negative one is 2147483648 or more.
-fn count_of(m: &[u8]) -> u32
+fn count_of(m: &[u8], big: bool) -> u32
     requires { ⌜ HasWord (now m) 0 ⌝ }
-    ensures { λ r. ⌜ r ≡ countOf (lengthAt (bytesOf (now (m .entry))) 0) ⌝ }
+    ensures { λ r. ⌜ r ≡ countOf (lengthAt big (bytesOf (now (m .entry))) 0) ⌝ }
 {
-    let n = little_endian::word_at(m, 0);
+    let n = endian::word_at(m, 0, big);
     if n < 2147483648 {
         return n;
     }
@@ -117,9 +118,8 @@ fn count_of(m: &[u8]) -> u32
 
 // Puts the entries into the order of their keys.
 fn in_order(m: &[u8], entries: &mut [u32], spare: &mut [u32], f: Metadata) -> Metadata
-    requires { ⌜ CanOrder (now m) (now entries) (now spare) f ⌝ }
-    ensures { λ r. ⌜ meaningAt (bytesOf (now (m .entry))) (now (entries .exit)) r ≡ meaningOf (keptAt (bytesOf (now (m .entry))) (now (entries .entry)) f) ⌝ }
-    ensures { λ r. ⌜ EntriesStand (bytesOf (now (m .entry))) (now (entries .exit)) r ⌝ }
+    requires { ⌜ CanOrderKeys (now m) (now entries) (now spare) f ⌝ }
+    ensures { λ r. ⌜ OrdersKeys (now (m .entry)) (now (entries .entry)) (now (spare .entry)) f (now (entries .exit)) r ⌝ }
 {
     let count = key_order::sort::sort_keys(m, entries, spare, f.count);
     Metadata {
@@ -130,15 +130,20 @@ fn in_order(m: &[u8], entries: &mut [u32], spare: &mut [u32], f: Metadata) -> Me
 }
 
 // The pairs and the extension of a metadata block in hexadecimal text.
-pub fn metadata_from_bytes(m: &[u8], entries: &mut [u32], spare: &mut [u32]) -> MetadataRead
+pub fn metadata_from_bytes(
+    m: &[u8],
+    big: bool,
+    entries: &mut [u32],
+    spare: &mut [u32],
+) -> MetadataRead
     requires { ⌜ Room (now m) (now entries) (now spare) ⌝ }
-    ensures { λ r. ⌜ metadataAnswer (bytesOf (now (m .entry))) (now (entries .exit)) r ≡ metadataFromBytes (some (bytesOf (now (m .entry)))) ⌝ }
-    ensures { λ r. ⌜ MetadataStands (bytesOf (now (m .entry))) (now (entries .exit)) r ⌝ }
+    ensures { λ r. ⌜ metadataAnswer big (bytesOf (now (m .entry))) (now (entries .exit)) r ≡ metadataFromBytes big (some (bytesOf (now (m .entry)))) ⌝ }
+    ensures { λ r. ⌜ MetadataStands big (bytesOf (now (m .entry))) (now (entries .exit)) r ⌝ }
 {
     if m.len() < 8 {
         return MetadataRead::Refused(Refusal::BadMetadata);
     }
-    match walk(m, count_of(m), entries) {
+    match walk(m, count_of(m, big), big, entries) {
         MetadataRead::Refused(q) => MetadataRead::Refused(q),
         MetadataRead::Found(f) => MetadataRead::Found(in_order(m, entries, spare, f)),
     }

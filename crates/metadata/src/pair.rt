@@ -1,4 +1,4 @@
-// A pair of a metadata block, read and tested in place over the block's hexadecimal text.
+// A pair of a metadata block, read and tested in place over the block's hexadecimal text; its lengths are big-endian (`big`) or not.
 ghost use mathlib.Core.Path.{_≡_};
 ghost use Rattle.hex.specs.Hex.{bytesOf};
 ghost use Rattle.metadata.specs.PairReading.{BlockPlace, KeyIn, textSize, textAnswer, pairPlaces, pairAnswer};
@@ -18,15 +18,15 @@ pub enum PairRead {
 
 // "A length is tested for sign, then extent, then text". A negative length is more than any block has room for, so that one test is for sign and extent:
 // both are refused for the same reason.
-fn read_text(m: &[u8], k: usize) -> TextRead
+fn read_text(m: &[u8], k: usize, big: bool) -> TextRead
     requires { ⌜ BlockPlace (now m) k ⌝ }
-    ensures { λ r. ⌜ textAnswer r ≡ textSize (bytesOf (now (m .entry))) k ⌝ }
+    ensures { λ r. ⌜ textAnswer r ≡ textSize big (bytesOf (now (m .entry))) k ⌝ }
 {
     let room = m.len() - 2 * k;
     if room < 8 {
         return TextRead::Refused(Refusal::BadMetadata);
     }
-    let n = little_endian::word_at(m, k) as usize;
+    let n = endian::word_at(m, k, big) as usize;
     if (room - 8) / 2 < n {
         return TextRead::Refused(Refusal::BadMetadata); // a negative length, or one past the end
     }
@@ -39,23 +39,23 @@ fn read_text(m: &[u8], k: usize) -> TextRead
 }
 
 // The value after a key of n bytes from byte k on.
-fn read_value(m: &[u8], k: usize, n: usize) -> PairRead
-    requires { ⌜ KeyIn (now m) k n ⌝ }
-    ensures { λ r. ⌜ pairAnswer r ≡ pairPlaces (bytesOf (now (m .entry))) k ⌝ }
+fn read_value(m: &[u8], k: usize, n: usize, big: bool) -> PairRead
+    requires { ⌜ KeyIn big (now m) k n ⌝ }
+    ensures { λ r. ⌜ pairAnswer r ≡ pairPlaces big (bytesOf (now (m .entry))) k ⌝ }
 {
     let at = k + 4 + n;
-    match read_text(m, at) {
+    match read_text(m, at, big) {
         TextRead::Refused(q) => PairRead::Refused(q),
         TextRead::Size(size) => PairRead::Between(n, at + 4 + size),
     }
 }
 
-pub fn read_pair(m: &[u8], k: usize) -> PairRead
+pub fn read_pair(m: &[u8], k: usize, big: bool) -> PairRead
     requires { ⌜ BlockPlace (now m) k ⌝ }
-    ensures { λ r. ⌜ pairAnswer r ≡ pairPlaces (bytesOf (now (m .entry))) k ⌝ }
+    ensures { λ r. ⌜ pairAnswer r ≡ pairPlaces big (bytesOf (now (m .entry))) k ⌝ }
 {
-    match read_text(m, k) {
+    match read_text(m, k, big) {
         TextRead::Refused(q) => PairRead::Refused(q),
-        TextRead::Size(n) => read_value(m, k, n),
+        TextRead::Size(n) => read_value(m, k, n, big),
     }
 }

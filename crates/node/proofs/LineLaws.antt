@@ -55,19 +55,19 @@ own-short true name nullable pairs = omega (arith, bare-length)
 own-short false name nullable pairs = omega (arith, length-append (namePiece name nullable) (column pairs), name-piece-length name nullable, column-length pairs)
 
 pub shown-short : (name m : Bytes) (es : List ℕ) (w : Shown) → CanShow name m es w → length (shownText name m es w) ≤ 7 + length name + length m
-shown-short name m es w h = omega (arith, own-short (w .bare) name (w .nullable) (pairsColumn (bytesOf m) es (w .count)), h .pairs .column)
+shown-short name m es w h = omega (arith, own-short (w .bare) name (w .nullable) (pairsColumn (w .big) (bytesOf m) es (w .count)), h .pairs .column)
 
-pub extension-short : (m : Bytes) → isHex m ≡ true → (d : Metadata) → length (extensionPiece (bytesOf m) d) ≤ 67 + 2 * length m
+pub extension-short : (big : Bool) (m : Bytes) → isHex m ≡ true → (d : Metadata) → length (extensionPiece big (bytesOf m) d) ≤ 67 + 2 * length m
 unfolding extensionPiece
-extension-short m h d =
+extension-short big m h d =
     let b = bytesOf m in
     omega (
       arith,
-      shape-short Kind.Extension 0 0 (writeText (valueAt b (d .name))) (writeText (valueAt b (d .more))) (omega arith) (omega arith) (omega arith),
-      ap length (value-column b (d .name)),
-      ap length (value-column b (d .more)),
-      value-short m h (d .name),
-      value-short m h (d .more),
+      shape-short Kind.Extension 0 0 (writeText (valueAt big b (d .name))) (writeText (valueAt big b (d .more))) (omega arith) (omega arith) (omega arith),
+      ap length (value-column big b (d .name)),
+      ap length (value-column big b (d .more)),
+      value-short big m h (d .name),
+      value-short big m h (d .more),
     )
 
 -- ── the line of a field
@@ -87,10 +87,10 @@ line-text sh j k own e = ap (λ (c : Bytes). (columnsPiece (columns sh) ++ c) ++
 
 -- the line of an extension
 pub extension-line : (name m : Bytes) (es : List ℕ) (w : Shown) (d : Metadata) (j : Option Info) (n : Bytes) (more : Option Bytes)
-    → valueAt (bytesOf m) (d .name) ≡ some n → valueAt (bytesOf m) (d .more) ≡ more → shownText name m es w ≡ infoPiece j
+    → valueAt (w .big) (bytesOf m) (d .name) ≡ some n → valueAt (w .big) (bytesOf m) (d .more) ≡ more → shownText name m es w ≡ infoPiece j
     → extensionText name m es w d ≡ ended (fieldLine .write (lineOf (ofExtension n more) j 1) ∷ [])
 unfolding extensionText extensionPiece
 extension-line name m es w d j n more e f g =
-    ap (λ (v : Option Bytes). (shapePiece Kind.Extension 0 0 (writeText v) (writeText (valueAt (bytesOf m) (d .more))) ++ shownText name m es w) ++ endPiece 1) e
+    ap (λ (v : Option Bytes). (shapePiece Kind.Extension 0 0 (writeText v) (writeText (valueAt (w .big) (bytesOf m) (d .more))) ++ shownText name m es w) ++ endPiece 1) e
     ∙ ap (λ (v : Option Bytes). (shapePiece Kind.Extension 0 0 (writeText (some n)) (writeText v) ++ shownText name m es w) ++ endPiece 1) f
     ∙ line-text (ofExtension n more) j 1 (shownText name m es w) g

@@ -1,5 +1,6 @@
 -- What a line's metadata and name say of its field: pairs and an extension, as entries of the metadata's text, or a refusal. Assumes nothing.
 use mathlib.Core.Path.{_≡_}
+use mathlib.Core.Bool.{Bool}
 use mathlib.Core.List.{List}
 use mathlib.Core.Option.{Option}
 use Prim.Native.Nat.{ℕ, _/_, _≤_, _<_}
@@ -16,16 +17,16 @@ use Rattle.metadata.specs.Reading.{metadataAnswer, MetadataStands}
 use Rattle.node.specs.Types.{IsText}
 
 -- the pairs and the extension of a metadata's column
-abbrev pub metadataOf : Bytes → Answer (Option (List Pair) × Option Extension)
-metadataOf t = readText t >>= λ x. metadataFromBytes x
+abbrev pub metadataOf : Bool → Bytes → Answer (Option (List Pair) × Option Extension)
+metadataOf big t = readText t >>= λ x. metadataFromBytes big x
 
 -- the same, unless the name is refused: "Then come metadata, then the name"
-abbrev pub ownAnswer : Bytes → Bytes → Answer (Option (List Pair) × Option Extension)
-ownAnswer name t = metadataOf t >>= λ o. readText name >>= λ x. nameText x >>= λ n. given o
+abbrev pub ownAnswer : Bool → Bytes → Bytes → Answer (Option (List Pair) × Option Extension)
+ownAnswer big name t = metadataOf big t >>= λ o. readText name >>= λ x. nameText x >>= λ n. given o
 
 -- the answer, as entries of the text m
-abbrev pub ReadsAs : Answer (Option (List Pair) × Option Extension) → Bytes → List ℕ → MetadataRead → Type 0
-ReadsAs a m es r = (metadataAnswer (bytesOf m) es r ≡ a) × MetadataStands (bytesOf m) es r
+abbrev pub ReadsAs : Bool → Answer (Option (List Pair) × Option Extension) → Bytes → List ℕ → MetadataRead → Type 0
+ReadsAs big a m es r = (metadataAnswer big (bytesOf m) es r ≡ a) × MetadataStands big (bytesOf m) es r
 
 -- ── what is required
 

@@ -42,12 +42,12 @@ abbrev pub metadataIn : Bytes → SchemaLine → Bytes
 metadataIn s l = textIn (columnIn s (l .metadata))
 
 -- nothing of a field
-abbrev pub nothingShown : Shown
-nothingShown = record { bare = true; nullable = false; count = 0 }
+abbrev pub nothingShown : Bool → Shown
+nothingShown big = record { bare = true; nullable = false; count = 0; big = big }
 
 -- nothing is written of the field, and its refusal is pending
-abbrev pub refusedLater : Refusal → Begun
-refusedLater r = record { len = 0; shown = nothingShown; pending = Pending.Refused r }
+abbrev pub refusedLater : Bool → Refusal → Begun
+refusedLater big r = record { len = 0; shown = nothingShown big; pending = Pending.Refused r }
 
 -- what a line shows of its field, as it is written
 abbrev pub shownIn : Bytes → SchemaLine → List ℕ → Shown → Bytes
@@ -90,18 +90,19 @@ typeShows bare i (some e) = none
 abbrev pub Headed : Bool → Info → Option Extension → Bytes → Bytes → Bytes → ℕ → Type 0
 Headed bare i e own out out' len = PutFirst (ended (linesBefore bare i e)) len out out' × (own ≡ infoPiece (typeShows bare i e))
 
-abbrev pub OwnTold : Bool → Line → Bytes → Bytes → Bytes → ℕ → Answer (Unit {0}) → Type 0
-OwnTold bare x own out out' len (given u) = (i : Info) × (e : Option Extension) × (ownOf (nodeOf x) ≡ given (i, e)) × Headed bare i e own out out' len
-OwnTold bare x own out out' len (refused q) = (ownOf (nodeOf x) ≡ refused q) × (len ≡ 0) × (own ≡ infoPiece none)
+abbrev pub OwnTold : Bool → Bool → Line → Bytes → Bytes → Bytes → ℕ → Answer (Unit {0}) → Type 0
+OwnTold bare big x own out out' len (given u) = (i : Info) × (e : Option Extension) × (ownOf big (nodeOf x) ≡ given (i, e)) × Headed bare i e own out out' len
+OwnTold bare big x own out out' len (refused q) = (ownOf big (nodeOf x) ≡ refused q) × (len ≡ 0) × (own ≡ infoPiece none)
 
-pub record OwnBegins (s : Bytes) (l : SchemaLine) (bare : Bool) (x : Line) (es : List ℕ) (out out' : Bytes) (b : Begun) : Type 0 where
+pub record OwnBegins (s : Bytes) (l : SchemaLine) (bare big : Bool) (x : Line) (es : List ℕ) (out out' : Bytes) (b : Begun) : Type 0 where
   pub ready : CanShow (columnIn s (l .name)) (metadataIn s l) es (b .shown)
-  pub told : OwnTold bare x (shownIn s l es (b .shown)) out out' (b .len) (pendingAnswer (b .pending))
+  pub order : b .shown .big ≡ big
+  pub told : OwnTold bare big x (shownIn s l es (b .shown)) out out' (b .len) (pendingAnswer (b .pending))
   pub long : b .len + length (shownIn s l es (b .shown)) ≤ 82 + length (columnIn s (l .name)) + 3 * length (columnIn s (l .metadata))
 
 -- what `begin_field` tells
-abbrev pub FieldBegins : Bytes → SchemaLine → Bool → List ℕ → Bytes → Bytes → Begun → Type 0
-FieldBegins s l bare es out out' b = (x : Line) → Shows s l x → OwnBegins s l bare x es out out' b
+abbrev pub FieldBegins : Bytes → SchemaLine → Bool → Bool → List ℕ → Bytes → Bytes → Begun → Type 0
+FieldBegins s l bare big es out out' b = (x : Line) → Shows s l x → OwnBegins s l bare big x es out out' b
 
 -- ── the type
 

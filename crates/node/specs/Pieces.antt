@@ -29,27 +29,27 @@ ownText false name nullable pairs = namePiece name nullable ++ column pairs
 
 -- the same from the text of a schema's metadata and the entries of its pairs
 abbrev pub shownText : Bytes → Bytes → List ℕ → Shown → Bytes
-shownText name m es w = ownText (w .bare) name (w .nullable) (pairsColumn (bytesOf m) es (w .count))
+shownText name m es w = ownText (w .bare) name (w .nullable) (pairsColumn (w .big) (bytesOf m) es (w .count))
 
 -- kind p q text more of an extension: "`text` is .. the extension's name", "`more` is the extension's metadata"
-unfoldable pub extensionPiece : Bytes → Metadata → Bytes
-extensionPiece b d = shapePiece Kind.Extension 0 0 (writeText (valueAt b (d .name))) (writeText (valueAt b (d .more)))
+unfoldable pub extensionPiece : Bool → Bytes → Metadata → Bytes
+extensionPiece big b d = shapePiece Kind.Extension 0 0 (writeText (valueAt big b (d .name))) (writeText (valueAt big b (d .more)))
 
 -- the line of an extension
 unfoldable pub extensionText : Bytes → Bytes → List ℕ → Shown → Metadata → Bytes
 unfolding extensionPiece
-extensionText name m es w d = (extensionPiece (bytesOf m) d ++ shownText name m es w) ++ endPiece 1
+extensionText name m es w d = (extensionPiece (w .big) (bytesOf m) d ++ shownText name m es w) ++ endPiece 1
 
 -- ── what the writers require
 
 -- the name is no longer than a sheet, and the pairs are entries of the metadata
 pub record CanShow (name m : Bytes) (es : List ℕ) (w : Shown) : Type 0 where
   pub named : length name < 65536
-  pub pairs : HasPairs m es (w .count)
+  pub pairs : HasPairs (w .big) m es (w .count)
 
 -- the extension's name and metadata are entries of the metadata
-pub record CanExtend (m : Bytes) (d : Metadata) : Type 0 where
+pub record CanExtend (big : Bool) (m : Bytes) (d : Metadata) : Type 0 where
   pub isText : isHex m ≡ true
   pub short : length m < 65536
-  pub hasName : OrNone (bytesOf m) (d .name)
-  pub hasMore : OrNone (bytesOf m) (d .more)
+  pub hasName : OrNone big (bytesOf m) (d .name)
+  pub hasMore : OrNone big (bytesOf m) (d .more)

@@ -40,23 +40,24 @@ fn column_of(s: &[u8], p: Part) -> &[u8]
 }
 
 // A bare line.
-fn nothing_shown() -> Shown
-    ensures { λ r. ⌜ r ≡ nothingShown ⌝ }
+fn nothing_shown(big: bool) -> Shown
+    ensures { λ r. ⌜ r ≡ nothingShown big ⌝ }
 {
     Shown {
         bare: true,
         nullable: false,
         count: 0,
+        big,
     }
 }
 
 // The metadata or the name is refused, after what stands below: nothing is written, and nothing of the field is shown.
-fn refused_later(r: Refusal) -> Begun
-    ensures { λ b. ⌜ b ≡ refusedLater r ⌝ }
+fn refused_later(r: Refusal, big: bool) -> Begun
+    ensures { λ b. ⌜ b ≡ refusedLater big r ⌝ }
 {
     Begun {
         len: 0,
-        shown: nothing_shown(),
+        shown: nothing_shown(big),
         pending: Pending::Refused(r),
     }
 }
@@ -68,22 +69,24 @@ pub fn begin_field(
     s: &[u8],
     line: SchemaLine,
     bare: bool,
+    big: bool,
     out: &mut [u8],
     entries: &mut [u32],
     spare: &mut [u32],
 ) -> Begun
     requires { ⌜ NodeIn (now s) line × HasEntries (now s) (now entries) (now spare) ⌝ }
-    ensures { λ r. ⌜ FieldBegins (now (s .entry)) line bare (now (entries .exit)) (now (out .entry)) (now (out .exit)) r ⌝ }
+    ensures { λ r. ⌜ FieldBegins (now (s .entry)) line bare big (now (entries .exit)) (now (out .entry)) (now (out .exit)) r ⌝ }
 {
     let name = column_of(s, line.name);
     let metadata = column_of(s, line.metadata);
-    match info::read_own(name, metadata, entries, spare) {
-        MetadataRead::Refused(r) => refused_later(r),
+    match info::read_own(name, metadata, big, entries, spare) {
+        MetadataRead::Refused(r) => refused_later(r, big),
         MetadataRead::Found(d) => {
             let shown = Shown {
                 bare,
                 nullable: line.nullable(),
                 count: d.count,
+                big,
             };
             if d.name == 0 {
                 return Begun {
@@ -95,7 +98,7 @@ pub fn begin_field(
             let m = schema_line::text_of(metadata);
             Begun {
                 len: lines::put_extension_line(out, name, m, entries, shown, d),
-                shown: nothing_shown(),
+                shown: nothing_shown(big),
                 pending: Pending::Nothing,
             }
         }

@@ -7,11 +7,13 @@ use crate::name;
 use datatypes::kind;
 use metadata::Metadata;
 
-// What a line shows of its field: nothing if it is bare, else its name, nullable, and the first `count` entries of its metadata as pairs.
+// What a line shows of its field: nothing if it is bare, else its name, nullable, and the first `count` entries of its metadata as pairs. The metadata's
+// lengths are big-endian (`big`) or not.
 pub struct Shown {
     pub bare: bool,
     pub nullable: bool,
     pub count: usize,
+    pub big: bool,
 }
 
 // The columns `name nullable pairs`, from a schema's name column and the text of its metadata.
@@ -30,19 +32,19 @@ pub fn put_own(
         return field_line::put_bare(out, at);
     }
     let a = name::put_name(out, at, name, shown.nullable);
-    let b = metadata::put::put_pairs(out, a, m, entries, shown.count);
+    let b = metadata::put::put_pairs(out, a, m, entries, shown.count, shown.big);
     buffer::put_byte(out, b, b' ')
 }
 
 // The columns `kind p q text more` of an extension, from the entries of its name and its metadata.
-fn put_extension(out: &mut [u8], m: &[u8], d: Metadata) -> usize
-    requires { ⌜ CanExtend (now m) d ⌝ }
-    ensures { λ r. ⌜ PutAt 0 (extensionPiece (bytesOf (now (m .entry))) d) r (now (out .entry)) (now (out .exit)) ⌝ }
+fn put_extension(out: &mut [u8], m: &[u8], d: Metadata, big: bool) -> usize
+    requires { ⌜ CanExtend big (now m) d ⌝ }
+    ensures { λ r. ⌜ PutAt 0 (extensionPiece big (bytesOf (now (m .entry))) d) r (now (out .entry)) (now (out .exit)) ⌝ }
 {
     let a = field_line::put_kind(out, 0, kind::EXTENSION, 0, 0);
-    let b = metadata::put::put_value(out, a, m, d.name);
+    let b = metadata::put::put_value(out, a, m, d.name, big);
     let c = buffer::put_byte(out, b, b' ');
-    let e = metadata::put::put_value(out, c, m, d.more);
+    let e = metadata::put::put_value(out, c, m, d.more, big);
     buffer::put_byte(out, e, b' ')
 }
 
@@ -55,10 +57,10 @@ pub fn put_extension_line(
     shown: Shown,
     d: Metadata,
 ) -> usize
-    requires { ⌜ CanShow (now name) (now m) (now entries) shown × CanExtend (now m) d ⌝ }
+    requires { ⌜ CanShow (now name) (now m) (now entries) shown × CanExtend (shown .big) (now m) d ⌝ }
     ensures { λ r. ⌜ PutAt 0 (extensionText (now (name .entry)) (now (m .entry)) (now (entries .entry)) shown d) r (now (out .entry)) (now (out .exit)) ⌝ }
 {
-    let a = put_extension(out, m, d);
+    let a = put_extension(out, m, d, shown.big);
     let b = put_own(out, a, name, m, entries, shown);
     field_line::put_end(out, b, 1)
 }

@@ -7,7 +7,7 @@ use lib.ListN.{length, replicate, length-replicate}
 use Rattle.sheets.specs.Refusal.{noRoom}
 use Rattle.sheets.specs.Bytes.{Bytes}
 use Rattle.sheets.specs.Answer.{Answer, refused, given}
-use Rattle.sheets.specs.Outcome.{Outcome, outcome, success, refusal, importOutcome}
+use Rattle.sheets.specs.Outcome.{Outcome, outcome, success, refusal, importOutcomeIn}
 use Rattle.outcome.specs.Answers.{outcomeOf}
 use Rattle.outcome.specs.declared.Answered.{Answered}
 use Rattle.print_import.specs.Printed.{bufferSize, printedNumber}
@@ -21,9 +21,9 @@ by-size (given x) out lent e = pick (leb (length x) (length out)) ∙ ap (λ (n 
     pick true = refl
     pick false = refl
 
-zeros : (s out : Bytes) (n : ℕ) → n ≡ length out → importOutcome s out .number ≡ importOutcome s (replicate n 0) .number
-zeros s out n e = by-size _ out (replicate n 0) (sym e ∙ sym (length-replicate {A = ℕ} n 0))
+zeros : (big : Bool) (s out : Bytes) (n : ℕ) → n ≡ length out → importOutcomeIn big s out .number ≡ importOutcomeIn big s (replicate n 0) .number
+zeros big s out n e = by-size _ out (replicate n 0) (sym e ∙ sym (length-replicate {A = ℕ} n 0))
 
-pub printed : (s out after : Bytes) (r : Answered) → bufferSize ≡ length out → outcomeOf (r .number) (r .length) after ≡ importOutcome s out → r .number ≡ printedNumber s
+pub printed : (big : Bool) (s out after : Bytes) (r : Answered) → bufferSize ≡ length out → outcomeOf (r .number) (r .length) after ≡ importOutcomeIn big s out → r .number ≡ printedNumber big s
 unfolding printedNumber
-printed s out after r e h = ap (λ (o : Outcome). o .number) h ∙ zeros s out bufferSize e
+printed big s out after r e h = ap (λ (o : Outcome). o .number) h ∙ zeros big s out bufferSize e

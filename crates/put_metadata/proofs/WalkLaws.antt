@@ -1,6 +1,6 @@
 -- The walk over a column's pairs: steps one after the other, a pair, the pairs before a key. Assumes nothing.
 use mathlib.Core.Path.{_≡_, refl, sym, ap, ap₂, _∙_}
-use mathlib.Core.Bool.{true, false, true≢false}
+use mathlib.Core.Bool.{Bool, true, false, true≢false}
 use mathlib.Core.List.{List, [], _∷_, _++_, append-assoc, append-nil}
 use Prim.Native.Nat.{ℕ, _+_, _-_, _≤_, _<_}
 use native.Mathlib.Omega.{arith}
@@ -70,40 +70,41 @@ walk-on column w r t n x y rest old out a h = record { stands = a .stands; room 
 
 -- ── a pair
 
-module _ (column : Bytes) (w : Walk) (p : PairPlace) (h : CanWalk column w 0) (k : PairAt column (w .place) p) where
-  pub key-size : length (part column (w .place) (p .equals)) ≡ p .equals - w .place
-  key-size = length-take (p .equals - w .place) (drop (w .place) column) ∙ omega (arith, length-drop (w .place) column, k .low, k .sign, k .grows, k .rest .within)
+module _ (big : Bool) where
+  module _ (column : Bytes) (w : Walk) (p : PairPlace) (h : CanWalk column w 0) (k : PairAt column (w .place) p) where
+    pub key-size : length (part column (w .place) (p .equals)) ≡ p .equals - w .place
+    key-size = length-take (p .equals - w .place) (drop (w .place) column) ∙ omega (arith, length-drop (w .place) column, k .low, k .sign, k .grows, k .rest .within)
 
-  pub value-size : length (part column (p .equals + 1) (p .end)) ≡ p .end - (p .equals + 1)
-  value-size = length-take (p .end - (p .equals + 1)) (drop (p .equals + 1) column) ∙ omega (arith, length-drop (p .equals + 1) column, k .sign, k .grows, k .rest .within)
+    pub value-size : length (part column (p .equals + 1) (p .end)) ≡ p .end - (p .equals + 1)
+    value-size = length-take (p .end - (p .equals + 1)) (drop (p .equals + 1) column) ∙ omega (arith, length-drop (p .equals + 1) column, k .sign, k .grows, k .rest .within)
 
-  pub found : (end : ℕ) (old out : Bytes)
-      → (end ≡ w .end + length (pairPieces (part column (w .place) (p .equals)) (part column (p .equals + 1) (p .end))))
-      × (out ≡ overAt (w .end) (pairPieces (part column (w .place) (p .equals)) (part column (p .equals + 1) (p .end))) old)
-      → PutsFound column w p (record { place = p .next; end = end; count = w .count + 1 }) old out
-  found end old out a = (
-    record {
-      stands = k .rest;
-      left = refl;
-      counted = refl;
-      place = a .0;
-      holds = a .1;
-      room =
-          omega (
-            arith,
-            a .0,
-            pieces-length (part column (w .place) (p .equals)) (part column (p .equals + 1) (p .end)),
-            key-size,
-            value-size,
-            k .low,
-            k .sign,
-            k .grows,
-            k .rest .within,
-          );
-      few = omega (arith, k .low, k .sign, k .grows, k .rest .within);
-    },
-    refl,
-  )
+    pub found : (end : ℕ) (old out : Bytes)
+        → (end ≡ w .end + length (pairPieces big (part column (w .place) (p .equals)) (part column (p .equals + 1) (p .end))))
+        × (out ≡ overAt (w .end) (pairPieces big (part column (w .place) (p .equals)) (part column (p .equals + 1) (p .end))) old)
+        → PutsFound big column w p (record { place = p .next; end = end; count = w .count + 1 }) old out
+    found end old out a = (
+      record {
+        stands = k .rest;
+        left = refl;
+        counted = refl;
+        place = a .0;
+        holds = a .1;
+        room =
+            omega (
+              arith,
+              a .0,
+              pieces-length big (part column (w .place) (p .equals)) (part column (p .equals + 1) (p .end)),
+              key-size,
+              value-size,
+              k .low,
+              k .sign,
+              k .grows,
+              k .rest .within,
+            );
+        few = omega (arith, k .low, k .sign, k .grows, k .rest .within);
+      },
+      refl,
+    )
 
 -- ── the pairs before a key
 
@@ -159,64 +160,65 @@ later-pairs key (p ∷ ps) e =
     let b : before key k ≡ true = first-later k key (ltb-true (getD key 0 0) (getD k 0 0) e) in
     (before-stop key p ps (not-back key k b), from-stop key p ps (not-back key k b), after-no key p ps (same-back key k (not-same key k b)))
 
--- from walk w on, pairs before the key were written
-pub record Until (column key : Bytes) (w : Walk) (old out : Bytes) (r : Walk) : Type 0 where
-  pub done : List Pair
-  pub moves : Moves column w r (blockText done) (length done) 0 (leftOf column r) old out
-  pub firsts : beforeText key (leftOf column w) ≡ done ++ beforeText key (leftOf column r)
-  pub others : fromText key (leftOf column w) ≡ fromText key (leftOf column r)
+module _ (big : Bool) where
+  -- from walk w on, pairs before the key were written
+  pub record Until (column key : Bytes) (w : Walk) (old out : Bytes) (r : Walk) : Type 0 where
+    pub done : List Pair
+    pub moves : Moves column w r (blockText big done) (length done) 0 (leftOf column r) old out
+    pub firsts : beforeText key (leftOf column w) ≡ done ++ beforeText key (leftOf column r)
+    pub others : fromText key (leftOf column w) ≡ fromText key (leftOf column r)
 
-pub until-start : (column key : Bytes) (w : Walk) (old : Bytes) → Pairs column (w .place) → Until column key w old old w
-until-start column key w old h =
-    record {
-      done = [];
-      moves = as-move column w w [] (blockText []) 0 0 0 0 (leftOf column w) (leftOf column w) old old (sym block-none) refl (omega arith) refl (no-move column w old h);
-      firsts = refl;
-      others = refl;
-    }
+  pub until-start : (column key : Bytes) (w : Walk) (old : Bytes) → Pairs column (w .place) → Until column key w old old w
+  until-start column key w old h =
+      record {
+        done = [];
+        moves = as-move column w w [] (blockText big []) 0 0 0 0 (leftOf column w) (leftOf column w) old old (sym (block-none big)) refl (omega arith) refl (no-move column w old h);
+        firsts = refl;
+        others = refl;
+      }
 
-module _ (column key : Bytes) (w : Walk) (old out : Bytes) (r : Walk) (u : Until column key w old out r) where
-  finished : beforeText key (leftOf column r) ≡ [] → fromText key (leftOf column r) ≡ leftOf column r → PutsUntil column key w r old out
-  finished e f =
-      let d : u .done ≡ beforeText key (leftOf column w) = sym (u .firsts ∙ ap (λ (l : List Pair). u .done ++ l) e ∙ append-nil (u .done)) in
-      as-move column w r (blockText (u .done)) (blockText (beforeText key (leftOf column w))) (length (u .done)) (length (beforeText key (leftOf column w))) 0 0 (leftOf column r) (fromText key (leftOf column w)) old out
-      (ap blockText d) (ap length d) (omega arith) (sym (u .others ∙ f)) (u .moves)
+  module _ (column key : Bytes) (w : Walk) (old out : Bytes) (r : Walk) (u : Until column key w old out r) where
+    finished : beforeText key (leftOf column r) ≡ [] → fromText key (leftOf column r) ≡ leftOf column r → PutsUntil big column key w r old out
+    finished e f =
+        let d : u .done ≡ beforeText key (leftOf column w) = sym (u .firsts ∙ ap (λ (l : List Pair). u .done ++ l) e ∙ append-nil (u .done)) in
+        as-move column w r (blockText big (u .done)) (blockText big (beforeText key (leftOf column w))) (length (u .done)) (length (beforeText key (leftOf column w))) 0 0 (leftOf column r) (fromText key (leftOf column w)) old out
+        (ap (blockText big) d) (ap length d) (omega arith) (sym (u .others ∙ f)) (u .moves)
 
-  pub until-end : length column ≤ r .place → PutsUntil column key w r old out
-  until-end h =
-      let e = pairs-end column (r .place) h in
-      finished (ap (beforeText key) e ∙ before-none key) (ap (fromText key) e ∙ from-none key ∙ sym e)
+    pub until-end : length column ≤ r .place → PutsUntil big column key w r old out
+    until-end h =
+        let e = pairs-end column (r .place) h in
+        finished (ap (beforeText key) e ∙ before-none key) (ap (fromText key) e ∙ from-none key ∙ sym e)
 
-  pub until-later : laterText key (leftOf column r) ≡ true → PutsUntil column key w r old out
-  until-later e =
-      let l = later-pairs key (leftOf column r) e in
-      finished (l .0) (l .1)
+    pub until-later : laterText key (leftOf column r) ≡ true → PutsUntil big column key w r old out
+    until-later e =
+        let l = later-pairs key (leftOf column r) e in
+        finished (l .0) (l .1)
 
-  module _ (p : PairPlace) (k : PairAt column (r .place) p) where
-    pub until-stop : before (part column (r .place) (p .equals)) key ≡ false → PutsUntil column key w r old out
-    until-stop e =
-        let f : before (hex (k .pair .0)) key ≡ false = ap (λ (t : Bytes). before t key) (sym (k .key)) ∙ e in
-        finished (ap (beforeText key) (k .first) ∙ before-stop key (k .pair) (pairsOf (drop (p .next) column)) f)
-        (ap (fromText key) (k .first) ∙ from-stop key (k .pair) (pairsOf (drop (p .next) column)) f ∙ sym (k .first))
+    module _ (p : PairPlace) (k : PairAt column (r .place) p) where
+      pub until-stop : before (part column (r .place) (p .equals)) key ≡ false → PutsUntil big column key w r old out
+      until-stop e =
+          let f : before (hex (k .pair .0)) key ≡ false = ap (λ (t : Bytes). before t key) (sym (k .key)) ∙ e in
+          finished (ap (beforeText key) (k .first) ∙ before-stop key (k .pair) (pairsOf (drop (p .next) column)) f)
+          (ap (fromText key) (k .first) ∙ from-stop key (k .pair) (pairsOf (drop (p .next) column)) f ∙ sym (k .first))
 
-    pub until-more : before (part column (r .place) (p .equals)) key ≡ true → (s : Walk) (out' : Bytes) → PutsFound column r p s out out' → Until column key w old out' s
-    until-more e s out' m =
-        let f : before (hex (k .pair .0)) key ≡ true = ap (λ (t : Bytes). before t key) (sym (k .key)) ∙ e in
-        let g : pairsOf (drop (p .next) column) ≡ leftOf column s = ap (λ (i : ℕ). pairsOf (drop i column)) (sym (m .1)) in
-        let one : pairPieces (part column (r .place) (p .equals)) (part column (p .equals + 1) (p .end)) ≡ blockText (k .pair ∷ []) = ap₂ pairPieces (k .key) (k .value) ∙ pair-block (k .pair .0) (k .pair .1) in
-        record {
-          done = u .done ++ (k .pair ∷ []);
-          moves =
-              as-move column w s (blockText (u .done) ++ pairPieces (part column (r .place) (p .equals)) (part column (p .equals + 1) (p .end))) (blockText (u .done ++ (k .pair ∷ []))) (length (u .done) + 1) (length (u .done ++ (k .pair ∷ []))) 0 0 (pairsOf (drop (p .next) column)) (leftOf column s) old out'
-              (ap (λ (t : Bytes). blockText (u .done) ++ t) one ∙ sym (block-append (u .done) (k .pair ∷ []))) (sym (length-append (u .done) (k .pair ∷ []))) (omega arith) g
-              (then-move column w r s (blockText (u .done)) (pairPieces (part column (r .place) (p .equals)) (part column (p .equals + 1) (p .end))) (length (u .done)) 1 0 0 (leftOf column r) (pairsOf (drop (p .next) column)) old out out' (u .moves) (m .0));
-          firsts =
-              u .firsts
-              ∙ ap (λ (l : List Pair). u .done ++ l) (ap (beforeText key) (k .first) ∙ before-more key (k .pair) (pairsOf (drop (p .next) column)) f)
-              ∙ sym (append-assoc (u .done) (k .pair ∷ []) (beforeText key (pairsOf (drop (p .next) column))))
-              ∙ ap (λ (l : List Pair). (u .done ++ (k .pair ∷ [])) ++ beforeText key l) g;
-          others = u .others ∙ ap (fromText key) (k .first) ∙ from-more key (k .pair) (pairsOf (drop (p .next) column)) f ∙ ap (fromText key) g;
-        }
+      pub until-more : before (part column (r .place) (p .equals)) key ≡ true → (s : Walk) (out' : Bytes) → PutsFound big column r p s out out' → Until column key w old out' s
+      until-more e s out' m =
+          let f : before (hex (k .pair .0)) key ≡ true = ap (λ (t : Bytes). before t key) (sym (k .key)) ∙ e in
+          let g : pairsOf (drop (p .next) column) ≡ leftOf column s = ap (λ (i : ℕ). pairsOf (drop i column)) (sym (m .1)) in
+          let one : pairPieces big (part column (r .place) (p .equals)) (part column (p .equals + 1) (p .end)) ≡ blockText big (k .pair ∷ []) = ap₂ (pairPieces big) (k .key) (k .value) ∙ pair-block big (k .pair .0) (k .pair .1) in
+          record {
+            done = u .done ++ (k .pair ∷ []);
+            moves =
+                as-move column w s (blockText big (u .done) ++ pairPieces big (part column (r .place) (p .equals)) (part column (p .equals + 1) (p .end))) (blockText big (u .done ++ (k .pair ∷ []))) (length (u .done) + 1) (length (u .done ++ (k .pair ∷ []))) 0 0 (pairsOf (drop (p .next) column)) (leftOf column s) old out'
+                (ap (λ (t : Bytes). blockText big (u .done) ++ t) one ∙ sym (block-append big (u .done) (k .pair ∷ []))) (sym (length-append (u .done) (k .pair ∷ []))) (omega arith) g
+                (then-move column w r s (blockText big (u .done)) (pairPieces big (part column (r .place) (p .equals)) (part column (p .equals + 1) (p .end))) (length (u .done)) 1 0 0 (leftOf column r) (pairsOf (drop (p .next) column)) old out out' (u .moves) (m .0));
+            firsts =
+                u .firsts
+                ∙ ap (λ (l : List Pair). u .done ++ l) (ap (beforeText key) (k .first) ∙ before-more key (k .pair) (pairsOf (drop (p .next) column)) f)
+                ∙ sym (append-assoc (u .done) (k .pair ∷ []) (beforeText key (pairsOf (drop (p .next) column))))
+                ∙ ap (λ (l : List Pair). (u .done ++ (k .pair ∷ [])) ++ beforeText key l) g;
+            others = u .others ∙ ap (fromText key) (k .first) ∙ from-more key (k .pair) (pairsOf (drop (p .next) column)) f ∙ ap (fromText key) g;
+          }
 
 -- ── the pair after a reserved key
 

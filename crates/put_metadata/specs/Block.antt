@@ -10,27 +10,27 @@ use Rattle.sheets.specs.Text.{hex, writeText}
 use Rattle.sheets.specs.Field.{Pair, before}
 use Rattle.sheets.specs.Metadata.{writePairs, metadataKey, extensionOf, schemaMetadata}
 use Rattle.column_text.specs.ColumnText.{columnText}
-use Rattle.little_endian.specs.Word.{wordBytes}
+use Rattle.endian.specs.Word.{wordBytes}
 use Rattle.put_metadata.specs.Pairs.{pairsIn}
 
 -- the metadata of the schema line: from the columns `pairs`, and `text` and `more` of the extension; a name that is `~` is none
-unfoldable pub metadataColumn : Bytes → Bytes → Bytes → Bytes
-metadataColumn pairs name more = writeText (schemaMetadata (pairsIn pairs) (extensionOf (columnText name) (columnText more)))
+unfoldable pub metadataColumn : Bool → Bytes → Bytes → Bytes → Bytes
+metadataColumn big pairs name more = writeText (schemaMetadata big (pairsIn pairs) (extensionOf (columnText name) (columnText more)))
 
 -- ── the pieces
 
 -- a text of the block: its length, in bytes, and the text
-unfoldable pub sizedText : Bytes → Bytes
-sizedText text = hex (wordBytes (length text / 2)) ++ text
+unfoldable pub sizedText : Bool → Bytes → Bytes
+sizedText big text = hex (wordBytes big (length text / 2)) ++ text
 
 -- a pair of the block
-unfoldable pub pairPieces : Bytes → Bytes → Bytes
+unfoldable pub pairPieces : Bool → Bytes → Bytes → Bytes
 unfolding sizedText
-pairPieces key value = sizedText key ++ sizedText value
+pairPieces big key value = sizedText big key ++ sizedText big value
 
 -- pairs of the block
-unfoldable pub blockText : List Pair → Bytes
-blockText ps = hex (writePairs ps)
+unfoldable pub blockText : Bool → List Pair → Bytes
+blockText big ps = hex (writePairs big ps)
 
 -- ── merging: the keys are compared as hexadecimal text
 

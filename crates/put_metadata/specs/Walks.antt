@@ -1,5 +1,6 @@
 -- The walk over the pairs of a column: what each writer requires, and how far it came. Assumes nothing.
 use mathlib.Core.Path.{_≡_}
+use mathlib.Core.Bool.{Bool}
 use mathlib.Core.List.{List, _++_}
 use Prim.Native.Nat.{ℕ, _+_, _*_, _-_, _^_, _≤_, _<_}
 use lib.ListN.{length, drop}
@@ -7,7 +8,7 @@ use Rattle.sheets.specs.Bytes.{Bytes}
 use Rattle.sheets.specs.Text.{hex}
 use Rattle.sheets.specs.Field.{Pair}
 use Rattle.buffer.specs.Over.{overAt, IsUsize}
-use Rattle.little_endian.specs.Word.{wordBytes}
+use Rattle.endian.specs.Word.{wordBytes}
 use Rattle.columns.specs.Columns.{part}
 use Rattle.column_text.specs.ColumnText.{columnText, TextColumn}
 use Rattle.put_metadata.specs.Pairs.{PairsColumn, Pairs, pairsOf}
@@ -38,38 +39,38 @@ abbrev pub leftOf : Bytes → Walk → List Pair
 leftOf column w = pairsOf (drop (w .place) column)
 
 -- the pair p of the column was written
-abbrev pub PutsFound : Bytes → Walk → PairPlace → Walk → Bytes → Bytes → Type 0
-PutsFound column w p r old out =
-    Moves column w r (pairPieces (part column (w .place) (p .equals)) (part column (p .equals + 1) (p .end))) 1 0 (pairsOf (drop (p .next) column)) old out
+abbrev pub PutsFound : Bool → Bytes → Walk → PairPlace → Walk → Bytes → Bytes → Type 0
+PutsFound big column w p r old out =
+    Moves column w r (pairPieces big (part column (w .place) (p .equals)) (part column (p .equals + 1) (p .end))) 1 0 (pairsOf (drop (p .next) column)) old out
     × (r .place ≡ p .next)
 
 -- the pairs whose keys stand before the key were written
-abbrev pub PutsUntil : Bytes → Bytes → Walk → Walk → Bytes → Bytes → Type 0
-PutsUntil column key w r old out =
+abbrev pub PutsUntil : Bool → Bytes → Bytes → Walk → Walk → Bytes → Bytes → Type 0
+PutsUntil big column key w r old out =
     let done = beforeText key (leftOf column w) in
-    Moves column w r (blockText done) (length done) 0 (fromText key (leftOf column w)) old out
+    Moves column w r (blockText big done) (length done) 0 (fromText key (leftOf column w)) old out
 
 -- these pairs and the key with its value; "overwriting equal ones": a pair with this key is left out
-abbrev pub PutsReserved : Bytes → Bytes → Bytes → Walk → Walk → Bytes → Bytes → Type 0
-PutsReserved column key value w r old out =
+abbrev pub PutsReserved : Bool → Bytes → Bytes → Bytes → Walk → Walk → Bytes → Bytes → Type 0
+PutsReserved big column key value w r old out =
     let done = beforeText key (leftOf column w) in
-    Moves column w r (blockText done ++ pairPieces key value) (length done + 1) (16 + length key + length value) (afterText key (fromText key (leftOf column w))) old out
+    Moves column w r (blockText big done ++ pairPieces big key value) (length done + 1) (16 + length key + length value) (afterText key (fromText key (leftOf column w))) old out
 
 -- the pairs before the extension's metadata, and that
-abbrev pub PutsMore : Bytes → Bytes → Walk → Walk → Bytes → Bytes → Type 0
-PutsMore column more w r old out =
+abbrev pub PutsMore : Bool → Bytes → Bytes → Walk → Walk → Bytes → Bytes → Type 0
+PutsMore big column more w r old out =
     let done = moreDone (columnText more) (leftOf column w) in
-    Moves column w r (blockText done) (length done) (64 + length more) (moreRest (columnText more) (leftOf column w)) old out
+    Moves column w r (blockText big done) (length done) (64 + length more) (moreRest (columnText more) (leftOf column w)) old out
 
 -- the place after a pair that has the key
 abbrev pub IsAfter : Bytes → Bytes → ℕ → ℕ → Type 0
 IsAfter column key place r = (place ≤ r) × Pairs column r × (pairsOf (drop r column) ≡ afterText key (pairsOf (drop place column)))
 
 -- all pairs that are left, and at place `at` the count of all
-abbrev pub PutsLeft : Bytes → ℕ → Walk → ℕ → Bytes → Bytes → Type 0
-PutsLeft column at w r old out =
+abbrev pub PutsLeft : Bool → Bytes → ℕ → Walk → ℕ → Bytes → Bytes → Type 0
+PutsLeft big column at w r old out =
     let left = leftOf column w in
-    (r ≡ w .end + length (blockText left)) × (out ≡ overAt at (hex (wordBytes (w .count + length left))) (overAt (w .end) (blockText left) old))
+    (r ≡ w .end + length (blockText big left)) × (out ≡ overAt at (hex (wordBytes big (w .count + length left))) (overAt (w .end) (blockText big left) old))
 
 -- ── what the writers require
 

@@ -1,5 +1,5 @@
 // The metadata column of a schema line: the block of `metadata_to_bytes` in hexadecimal, from the column `pairs` of a field line and the
-// columns of its extension. The pairs stand in the order of their keys, so that the reserved keys are merged in on one walk.
+// columns of its extension; its count and lengths are big-endian (`big`) or not. The pairs stand in the order of their keys, so that the reserved keys are merged in on one walk.
 pub mod pairs;
 
 ghost use mathlib.Core.Path.{_≡_};
@@ -19,33 +19,33 @@ struct Walk {
 }
 
 // A text of the block: its length and its bytes.
-fn put_text(out: &mut [u8], at: usize, text: &[u8]) -> usize
+fn put_text(out: &mut [u8], at: usize, text: &[u8], big: bool) -> usize
     requires { ⌜ CanPutText (now text) at ⌝ }
-    ensures { λ r. ⌜ PutAt at (sizedText (now (text .entry))) r (now (out .entry)) (now (out .exit)) ⌝ }
+    ensures { λ r. ⌜ PutAt at (sizedText big (now (text .entry))) r (now (out .entry)) (now (out .exit)) ⌝ }
 {
     let size = (text.len() / 2) as u32;
-    let after = little_endian::put_word(out, at, size);
+    let after = endian::put_word(out, at, size, big);
     buffer::put_at(out, after, text)
 }
 
-fn put_pair(out: &mut [u8], at: usize, key: &[u8], value: &[u8]) -> usize
+fn put_pair(out: &mut [u8], at: usize, key: &[u8], value: &[u8], big: bool) -> usize
     requires { ⌜ CanPutPair (now key) (now value) at ⌝ }
-    ensures { λ r. ⌜ PutAt at (pairPieces (now (key .entry)) (now (value .entry))) r (now (out .entry)) (now (out .exit)) ⌝ }
+    ensures { λ r. ⌜ PutAt at (pairPieces big (now (key .entry)) (now (value .entry))) r (now (out .entry)) (now (out .exit)) ⌝ }
 {
-    let after = put_text(out, at, key);
-    put_text(out, after, value)
+    let after = put_text(out, at, key, big);
+    put_text(out, after, value, big)
 }
 
 // The pair p of the column, which begins where the walk is.
-fn put_found(out: &mut [u8], w: Walk, pairs: &[u8], p: PairPlace) -> Walk
+fn put_found(out: &mut [u8], w: Walk, pairs: &[u8], p: PairPlace, big: bool) -> Walk
     requires { ⌜ CanWalk (now pairs) w 0 × PairAt (now pairs) (w .place) p ⌝ }
-    ensures { λ r. ⌜ PutsFound (now (pairs .entry)) w p r (now (out .entry)) (now (out .exit)) ⌝ }
+    ensures { λ r. ⌜ PutsFound big (now (pairs .entry)) w p r (now (out .entry)) (now (out .exit)) ⌝ }
 {
     let place = w.place;
     let equals = p.equals;
     let value = equals + 1;
     let stop = p.end;
-    let end = put_pair(out, w.end, &pairs[place..equals], &pairs[value..stop]);
+    let end = put_pair(out, w.end, &pairs[place..equals], &pairs[value..stop], big);
     Walk {
         place: p.next,
         end,
@@ -66,9 +66,9 @@ fn comes_later(pairs: &[u8], place: usize, key: &[u8]) -> bool
 }
 
 // The pairs whose keys stand before `key`. Hexadecimal text keeps the order of bytes, so that nothing is decoded.
-fn put_until(out: &mut [u8], w: Walk, pairs: &[u8], key: &[u8]) -> Walk
+fn put_until(out: &mut [u8], w: Walk, pairs: &[u8], key: &[u8], big: bool) -> Walk
     requires { ⌜ CanWalk (now pairs) w 0 × (0 < length (now key)) ⌝ }
-    ensures { λ r. ⌜ PutsUntil (now (pairs .entry)) (now (key .entry)) w r (now (out .entry)) (now (out .exit)) ⌝ }
+    ensures { λ r. ⌜ PutsUntil big (now (pairs .entry)) (now (key .entry)) w r (now (out .entry)) (now (out .exit)) ⌝ }
 {
     let mut walk = w;
     while walk.place < pairs.len() {
@@ -81,7 +81,7 @@ fn put_until(out: &mut [u8], w: Walk, pairs: &[u8], key: &[u8]) -> Walk
         if !byte_order::is_before(&pairs[place..equals], key) {
             return walk;
         }
-        walk = put_found(out, walk, pairs, p);
+        walk = put_found(out, walk, pairs, p, big);
     }
     walk
 }
@@ -106,12 +106,12 @@ fn after_same(pairs: &[u8], place: usize, key: &[u8]) -> usize
 }
 
 // The pairs before a reserved key, and that key with its value; a pair that has this key is left out.
-fn put_reserved(out: &mut [u8], w: Walk, pairs: &[u8], key: &[u8], value: &[u8]) -> Walk
+fn put_reserved(out: &mut [u8], w: Walk, pairs: &[u8], key: &[u8], value: &[u8], big: bool) -> Walk
     requires { ⌜ CanPutReserved (now pairs) w (now key) (now value) ⌝ }
-    ensures { λ r. ⌜ PutsReserved (now (pairs .entry)) (now (key .entry)) (now (value .entry)) w r (now (out .entry)) (now (out .exit)) ⌝ }
+    ensures { λ r. ⌜ PutsReserved big (now (pairs .entry)) (now (key .entry)) (now (value .entry)) w r (now (out .entry)) (now (out .exit)) ⌝ }
 {
-    let a = put_until(out, w, pairs, key);
-    let end = put_pair(out, a.end, key, value);
+    let a = put_until(out, w, pairs, key, big);
+    let end = put_pair(out, a.end, key, value, big);
     let place = after_same(pairs, a.place, key);
     Walk {
         place,
@@ -121,9 +121,9 @@ fn put_reserved(out: &mut [u8], w: Walk, pairs: &[u8], key: &[u8], value: &[u8])
 }
 
 // `ARROW:extension:metadata` with the extension's metadata, if it has any, and the pairs before.
-fn put_more(out: &mut [u8], w: Walk, pairs: &[u8], more: &[u8]) -> Walk
+fn put_more(out: &mut [u8], w: Walk, pairs: &[u8], more: &[u8], big: bool) -> Walk
     requires { ⌜ CanPutMore (now pairs) w (now more) ⌝ }
-    ensures { λ r. ⌜ PutsMore (now (pairs .entry)) (now (more .entry)) w r (now (out .entry)) (now (out .exit)) ⌝ }
+    ensures { λ r. ⌜ PutsMore big (now (pairs .entry)) (now (more .entry)) w r (now (out .entry)) (now (out .exit)) ⌝ }
 {
     if buffer::same(more, b"~") {
         return w;
@@ -136,24 +136,32 @@ fn put_more(out: &mut [u8], w: Walk, pairs: &[u8], more: &[u8]) -> Walk
         pairs,
         b"4152524f573a657874656e73696f6e3a6d65746164617461",
         value,
+        big,
     )
 }
 
 // The pairs that are left, and the count of all of them at place `at`. `~` stands after every hexadecimal text.
-fn put_left(out: &mut [u8], at: usize, w: Walk, pairs: &[u8]) -> usize
+fn put_left(out: &mut [u8], at: usize, w: Walk, pairs: &[u8], big: bool) -> usize
     requires { ⌜ CanPutLeft (now pairs) at w ⌝ }
-    ensures { λ r. ⌜ PutsLeft (now (pairs .entry)) at w r (now (out .entry)) (now (out .exit)) ⌝ }
+    ensures { λ r. ⌜ PutsLeft big (now (pairs .entry)) at w r (now (out .entry)) (now (out .exit)) ⌝ }
 {
-    let a = put_until(out, w, pairs, b"~");
+    let a = put_until(out, w, pairs, b"~", big);
     let count = a.count as u32;
-    let _after = little_endian::put_word(out, at, count);
+    let _after = endian::put_word(out, at, count, big);
     a.end
 }
 
 // Writes the column from place `at` on, as much as fits; the place after it. An extension's name is never `~`: that stands for no extension.
-pub fn put_metadata(out: &mut [u8], at: usize, pairs: &[u8], name: &[u8], more: &[u8]) -> usize
+pub fn put_metadata(
+    out: &mut [u8],
+    at: usize,
+    pairs: &[u8],
+    name: &[u8],
+    more: &[u8],
+    big: bool,
+) -> usize
     requires { ⌜ CanPutMetadata (now pairs) (now name) (now more) at ⌝ }
-    ensures { λ r. ⌜ PutAt at (metadataColumn (now (pairs .entry)) (now (name .entry)) (now (more .entry))) r (now (out .entry)) (now (out .exit)) ⌝ }
+    ensures { λ r. ⌜ PutAt at (metadataColumn big (now (pairs .entry)) (now (name .entry)) (now (more .entry))) r (now (out .entry)) (now (out .exit)) ⌝ }
 {
     let place = crate::pairs::first_place(pairs);
     let w = Walk {
@@ -165,9 +173,9 @@ pub fn put_metadata(out: &mut [u8], at: usize, pairs: &[u8], name: &[u8], more: 
         if place == pairs.len() {
             return buffer::put_byte(out, at, b'~');
         }
-        return put_left(out, at, w, pairs);
+        return put_left(out, at, w, pairs, big);
     }
-    let a = put_more(out, w, pairs, more);
+    let a = put_more(out, w, pairs, more, big);
     let value = schema_line::text_of(name);
     // The key is `ARROW:extension:name`, which stands after `ARROW:extension:metadata`.
     let b = put_reserved(
@@ -176,6 +184,7 @@ pub fn put_metadata(out: &mut [u8], at: usize, pairs: &[u8], name: &[u8], more: 
         pairs,
         b"4152524f573a657874656e73696f6e3a6e616d65",
         value,
+        big,
     );
-    put_left(out, at, b, pairs)
+    put_left(out, at, b, pairs, big)
 }

@@ -172,8 +172,8 @@ line-text (x ∷ f) (y ∷ b) zero h k l = simp append-assoc
 line-text (x ∷ f) (y ∷ b) (suc zero) h k l = simp append-assoc
 line-text (x ∷ f) (y ∷ b) (suc (suc n)) h k l = absurd (omega arith)
 
-made : (kind low high len : ℕ) (b : Bytes) (n : ℕ) (f : Format kind low high len) → Meets (lacks 0 b) → schemaNew (leafField kind b n) ≡ given (schema (leafNode (f .row .name) b n) end absent)
-made kind low high len b n f h = rw (f .is-row) (when-met zeroByte (lacks 0 b and lacks 0 (f .row .name)) (schema (leafNode (f .row .name) b n) end absent) (h, f .nonzero))
+made : (kind low high len : ℕ) (b : Bytes) (n : ℕ) (f : Format kind low high len) → Meets (lacks 0 b) → (big : Bool) → schemaNew big (leafField kind b n) ≡ given (schema (leafNode (f .row .name) b n) end absent)
+made kind low high len b n f h big = rw (f .is-row) (when-met zeroByte (lacks 0 b and lacks 0 (f .row .name)) (schema (leafNode (f .row .name) b n) end absent) (h, f .nonzero))
 
 -- ── the line
 

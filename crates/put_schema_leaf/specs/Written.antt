@@ -38,7 +38,7 @@ pub record SchemaLeafWritten (s : Bytes) (at : ℕ) (out out' : Bytes) (next len
   pub nullable : ℕ
   pub leaf : FieldLeafAt s at kind from e nullable
   pub node : Node
-  pub made : schemaNew (leafField kind (leaf .bytes) nullable) ≡ given (schema node end absent)
+  pub made : (big : Bool) → schemaNew big (leafField kind (leaf .bytes) nullable) ≡ given (schema node end absent)
   pub after : next ≡ e + 7
   pub put : PutFirst (ended (schemaLines (schema node end absent))) len out out'
   pub short : len ≤ 24 + (e - from)

@@ -1,10 +1,10 @@
 -- A line that meets what `put_schema_line` requires, and its text: an extension whose metadata is empty, over Float64 with one pair. Assumes nothing.
 use mathlib.Core.Path.{_≡_, refl}
+use mathlib.Core.Bool.{false}
 use mathlib.Core.List.{[], _∷_}
-use mathlib.Core.Option.{none, some}
-use Prim.Native.Nat.{_<_}
+use mathlib.Core.Option.{some}
 use native.Mathlib.Omega.{arith}
-use Rattle.sheets.specs.Bytes.{Bytes, ascii}
+use Rattle.sheets.specs.Bytes.{ascii}
 use Rattle.sheets.specs.Number.{decimal}
 use Rattle.sheets.specs.Field.{leaf}
 use Rattle.sheets.specs.FieldSheet.{ofScalar}
@@ -15,7 +15,7 @@ use Rattle.put_schema_line.specs.Lines.{lineText, CanPutColumns}
 use Rattle.put_schema_line.specs.declared.LineNumbers.{LineNumbers}
 
 abbrev numbers : LineNumbers
-numbers = record { kind = 14; p = 0; q = 0; flags = 2; children = 0; dictionary = 0 }
+numbers = record { kind = 14; p = 0; q = 0; flags = 2; children = 0; dictionary = 0; big = false }
 
 pub can-put : CanPutColumns numbers (ascii "~") (ascii "6974656d") (ascii "6d=32") (ascii "666f6f") (ascii "-")
 unfolding lineShape

@@ -108,9 +108,9 @@ module _ (n : LineNumbers) (pairs extension : Bytes) where
         let r = and-right (leb (n .flags) 9) (leb (n .children) 9 && ltb (n .dictionary) 10) numbers in
         (leb-true (n .flags) 9 (and-left (leb (n .flags) 9) _ numbers), leb-true (n .children) 9 (and-left (leb (n .children) 9) _ r), ltb-true (n .dictionary) 10 (and-right (leb (n .children) 9) _ r))
 
-    pub plain-metadata : (more : Bytes) (at : ℕ) → CanPutTail pairs extension more at → metadataColumn pairs extension more ≡ 126 ∷ []
+    pub plain-metadata : (more : Bytes) (at : ℕ) → CanPutTail pairs extension more at → metadataColumn (n .big) pairs extension more ≡ 126 ∷ []
     plain-metadata more at h =
-        no-metadata pairs extension more at (record { column = h .column; short = h .short; named = h .extended; metadata = h .metadata; low = omega (arith, h .low) }) (firstPlace pairs) refl
+        no-metadata (n .big) pairs extension more at (record { column = h .column; short = h .short; named = h .extended; metadata = h .metadata; low = omega (arith, h .low) }) (firstPlace pairs) refl
         (and-left (same extension (126 ∷ [])) _ after-pairs) (leb-true (length pairs) (firstPlace pairs) (and-left (leb (length pairs) (firstPlace pairs)) _ e))
 
 one-digit : (k : ℕ) → k < 10 → decimal k ≡ (48 + k) ∷ []
@@ -150,11 +150,11 @@ format-text (b ∷ f) h = refl
 pieces : (a s n f m c d e : Bytes) → a ++ ((s ++ n) ++ (((((s ++ (f ++ s)) ++ m) ++ s) ++ (c ++ s)) ++ (d ++ e))) ≡ (a ++ (s ++ (n ++ (s ++ (f ++ (s ++ (m ++ (s ++ (c ++ (s ++ d)))))))))) ++ e
 pieces a s n f m c d e = simp append-assoc
 
-line-is : (n : LineNumbers) (name pairs extension more f : Bytes) → 0 < length f → hex f ++ restPiece n name (metadataColumn pairs extension more) ≡ lineText n name pairs extension more f
+line-is : (n : LineNumbers) (name pairs extension more f : Bytes) → 0 < length f → hex f ++ restPiece n name (metadataColumn (n .big) pairs extension more) ≡ lineText n name pairs extension more f
 unfolding restPiece namePiece tailPiece column endPiece lineText metadataColumn
 line-is n name pairs extension more f h =
     let s = space ∷ [] in
-    let m = metadataColumn pairs extension more in
+    let m = metadataColumn (n .big) pairs extension more in
     let x = writeText (some (nodeName name)) in
     let rest : Bytes = s ++ (x ++ (s ++ (decimal (n .flags) ++ (s ++ (m ++ (s ++ (decimal (n .children) ++ (s ++ decimal (n .dictionary))))))))) in
     pieces (hex f) s x (decimal (n .flags)) m (decimal (n .children)) (decimal (n .dictionary)) (lineEnd ∷ [])
@@ -198,7 +198,7 @@ module _ (n : LineNumbers) (text name pairs extension more : Bytes) (h : CanPutC
 
   -- the pieces after the format
   abbrev rest : Bytes
-  rest = restPiece n name (metadataColumn pairs extension more)
+  rest = restPiece n name (metadataColumn (n .big) pairs extension more)
 
   pub line-put : (at : ℕ) (zero : Bool) (old mid : Bytes) → Formatted format at zero old mid → (end : ℕ) (out : Bytes) → PutAt at rest end mid out
       → (named : Bool) → named ≡ hasZero (nodeName name) → PutsColumns n text name pairs extension more (Told end (zero || named)) old out
@@ -221,7 +221,7 @@ module _ (n : LineNumbers) (text name pairs extension more : Bytes) (h : CanPutC
   unfolding restPiece tailPiece endPiece
   line-size f e k l =
       let s = format-size (n .kind) (n .p) (n .q) text (n .children) 0 (h .format) f e in
-      let m = metadataColumn pairs extension more in
+      let m = metadataColumn (n .big) pairs extension more in
       let a = (space ∷ []) ++ column (decimal (n .flags)) in
       omega (
         arith,
@@ -240,7 +240,7 @@ module _ (n : LineNumbers) (text name pairs extension more : Bytes) (h : CanPutC
         number-short (n .children) (omega (arith, h .format .few)),
         length-append (decimal (n .dictionary)) (lineEnd ∷ []),
         decimal-short (n .dictionary) l,
-        metadata-size pairs extension more (h .column) (h .extended) (h .metadata),
+        metadata-size (n .big) pairs extension more (h .column) (h .extended) (h .metadata),
       )
 
 -- ── for the caller: the line of a field's node
@@ -248,7 +248,7 @@ module _ (n : LineNumbers) (text name pairs extension more : Bytes) (h : CanPutC
 -- the node of a field, by its info and the name and metadata of its extension
 abbrev fieldLineText : Info → Option Bytes → Option Bytes → LineNumbers → Bytes → Bytes
 fieldLineText i x m n f =
-    schemaLine .write (lineOf (record { format = some f; name = some (i .name); flags = pos (n .flags); metadata = schemaMetadata (i .pairs) (extensionOf x m) }) (n .children) (n .dictionary)) ++ (lineEnd ∷ [])
+    schemaLine .write (lineOf (record { format = some f; name = some (i .name); flags = pos (n .flags); metadata = schemaMetadata (n .big) (i .pairs) (extensionOf x m) }) (n .children) (n .dictionary)) ++ (lineEnd ∷ [])
 
 module _ (x m : Option Bytes) (n : LineNumbers) (f : Bytes) (k : Meets (textRule x)) (l : Meets (textRule m)) where
   -- the columns of a line that were written from a field and its extension say that field's node

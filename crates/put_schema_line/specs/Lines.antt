@@ -47,7 +47,7 @@ nodeName name = orEmpty (columnText name)
 -- the node of a line with this format
 abbrev pub nodeText : LineNumbers → Bytes → Bytes → Bytes → Bytes → Bytes → Node
 nodeText n name pairs extension more f =
-    record { format = some f; name = some (nodeName name); flags = pos (n .flags); metadata = schemaMetadata (pairsIn pairs) (extensionOf (columnText extension) (columnText more)) }
+    record { format = some f; name = some (nodeName name); flags = pos (n .flags); metadata = schemaMetadata (n .big) (pairsIn pairs) (extensionOf (columnText extension) (columnText more)) }
 
 -- the line of a schema sheet, with the byte that ends it
 unfoldable pub lineText : LineNumbers → Bytes → Bytes → Bytes → Bytes → Bytes → Bytes

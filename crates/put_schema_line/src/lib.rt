@@ -11,7 +11,8 @@ use datatypes::kind;
 use put_format::Exported;
 use schema_line::SchemaLine;
 
-// The numbers of a line: `kind`, `p`, `q` of the field line, and `flags`, `children`, `dictionary` of the schema line.
+// The numbers of a line: `kind`, `p`, `q` of the field line, and `flags`, `children`, `dictionary` of the schema line; and whether its metadata is written
+// big-endian.
 pub struct LineNumbers {
     pub kind: u64,
     pub p: u64,
@@ -19,6 +20,7 @@ pub struct LineNumbers {
     pub flags: u64,
     pub children: u64,
     pub dictionary: u64,
+    pub big: bool,
 }
 
 // The columns that a line is written from, as parts of the field sheet: `text` of the type's own line; `name` and `pairs` of the field's first line, and there too, where the
@@ -82,11 +84,11 @@ fn put_any(
     more: &[u8],
 ) -> usize
     requires { ⌜ CanPutTail (now pairs) (now extension) (now more) at ⌝ }
-    ensures { λ r. ⌜ PutAt at (tailPiece n (metadataColumn (now (pairs .entry)) (now (extension .entry)) (now (more .entry)))) r (now (out .entry)) (now (out .exit)) ⌝ }
+    ensures { λ r. ⌜ PutAt at (tailPiece n (metadataColumn (n .big) (now (pairs .entry)) (now (extension .entry)) (now (more .entry)))) r (now (out .entry)) (now (out .exit)) ⌝ }
 {
     let a = buffer::put_byte(out, at, b' ');
     let b = field_line::put_number(out, a, n.flags);
-    let c = put_metadata::put_metadata(out, b, pairs, extension, more);
+    let c = put_metadata::put_metadata(out, b, pairs, extension, more, n.big);
     let d = buffer::put_byte(out, c, b' ');
     let e = field_line::put_number(out, d, n.children);
     field_line::put_end(out, e, n.dictionary)
@@ -131,7 +133,7 @@ fn put_tail(
     more: &[u8],
 ) -> usize
     requires { ⌜ CanPutTail (now pairs) (now extension) (now more) at ⌝ }
-    ensures { λ r. ⌜ PutAt at (tailPiece n (metadataColumn (now (pairs .entry)) (now (extension .entry)) (now (more .entry)))) r (now (out .entry)) (now (out .exit)) ⌝ }
+    ensures { λ r. ⌜ PutAt at (tailPiece n (metadataColumn (n .big) (now (pairs .entry)) (now (extension .entry)) (now (more .entry)))) r (now (out .entry)) (now (out .exit)) ⌝ }
 {
     if out.len() < at + 9 {
         return put_any(out, at, n, pairs, extension, more);
@@ -153,7 +155,7 @@ fn put_rest(
     more: &[u8],
 ) -> usize
     requires { ⌜ CanPutRest (now name) (now pairs) (now extension) (now more) at ⌝ }
-    ensures { λ r. ⌜ PutAt at (restPiece n (now (name .entry)) (metadataColumn (now (pairs .entry)) (now (extension .entry)) (now (more .entry)))) r (now (out .entry)) (now (out .exit)) ⌝ }
+    ensures { λ r. ⌜ PutAt at (restPiece n (now (name .entry)) (metadataColumn (n .big) (now (pairs .entry)) (now (extension .entry)) (now (more .entry)))) r (now (out .entry)) (now (out .exit)) ⌝ }
 {
     let after = put_name(out, at, name);
     put_tail(out, after, n, pairs, extension, more)

@@ -49,8 +49,8 @@ fn ask(code: u64, argument: u64, s: &[u8], out: &mut [u8]) -> Answered
     ensures { λ r. ⌜ outcomeOf (r .number) (r .length) (now (out .exit)) ≡ sheetOutcome code argument (now (s .entry)) (now (out .entry)) ⌝ }
 {
     match code {
-        call::IMPORT => import_sheet::import(s, out),
-        call::EXPORT => field_calls::export(s, out),
+        call::IMPORT => import_sheet::import(s, argument != 0, out),
+        call::EXPORT => field_calls::export(s, argument != 0, out),
         call::PLAIN => field_calls::plain_form(s, out),
         call::UNDERLYING_PHYSICAL_TYPE => field_calls::underlying_physical_type(s, out),
         call::TO_STORAGE => picked_types::to_storage(s, out),

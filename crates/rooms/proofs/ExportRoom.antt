@@ -21,7 +21,7 @@ use Rattle.sheets.specs.FieldSheet.{Shape, ofScalar, ofNesting, ofGrouping, ofD
 use Rattle.sheets.specs.Format.{nestingFormat}
 use Rattle.sheets.specs.Metadata.{Extension}
 use Rattle.sheets.specs.Export.{flag, sortedFlag, schemaNode, valuesInfo, outermost, schemaNewOf, schemaChildren}
-use Rattle.sheets.specs.Outcome.{exported, exportOutcome}
+use Rattle.sheets.specs.Outcome.{exported, exportOutcomeIn}
 use Rattle.sheets.proofs.RoundTrip.{exportedNode}
 use Rattle.rooms.specs.Room.{exportRoom, Fits, HasRoom}
 use Rattle.rooms.proofs.RoomLaws.{Gives, gives-given, gives-more, gives-then, gives-when, AtMost, answer-fits, answer-has-room}
@@ -61,85 +61,86 @@ SchemaBounded bytes s = 37 * schemaSize s + 370 ≤ 178 * bytes
 abbrev ChildrenBounded : Fields → Schemas → Type 0
 ChildrenBounded fs cs = (countSchemas cs ≡ countFields fs) × (37 * childrenSize cs + 370 * countFields fs ≤ 178 * fieldsSize fs)
 
--- The step of the induction: a line s, o its own columns and n its children, and what becomes of it; `fields` of those below may need an id, and
--- `earlier` are the bytes of the extensions' lines directly before it.
-module _ (s : Shape) (o : Option Info) (n : ℕ) (below : List Bytes) (fields earlier : ℕ) where
-  node-bounded : (i : Info) (e : Option Extension) (f : Bytes) (x : ℕ) (cs : Schemas) (d : Dictionary)
-      → x ≤ 4 → FormatBounded s fields f → OwnBounds i o e earlier → length (decimal (countSchemas cs)) ≤ length (decimal n)
-      → 37 * (childrenSize cs + dictionarySize d) + 370 * fields ≤ 178 * partsSize below
-      → Gives (SchemaBounded (earlier + partsSize (fieldLine .write (lineOf s o n) ∷ below))) (schemaNode i e f x cs d)
-  node-bounded i e f x cs d small format own count rest =
-      gives-when zeroByte (lacks 0 (i .name) and lacks 0 f) (schema (exportedNode i e f x) cs d)
-      (λ _. omega (
-        arith,
-        schema-size (exportedNode i e f x) cs d,
-        flags-digit (i .nullable) x small,
-        dictionary-digit d,
-        line-size s o n below,
-        own .here,
-        decimal-least n,
-      ))
+module _ (big : Bool) where
+  -- The step of the induction: a line s, o its own columns and n its children, and what becomes of it; `fields` of those below may need an id, and
+  -- `earlier` are the bytes of the extensions' lines directly before it.
+  module _ (s : Shape) (o : Option Info) (n : ℕ) (below : List Bytes) (fields earlier : ℕ) where
+    node-bounded : (i : Info) (e : Option Extension) (f : Bytes) (x : ℕ) (cs : Schemas) (d : Dictionary)
+        → x ≤ 4 → FormatBounded s fields f → OwnBounds big i o e earlier → length (decimal (countSchemas cs)) ≤ length (decimal n)
+        → 37 * (childrenSize cs + dictionarySize d) + 370 * fields ≤ 178 * partsSize below
+        → Gives (SchemaBounded (earlier + partsSize (fieldLine .write (lineOf s o n) ∷ below))) (schemaNode big i e f x cs d)
+    node-bounded i e f x cs d small format own count rest =
+        gives-when zeroByte (lacks 0 (i .name) and lacks 0 f) (schema (exportedNode big i e f x) cs d)
+        (λ _. omega (
+          arith,
+          schema-size (exportedNode big i e f x) cs d,
+          flags-digit (i .nullable) x small,
+          dictionary-digit d,
+          line-size s o n below,
+          own .here,
+          decimal-least n,
+        ))
 
--- ── the tree
+  -- ── the tree
 
-mutual
-  type-bounded : (t : ArrowDataType) (i : Info) (o : Option Info) (e : Option Extension) (earlier : ℕ)
-      → Meets (typeRule t) → OwnBounds i o e earlier → typeSize t o ≤ sheetLimit → Gives (SchemaBounded (earlier + typeSize t o)) (schemaNewOf t i e)
-  type-bounded (scalar c) i o e earlier h own l =
-      gives-then (scalar-format c)
-      (λ f format. node-bounded (ofScalar c) o 0 [] 0 earlier i e f 0 end absent (omega arith) format own (omega arith) (omega arith))
-  type-bounded (nested n j t) i o e earlier h own l =
-      let below = typeLines t (some j) in
-      gives-then (type-bounded t j (some j) none 0 (h .1 .1) (field-bounds j (h .1 .0)) (omega (arith, line-least (ofNesting n) o 1 below)))
-      (λ c child. node-bounded (ofNesting n) o 1 below 0 earlier i e (nestingFormat n) (sortedFlag n) (c & end) absent
-      (sorted-small n) (nesting-format n) own (omega arith) (omega (arith, child, child-size c end)))
-  type-bounded (grouped c fs) i o e earlier h own l =
-      let count = countFields fs in
-      let below = fieldsLines fs in
-      let least = line-least (ofGrouping c) o count below in
-      gives-then (grouping-format c count (omega (arith, least, fields-least fs)))
-      (λ f format. gives-then (fields-bounded fs (h .1) (omega (arith, least)))
-      (λ cs children. node-bounded (ofGrouping c) o count below count earlier i e f 0 cs absent
-      (omega arith) format own (omega (arith, ap (λ (k : ℕ). length (decimal k)) (children .0))) (omega (arith, children .1))))
-  type-bounded (dictionary ix ordered t) i o none earlier h own l =
-      let s = ofDictionary ix ordered in
-      let below = typeLines t none in
-      gives-then (name-short (ix + 2) 0)
-      (λ f name. gives-then (type-bounded t valuesInfo none none 0 (h .1) values-bounds (omega (arith, line-least s o 1 below)))
-      (λ d values. node-bounded s o 1 below 0 earlier i none f (flag ordered ORDERED) end (present d)
-      (ordered-small ordered) (short-format s f name) own (decimal-order 0 1 (omega arith)) (omega (arith, values))))
-  type-bounded (dictionary ix ordered t) i o (some e) earlier h own l =
-      let s = ofDictionary ix ordered in
-      gives-then (name-short (ix + 2) 0)
-      (λ f name. node-bounded s o 1 (typeLines t none) 0 earlier i (some e) f 0 end absent
-      (omega arith) (short-format s f name) own (decimal-order 0 1 (omega arith)) (omega arith))
-  type-bounded (extension n m t) i o e earlier h own l =
-      let s = ofExtension n m in
-      let below = typeLines t none in
-      let line = shapeSize s + ownSize o + 2 in
-      gives-more (λ z inner. omega (arith, inner, line-size s o 1 below, decimal-least 1))
-      (type-bounded t i none (some (outermost e (n, m))) (earlier + line) (h .1 .1) (inner-bounds own n m) (omega (arith, line-least s o 1 below)))
+  mutual
+    type-bounded : (t : ArrowDataType) (i : Info) (o : Option Info) (e : Option Extension) (earlier : ℕ)
+        → Meets (typeRule t) → OwnBounds big i o e earlier → typeSize t o ≤ sheetLimit → Gives (SchemaBounded (earlier + typeSize t o)) (schemaNewOf big t i e)
+    type-bounded (scalar c) i o e earlier h own l =
+        gives-then (scalar-format c)
+        (λ f format. node-bounded (ofScalar c) o 0 [] 0 earlier i e f 0 end absent (omega arith) format own (omega arith) (omega arith))
+    type-bounded (nested n j t) i o e earlier h own l =
+        let below = typeLines t (some j) in
+        gives-then (type-bounded t j (some j) none 0 (h .1 .1) (field-bounds big j (h .1 .0)) (omega (arith, line-least (ofNesting n) o 1 below)))
+        (λ c child. node-bounded (ofNesting n) o 1 below 0 earlier i e (nestingFormat n) (sortedFlag n) (c & end) absent
+        (sorted-small n) (nesting-format n) own (omega arith) (omega (arith, child, child-size c end)))
+    type-bounded (grouped c fs) i o e earlier h own l =
+        let count = countFields fs in
+        let below = fieldsLines fs in
+        let least = line-least (ofGrouping c) o count below in
+        gives-then (grouping-format c count (omega (arith, least, fields-least fs)))
+        (λ f format. gives-then (fields-bounded fs (h .1) (omega (arith, least)))
+        (λ cs children. node-bounded (ofGrouping c) o count below count earlier i e f 0 cs absent
+        (omega arith) format own (omega (arith, ap (λ (k : ℕ). length (decimal k)) (children .0))) (omega (arith, children .1))))
+    type-bounded (dictionary ix ordered t) i o none earlier h own l =
+        let s = ofDictionary ix ordered in
+        let below = typeLines t none in
+        gives-then (name-short (ix + 2) 0)
+        (λ f name. gives-then (type-bounded t valuesInfo none none 0 (h .1) (values-bounds big) (omega (arith, line-least s o 1 below)))
+        (λ d values. node-bounded s o 1 below 0 earlier i none f (flag ordered ORDERED) end (present d)
+        (ordered-small ordered) (short-format s f name) own (decimal-order 0 1 (omega arith)) (omega (arith, values))))
+    type-bounded (dictionary ix ordered t) i o (some e) earlier h own l =
+        let s = ofDictionary ix ordered in
+        gives-then (name-short (ix + 2) 0)
+        (λ f name. node-bounded s o 1 (typeLines t none) 0 earlier i (some e) f 0 end absent
+        (omega arith) (short-format s f name) own (decimal-order 0 1 (omega arith)) (omega arith))
+    type-bounded (extension n m t) i o e earlier h own l =
+        let s = ofExtension n m in
+        let below = typeLines t none in
+        let line = shapeSize s + ownSize o + 2 in
+        gives-more (λ z inner. omega (arith, inner, line-size s o 1 below, decimal-least 1))
+        (type-bounded t i none (some (outermost e (n, m))) (earlier + line) (h .1 .1) (inner-bounds big own n m) (omega (arith, line-least s o 1 below)))
 
-  fields-bounded : (fs : Fields) → Meets (fieldsRule fs) → fieldsSize fs ≤ sheetLimit → Gives (ChildrenBounded fs) (schemaChildren fs)
-  fields-bounded nil h l = gives-given (refl, omega arith)
-  fields-bounded (add i t fs) h l =
-      let a = add-size i t fs in
-      gives-then (type-bounded t i (some i) none 0 (h .1 .0) (field-bounds i (h .0)) (omega (arith, a)))
-      (λ c first. gives-then (fields-bounded fs (h .1 .1) (omega (arith, a)))
-      (λ cs rest. gives-given (ap suc (rest .0), omega (arith, a, child-size c cs, first, rest .1))))
+    fields-bounded : (fs : Fields) → Meets (fieldsRule fs) → fieldsSize fs ≤ sheetLimit → Gives (ChildrenBounded fs) (schemaChildren big fs)
+    fields-bounded nil h l = gives-given (refl, omega arith)
+    fields-bounded (add i t fs) h l =
+        let a = add-size i t fs in
+        gives-then (type-bounded t i (some i) none 0 (h .1 .0) (field-bounds big i (h .0)) (omega (arith, a)))
+        (λ c first. gives-then (fields-bounded fs (h .1 .1) (omega (arith, a)))
+        (λ cs rest. gives-given (ap suc (rest .0), omega (arith, a, child-size c cs, first, rest .1))))
 
--- ── the sheet and the call
+  -- ── the sheet and the call
 
-export-at-most : (b : Bytes) → AtMost (exportRoom (length b)) (exported b)
-unfolding exported
-export-at-most b =
-    gives-then (field-gives b)
-    (λ f r. gives-then
-    (type-bounded (f .type) (f .info) (some (f .info)) none 0 (r .rule .1) (field-bounds (f .info) (r .rule .0)) (omega (arith, r .whole, r .short)))
-    (λ s h. gives-given (omega (arith, h, r .whole, sheet-size schemaHeading (schemaLines s)))))
+  export-at-most : (b : Bytes) → AtMost (exportRoom (length b)) (exported big b)
+  unfolding exported
+  export-at-most b =
+      gives-then (field-gives b)
+      (λ f r. gives-then
+      (type-bounded (f .type) (f .info) (some (f .info)) none 0 (r .rule .1) (field-bounds big (f .info) (r .rule .0)) (omega (arith, r .whole, r .short)))
+      (λ s h. gives-given (omega (arith, h, r .whole, sheet-size schemaHeading (schemaLines s)))))
 
-pub export-fits : (b out : Bytes) → Fits (exportRoom (length b)) (exportOutcome b out)
-export-fits b out = answer-fits (exportRoom (length b)) (exported b) out (export-at-most b)
+  pub export-fits : (b out : Bytes) → Fits (exportRoom (length b)) (exportOutcomeIn big b out)
+  export-fits b out = answer-fits (exportRoom (length b)) (exported big b) out (export-at-most b)
 
-pub export-has-room : (b out : Bytes) → HasRoom (exportRoom (length b)) out (exportOutcome b out)
-export-has-room b out = answer-has-room (exportRoom (length b)) (exported b) out (export-at-most b)
+  pub export-has-room : (b out : Bytes) → HasRoom (exportRoom (length b)) out (exportOutcomeIn big b out)
+  export-has-room b out = answer-has-room (exportRoom (length b)) (exported big b) out (export-at-most b)

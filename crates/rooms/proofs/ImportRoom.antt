@@ -4,6 +4,7 @@
 -- extension's line, which the metadata's column bounds (`ImportRoomMetadata`), and a count that is no longer. Nodes that are not visited have lines in the
 -- schema sheet alone. By the mutual recursion of the definitions. Assumes nothing.
 use mathlib.Core.Path.{_≡_, refl, ap, subst}
+use mathlib.Core.Bool.{Bool}
 use mathlib.Core.Option.{Option, none, some}
 use Prim.Native.Nat.{ℕ, suc, _+_, _*_, _≤_}
 use native.Mathlib.Omega.{arith}
@@ -23,7 +24,7 @@ use Rattle.sheets.specs.FieldSheet.{typeLines, fieldHeading}
 use Rattle.sheets.specs.Format.{Format, ofScalar, ofNesting, ofGrouping}
 use Rattle.sheets.specs.Metadata.{Extension}
 use Rattle.sheets.specs.Import.{formatText, nameText, firstOf, allOf, typeOf, toDtype, extended, toField, toFields, toValues}
-use Rattle.sheets.specs.Outcome.{imported, importOutcome}
+use Rattle.sheets.specs.Outcome.{imported, importOutcomeIn}
 use Rattle.sheets.proofs.Tests.{not-some, same-some}
 use Rattle.rooms.specs.Room.{importRoom, Fits, HasRoom}
 use Rattle.rooms.proofs.RoomLaws.{Gives, gives-refused, gives-given, gives-more, gives-then, gives-when, AtMost, answer-fits, answer-has-room}
@@ -48,33 +49,34 @@ TypeBounded f cs d t =
     13 * bareSize t ≤ 38 * length f + 183 + 13 * suc (length (decimal (countSchemas cs))) + 19 * (childrenSize cs + dictionarySize d)
 
 -- what is below a node: its first child, all its children, its dictionary
-record BelowBounded (cs : Schemas) (d : Dictionary) : Type 0 where
-  first : Gives (FieldBounded (childrenSize cs)) (firstOf (toFields cs))
-  all : Gives (FieldsBounded cs) (allOf (toFields cs))
-  values : (a : Answer Field) → toValues d ≡ some a → Gives (FieldBounded (dictionarySize d)) a
+record BelowBounded (big : Bool) (cs : Schemas) (d : Dictionary) : Type 0 where
+  first : Gives (FieldBounded (childrenSize cs)) (firstOf (toFields big cs))
+  all : Gives (FieldsBounded cs) (allOf (toFields big cs))
+  values : (a : Answer Field) → toValues big d ≡ some a → Gives (FieldBounded (dictionarySize d)) a
 
 -- ── the type
 
-format-type : (f : Bytes) (cs : Schemas) → BelowBounded cs absent → (g : Format) → FormatBounded (length f) g
-    → Gives (TypeBounded f cs absent) (typeOf g (toFields cs))
-format-type f cs below (ofScalar s) h = gives-given (omega (arith, scalar-size s, decimal-least (countSchemas cs)))
-format-type f cs below (ofNesting n) h =
-    gives-then (below .first) (λ c k. gives-given (omega (arith, nested-size n (c .info) (c .type), decimal-least (countSchemas cs))))
-format-type f cs below (ofGrouping g) h =
-    gives-then (below .all) (λ fs k. gives-given (omega (arith, grouped-size g fs, ap (λ n. length (decimal n)) (k .0), k .1)))
+module _ (big : Bool) where
+  format-type : (f : Bytes) (cs : Schemas) → BelowBounded big cs absent → (g : Format) → FormatBounded (length f) g
+      → Gives (TypeBounded f cs absent) (typeOf g (toFields big cs))
+  format-type f cs below (ofScalar s) h = gives-given (omega (arith, scalar-size s, decimal-least (countSchemas cs)))
+  format-type f cs below (ofNesting n) h =
+      gives-then (below .first) (λ c k. gives-given (omega (arith, nested-size n (c .info) (c .type), decimal-least (countSchemas cs))))
+  format-type f cs below (ofGrouping g) h =
+      gives-then (below .all) (λ fs k. gives-given (omega (arith, grouped-size g fs, ap (λ n. length (decimal n)) (k .0), k .1)))
 
-dictionary-type : (f : Bytes) (flags : ℤ) (cs : Schemas) (v : Schema) → BelowBounded cs (present v)
-    → Gives (TypeBounded f cs (present v)) (toDtype f flags (toFields cs) (some (toField v)))
-dictionary-type f flags cs v below =
-    gives-then (index-bounded (isOrdered flags) f)
-    (λ ix h. gives-then (below .values (toField v) refl)
-    (λ c k. gives-given
-    (omega (arith, dictionary-size ix (isOrdered flags) (c .type), bare-least (c .type) (some (c .info)), decimal-least (countSchemas cs)))))
+  dictionary-type : (f : Bytes) (flags : ℤ) (cs : Schemas) (v : Schema) → BelowBounded big cs (present v)
+      → Gives (TypeBounded f cs (present v)) (toDtype f flags (toFields big cs) (some (toField big v)))
+  dictionary-type f flags cs v below =
+      gives-then (index-bounded (isOrdered flags) f)
+      (λ ix h. gives-then (below .values (toField big v) refl)
+      (λ c k. gives-given
+      (omega (arith, dictionary-size ix (isOrdered flags) (c .type), bare-least (c .type) (some (c .info)), decimal-least (countSchemas cs)))))
 
-type-bounded : (f : Bytes) (flags : ℤ) (cs : Schemas) (d : Dictionary) → BelowBounded cs d
-    → Gives (TypeBounded f cs d) (toDtype f flags (toFields cs) (toValues d))
-type-bounded f flags cs absent below = gives-then (format-bounded (isSorted flags) f) (λ g h. format-type f cs below g h)
-type-bounded f flags cs (present v) below = dictionary-type f flags cs v below
+  type-bounded : (f : Bytes) (flags : ℤ) (cs : Schemas) (d : Dictionary) → BelowBounded big cs d
+      → Gives (TypeBounded f cs d) (toDtype f flags (toFields big cs) (toValues big d))
+  type-bounded f flags cs absent below = gives-then (format-bounded (isSorted flags) f) (λ g h. format-type f cs below g h)
+  type-bounded f flags cs (present v) below = dictionary-type f flags cs v below
 
 -- ── the node
 
@@ -86,32 +88,33 @@ name-size : (o : Option Bytes) → Gives (λ m. length (writeText (some m)) ≤ 
 name-size none = gives-given (omega arith)
 name-size (some b) = gives-when notUtf8 (is (isUtf8 b)) b (λ _. omega arith)
 
-module _ (n : Node) (cs : Schemas) (d : Dictionary) where
-  parts-bounded : (f : Bytes) (t : ArrowDataType) (e : Option Extension) (i : Info)
-      → 2 * length f ≤ length (writeText (n .format)) → TypeBounded f cs d t
-      → MetadataBounded (n .metadata) t (i .pairs, e) → length (writeText (some (i .name))) ≤ length (writeText (n .name))
-      → FieldBounded (schemaSize (schema n cs d)) (record { info = i; type = extended e t })
-  parts-bounded f t e i format type metadata name =
-      omega (
-        arith,
-        schema-size n cs d,
-        signed-least (n .flags),
-        decimal-least (countDictionary d),
-        type-size (extended e t) (some i),
-        flag-size (i .nullable),
-        text-least (n .metadata),
-        text-least (n .name),
-        decimal-least (countSchemas cs),
-      )
+module _ (big : Bool) where
+  module _ (n : Node) (cs : Schemas) (d : Dictionary) where
+    parts-bounded : (f : Bytes) (t : ArrowDataType) (e : Option Extension) (i : Info)
+        → 2 * length f ≤ length (writeText (n .format)) → TypeBounded f cs d t
+        → MetadataBounded (n .metadata) t (i .pairs, e) → length (writeText (some (i .name))) ≤ length (writeText (n .name))
+        → FieldBounded (schemaSize (schema n cs d)) (record { info = i; type = extended e t })
+    parts-bounded f t e i format type metadata name =
+        omega (
+          arith,
+          schema-size n cs d,
+          signed-least (n .flags),
+          decimal-least (countDictionary d),
+          type-size (extended e t) (some i),
+          flag-size (i .nullable),
+          text-least (n .metadata),
+          text-least (n .name),
+          decimal-least (countSchemas cs),
+        )
 
-  node-bounded : BelowBounded cs d → Gives (FieldBounded (schemaSize (schema n cs d))) (toField (schema n cs d))
-  node-bounded below =
-      gives-then (format-size (n .format))
-      (λ f format. gives-then (type-bounded f (n .flags) cs d below)
-      (λ t type. gives-then (metadata-bounded (n .metadata) t)
-      (λ p metadata. gives-then (name-size (n .name))
-      (λ m name. gives-given
-      (parts-bounded f t (p .1) (record { name = m; nullable = nullable (n .flags); pairs = p .0 }) format type metadata name)))))
+    node-bounded : BelowBounded big cs d → Gives (FieldBounded (schemaSize (schema n cs d))) (toField big (schema n cs d))
+    node-bounded below =
+        gives-then (format-size (n .format))
+        (λ f format. gives-then (type-bounded big f (n .flags) cs d below)
+        (λ t type. gives-then (metadata-bounded big (n .metadata) t)
+        (λ p metadata. gives-then (name-size (n .name))
+        (λ m name. gives-given
+        (parts-bounded f t (p .1) (record { name = m; nullable = nullable (n .flags); pairs = p .0 }) format type metadata name)))))
 
 -- ── the tree
 
@@ -120,33 +123,34 @@ more-bounded : (s : Schema) (ss : Schemas) (f : Field) (fs : Fields) → FieldBo
 more-bounded s ss f fs h k =
     (ap suc (k .0), omega (arith, h, k .1, add-size (f .info) (f .type) fs, child-size s ss))
 
-mutual
-  schema-bounded : (s : Schema) → Gives (FieldBounded (schemaSize s)) (toField s)
-  schema-bounded (schema n cs d) = node-bounded n cs d (record { first = first-bounded cs; all = all-bounded cs; values = λ a e. values-bounded d a e })
+module _ (big : Bool) where
+  mutual
+    schema-bounded : (s : Schema) → Gives (FieldBounded (schemaSize s)) (toField big s)
+    schema-bounded (schema n cs d) = node-bounded big n cs d (record { first = first-bounded cs; all = all-bounded cs; values = λ a e. values-bounded d a e })
 
-  first-bounded : (cs : Schemas) → Gives (FieldBounded (childrenSize cs)) (firstOf (toFields cs))
-  first-bounded end = gives-refused
-  first-bounded (s & ss) = gives-more (λ f h. omega (arith, child-size s ss)) (schema-bounded s)
+    first-bounded : (cs : Schemas) → Gives (FieldBounded (childrenSize cs)) (firstOf (toFields big cs))
+    first-bounded end = gives-refused
+    first-bounded (s & ss) = gives-more (λ f h. omega (arith, child-size s ss)) (schema-bounded s)
 
-  all-bounded : (cs : Schemas) → Gives (FieldsBounded cs) (allOf (toFields cs))
-  all-bounded end = gives-given (refl, omega arith)
-  all-bounded (s & ss) = gives-then (schema-bounded s) (λ f h. gives-then (all-bounded ss) (λ fs k. gives-given (more-bounded s ss f fs h k)))
+    all-bounded : (cs : Schemas) → Gives (FieldsBounded cs) (allOf (toFields big cs))
+    all-bounded end = gives-given (refl, omega arith)
+    all-bounded (s & ss) = gives-then (schema-bounded s) (λ f h. gives-then (all-bounded ss) (λ fs k. gives-given (more-bounded s ss f fs h k)))
 
-  values-bounded : (d : Dictionary) (a : Answer Field) → toValues d ≡ some a → Gives (FieldBounded (dictionarySize d)) a
-  values-bounded absent a e = not-some e
-  values-bounded (present s) a e = subst (Gives (FieldBounded (schemaSize s))) (same-some e) (schema-bounded s)
+    values-bounded : (d : Dictionary) (a : Answer Field) → toValues big d ≡ some a → Gives (FieldBounded (dictionarySize d)) a
+    values-bounded absent a e = not-some e
+    values-bounded (present s) a e = subst (Gives (FieldBounded (schemaSize s))) (same-some e) (schema-bounded s)
 
--- ── the sheet and the call
+  -- ── the sheet and the call
 
-import-at-most : (b : Bytes) → AtMost (importRoom (length b)) (imported b)
-unfolding imported
-import-at-most b =
-    gives-then (schema-gives b)
-    (λ s e. gives-then (schema-bounded s)
-    (λ f h. gives-given (omega (arith, e, h, sheet-size fieldHeading (typeLines (f .type) (some (f .info)))))))
+  import-at-most : (b : Bytes) → AtMost (importRoom (length b)) (imported big b)
+  unfolding imported
+  import-at-most b =
+      gives-then (schema-gives b)
+      (λ s e. gives-then (schema-bounded s)
+      (λ f h. gives-given (omega (arith, e, h, sheet-size fieldHeading (typeLines (f .type) (some (f .info)))))))
 
-pub import-fits : (b out : Bytes) → Fits (importRoom (length b)) (importOutcome b out)
-import-fits b out = answer-fits (importRoom (length b)) (imported b) out (import-at-most b)
+  pub import-fits : (b out : Bytes) → Fits (importRoom (length b)) (importOutcomeIn big b out)
+  import-fits b out = answer-fits (importRoom (length b)) (imported big b) out (import-at-most b)
 
-pub import-has-room : (b out : Bytes) → HasRoom (importRoom (length b)) out (importOutcome b out)
-import-has-room b out = answer-has-room (importRoom (length b)) (imported b) out (import-at-most b)
+  pub import-has-room : (b out : Bytes) → HasRoom (importRoom (length b)) out (importOutcomeIn big b out)
+  import-has-room b out = answer-has-room (importRoom (length b)) (imported big b) out (import-at-most b)

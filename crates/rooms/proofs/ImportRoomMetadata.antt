@@ -19,7 +19,7 @@ use Rattle.sheets.specs.Text.{writeText}
 use Rattle.sheets.specs.Utf8.{isUtf8}
 use Rattle.sheets.specs.Field.{Pair, before, ArrowDataType}
 use Rattle.sheets.specs.FieldSheet.{pairText, writeList}
-use Rattle.sheets.specs.Metadata.{littleValue, cutAt, takeText, takePairs, countOf, readBlock, nameKey, metadataKey, Extension, insertNew, ordinary, orElse, valueOf, extensionOf, somePairs, metadataFromBytes}
+use Rattle.sheets.specs.Metadata.{value32, cutAt, takeText, takePairs, countOf, readBlock, nameKey, metadataKey, Extension, insertNew, ordinary, orElse, valueOf, extensionOf, somePairs, metadataFromBytes}
 use Rattle.sheets.specs.Import.{extended}
 use Rattle.sheets.proofs.Tests.{never}
 use Rattle.sheets.proofs.BytesLaws.{same-eq}
@@ -41,21 +41,22 @@ cut-size (suc n) (b ∷ bs) = gives-then (cut-size n bs) (λ x h. gives-given (o
 abbrev Taken : Bytes → Bytes × Bytes → Type 0
 Taken bs x = length bs ≡ 4 + length (x .0) + length (x .1)
 
-text-taken : (bs : Bytes) → Gives (Taken bs) (takeText bs)
-text-taken bs =
-    gives-then (cut-size 4 bs)
-    (λ x h. gives-then {Q = λ t. Unit {0}} (gives-when badMetadata (is (ltb (littleValue (x .0)) (2 ^ 31))) true (λ _. tt))
-    (λ _ _. gives-then (cut-size (littleValue (x .0)) (x .1)) (λ y k. gives-when notUtf8 (is (isUtf8 (y .0))) (y .0, y .1) (λ _. omega (arith, h, k)))))
+module _ (big : Bool) where
+  text-taken : (bs : Bytes) → Gives (Taken bs) (takeText big bs)
+  text-taken bs =
+      gives-then (cut-size 4 bs)
+      (λ x h. gives-then {Q = λ t. Unit {0}} (gives-when badMetadata (is (ltb (value32 big (x .0)) (2 ^ 31))) true (λ _. tt))
+      (λ _ _. gives-then (cut-size (value32 big (x .0)) (x .1)) (λ y k. gives-when notUtf8 (is (isUtf8 (y .0))) (y .0, y .1) (λ _. omega (arith, h, k)))))
 
-pairs-taken : (n : ℕ) (bs : Bytes) → Gives (λ ps. pairsSize ps ≤ length bs) (takePairs n bs)
-pairs-taken zero bs = gives-given (omega arith)
-pairs-taken (suc n) bs =
-    gives-then (text-taken bs) (λ k h. gives-then (text-taken (k .1)) (λ v l. gives-then (pairs-taken n (v .1)) (λ ps m. gives-given (omega arith))))
+  pairs-taken : (n : ℕ) (bs : Bytes) → Gives (λ ps. pairsSize ps ≤ length bs) (takePairs big n bs)
+  pairs-taken zero bs = gives-given (omega arith)
+  pairs-taken (suc n) bs =
+      gives-then (text-taken bs) (λ k h. gives-then (text-taken (k .1)) (λ v l. gives-then (pairs-taken n (v .1)) (λ ps m. gives-given (omega arith))))
 
-block-read : (b : Bytes) → Gives (λ ps. 4 + pairsSize ps ≤ length b) (readBlock b)
-block-read b =
-    gives-then (cut-size 4 b)
-    (λ x h. gives-more (λ ps k. omega (arith, h)) (pairs-taken (countOf (littleValue (x .0))) (x .1)))
+  block-read : (b : Bytes) → Gives (λ ps. 4 + pairsSize ps ≤ length b) (readBlock big b)
+  block-read b =
+      gives-then (cut-size 4 b)
+      (λ x h. gives-more (λ ps k. omega (arith, h)) (pairs-taken (countOf (value32 big (x .0))) (x .1)))
 
 -- ── what the pairs say
 
@@ -135,8 +136,9 @@ told-bounded b t qs (some n) m h =
       flag-size false,
     )
 
-pub metadata-bounded : (o : Option Bytes) (t : ArrowDataType) → Gives (MetadataBounded o t) (metadataFromBytes o)
-metadata-bounded none t = gives-given (omega arith)
-metadata-bounded (some b) t =
-    gives-then (block-read b)
-    (λ ps h. gives-given (told-bounded b t (ordinary ps) (valueOf nameKey ps) (valueOf metadataKey ps) (omega (arith, different-pairs ps))))
+module _ (big : Bool) where
+  pub metadata-bounded : (o : Option Bytes) (t : ArrowDataType) → Gives (MetadataBounded o t) (metadataFromBytes big o)
+  metadata-bounded none t = gives-given (omega arith)
+  metadata-bounded (some b) t =
+      gives-then (block-read big b)
+      (λ ps h. gives-given (told-bounded b t (ordinary ps) (valueOf nameKey ps) (valueOf metadataKey ps) (omega (arith, different-pairs ps))))

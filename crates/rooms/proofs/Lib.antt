@@ -6,6 +6,7 @@ pub mod ImportRoom
 pub mod ExportRoomFormat
 pub mod ExportRoomMetadata
 pub mod ExportRoom
+pub mod ExportOrders
 pub mod PlainRoom
 pub mod PageRoom
 pub mod MappingRoom

@@ -97,7 +97,7 @@ unfolding decimal
 imported-from zero = refl
 imported-from (suc k) = omega (arith, imported-from k)
 
-pub import-row : (k : ℕ) → allOf (toFields (schemaRow uint64Schema k)) ≡ given (fieldRow unnamed uint64 k)
+pub import-row : (k : ℕ) → allOf (toFields false (schemaRow uint64Schema k)) ≡ given (fieldRow unnamed uint64 k)
 unfolding rows
 import-row zero = refl
 import-row (suc k) = rw (import-row k)
@@ -117,7 +117,7 @@ structSchema k = schema structNode (schemaRow uint64Schema k) absent
 abbrev structField : ℕ → Field
 structField k = record { info = unnamed; type = grouped struct (fieldRow unnamed uint64 k) }
 
-pub import-struct : (k : ℕ) → toField (structSchema k) ≡ given (structField k)
+pub import-struct : (k : ℕ) → toField false (structSchema k) ≡ given (structField k)
 unfolding rows
 import-struct k = rw (import-row k)
 
@@ -152,14 +152,14 @@ abbrev extended : ArrowDataType
 extended = extension [] (some []) (scalar (leaf Kind.Int128 0))
 
 abbrev extendedSchema : Schema
-extendedSchema = schema (exportedNode paired (some ([], some [])) (ascii "_pli128") 0) end absent
+extendedSchema = schema (exportedNode false paired (some ([], some [])) (ascii "_pli128") 0) end absent
 
 pub exported-from : (k : ℕ) → fieldsSize (fieldRow paired extended k) ≡ 37 * k
 unfolding decimal
 exported-from zero = refl
 exported-from (suc k) = omega (arith, exported-from k)
 
-pub export-row : (k : ℕ) → schemaChildren (fieldRow paired extended k) ≡ given (schemaRow extendedSchema k)
+pub export-row : (k : ℕ) → schemaChildren false (fieldRow paired extended k) ≡ given (schemaRow extendedSchema k)
 unfolding rows
 export-row zero = refl
 export-row (suc k) = rw (export-row k)
@@ -174,12 +174,12 @@ abbrev unionField : ℕ → Field
 unionField k = record { info = unnamed; type = grouped (union true none) (fieldRow paired extended k) }
 
 abbrev unionNode : ℕ → Node
-unionNode k = exportedNode unnamed none (ascii "+us:" ++ ids k) 0
+unionNode k = exportedNode false unnamed none (ascii "+us:" ++ ids k) 0
 
 abbrev unionSchema : ℕ → Schema
 unionSchema k = schema (unionNode k) (schemaRow extendedSchema k) absent
 
-pub export-union : (k : ℕ) → schemaNew (unionField (suc k)) ≡ given (unionSchema (suc k))
+pub export-union : (k : ℕ) → schemaNew false (unionField (suc k)) ≡ given (unionSchema (suc k))
 unfolding rows
 export-union k =
     rw (count-fields paired extended k, export-row k)

@@ -25,7 +25,8 @@ use Rattle.sheets.specs.Sheet.{sheetLimit, ended, writeSheet}
 use Rattle.sheets.specs.Field.{Width, bits128, bits32, bits64, bits256, Pair, Info, Scalar, leaf, timestamp, fixedSizeBinary, decimalType, Nesting, list, largeList, fixedSizeList, map, Grouping, struct, union, ArrowDataType, scalar, nested, grouped, dictionary, extension, Fields, nil, add, Field, countFields, fieldRule, upFrom}
 use Rattle.sheets.specs.FieldSheet.{Shape, ofScalar, ofNesting, ofGrouping, ofDictionary, ofExtension, columns, infoColumns, toNat, decimalKind, pairText, writeList, fieldLine, lineOf, typeLines, fieldsLines, fieldHeading, readFieldSheet, writeFieldSheet}
 use Rattle.sheets.specs.Format.{orEmpty}
-use Rattle.sheets.specs.Metadata.{writeText32, writePairs}
+use Rattle.sheets.specs.Metadata.{writePairs}
+use Rattle.sheets.proofs.MetadataLaws.{pairs-length}
 use Rattle.sheets.proofs.Tests.{and-right, never}
 use Rattle.sheets.proofs.NumberLaws.{decimal-lean, decimal-digits, value-decimal}
 use Rattle.sheets.proofs.SizeLaws.{hex-length}
@@ -157,15 +158,11 @@ abbrev pub pairsSize : List Pair → ℕ
 pairsSize [] = 0
 pairsSize (p ∷ ps) = 8 + length (p .0) + length (p .1) + pairsSize ps
 
-pub pairs-size : (ps : List Pair) → length (writePairs ps) ≡ pairsSize ps
-pairs-size [] = refl
-pairs-size (p ∷ ps) =
-    omega (
-      arith,
-      length-append (writeText32 (p .0)) (writeText32 (p .1) ++ writePairs ps),
-      length-append (writeText32 (p .1)) (writePairs ps),
-      pairs-size ps,
-    )
+module _ (big : Bool) where
+  pub pairs-size : (ps : List Pair) → length (writePairs big ps) ≡ pairsSize ps
+  pairs-size [] = refl
+  pairs-size (p ∷ ps) =
+      omega (arith, pairs-length big p ps, pairs-size ps)
 
 -- ── the columns of a field line
 

@@ -1,5 +1,6 @@
 -- How long an answer can be, told by the length of the sheet that is handed in, so that a caller knows before the call how long a buffer to lend.
 -- A room is a number of bytes; a quotient is rounded down. Assumes nothing.
+use mathlib.Core.Path.{_≡_}
 use mathlib.Core.Logic.{_≢_}
 use Prim.Native.Nat.{ℕ, _*_, _/_, _≤_}
 use lib.ListN.{length}
@@ -36,6 +37,10 @@ convertedRoom = 69
 -- the length that a call answers is at most the room; a refusal has length 0
 abbrev pub Fits : ℕ → Outcome → Type 0
 Fits room answer = answer .size ≤ room
+
+-- two calls that answer with one number and one length
+abbrev pub EquallyLong : Outcome → Outcome → Type 0
+EquallyLong a b = (a .number ≡ b .number) × (a .size ≡ b .size)
 
 -- if the room was lent, the call does not say that there is none: "16 the sheet is longer than the buffer"
 abbrev pub HasRoom : ℕ → Bytes → Outcome → Type 0

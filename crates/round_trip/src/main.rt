@@ -1,5 +1,6 @@
 // Reads a field sheet on standard input, exports it, imports that, makes its plain form and exports that, and prints `the same` if all came back as
-// demand 3 says; or which step refused, with its number, or which step differs.
+// demand 3 says; or which step refused, with its number, or which step differs: `round_trip [little|big]`, which is the order of the metadata's lengths.
+use endian_word::Asked;
 use libc::STDIN_FILENO;
 use libc::STDOUT_FILENO;
 use round_trips::RoundTrip;
@@ -30,6 +31,9 @@ fn print_trip(trip: RoundTrip) {
 }
 
 fn main() {
+    let Asked::Order(big) = endian_word::asked_order(b"round_trip") else {
+        return;
+    };
     // One byte more than a sheet may have, so that a longer input is known as such, however long it is.
     let mut sheet = io::large_buffer();
     let n = io::read_full(STDIN_FILENO, &mut sheet);
@@ -39,6 +43,7 @@ fn main() {
     let mut again = [0u8; ROOM];
     print_trip(round_trips::round_trip(
         &sheet[..n],
+        big,
         &mut exported,
         &mut imported,
         &mut plain,

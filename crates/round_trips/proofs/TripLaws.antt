@@ -11,9 +11,9 @@ use lib.Seq.{length-take-le, take-all}
 use borrow.Author.Tests.{ne-eqb, leb-true, leb-false}
 use Rattle.sheets.specs.Bytes.{Bytes, same}
 use Rattle.sheets.specs.Answer.{Answer}
-use Rattle.sheets.specs.Outcome.{Outcome, outcome, imported, exported, plained, importOutcome, exportOutcome, plainOutcome}
+use Rattle.sheets.specs.Outcome.{Outcome, outcome, imported, exported, importOutcomeIn, exportOutcomeIn, plainOutcome}
 use Rattle.sheets.specs.Demand3.{written}
-use Rattle.sheets.specs.RoundTrip.{Steps, Buffers, stepBuffers, cleared, roundTripNumber, tripSteps, tripAnswer, roundTripOutcome, sameExportsNumber, pairSteps, pairAnswer, sameExportsOutcome}
+use Rattle.sheets.specs.RoundTrip.{Steps, Buffers, stepBuffers, cleared, roundTripNumber, tripSteps, tripAnswer, roundTripOutcomeIn, sameExportsNumber, pairSteps, pairAnswer, sameExportsOutcome}
 use Rattle.sheets.proofs.OutcomeLaws.{refusal-empty, Cases, turnedBack, tooLong, answered, cases}
 use Rattle.sheets.proofs.RoundTripLaws.{after-refusal, after-answer}
 use Rattle.outcome.specs.declared.Answered.{Answered}
@@ -81,79 +81,79 @@ handed f n a' b b' x y o one within two = two ∙ ap (λ (q : Bytes). outcome (f
 
 -- ── the call, from its answer
 
-module _ (s : Bytes) (out : Buffers) where
-  trip-refused : (bs : Buffers) (r : RoundTrip) → tripAnswer (tripSteps s out) ≡ tripTold r → roundTripNumber (tripTold r) ≢ 0 → bs ≡ cleared out → tripOf r bs ≡ roundTripOutcome s out
+module _ (big : Bool) (s : Bytes) (out : Buffers) where
+  trip-refused : (bs : Buffers) (r : RoundTrip) → tripAnswer (tripSteps big s out) ≡ tripTold r → roundTripNumber (tripTold r) ≢ 0 → bs ≡ cleared out → tripOf r bs ≡ roundTripOutcomeIn big s out
   trip-refused bs r h k e =
-      let b = after-refusal (roundTripNumber (tripAnswer (tripSteps s out))) (tripSteps s out) out (λ z. k (sym (ap roundTripNumber h) ∙ z)) in
+      let b = after-refusal (roundTripNumber (tripAnswer (tripSteps big s out))) (tripSteps big s out) out (λ z. k (sym (ap roundTripNumber h) ∙ z)) in
       λ i. record { answer = sym h i; buffers = (e ∙ sym b) i }
 
-  trip-answered : (t : Steps) (r : RoundTrip) → tripSteps s out ≡ t → tripAnswer t ≡ tripTold r → roundTripNumber (tripTold r) ≡ 0 → tripOf r (stepBuffers t) ≡ roundTripOutcome s out
+  trip-answered : (t : Steps) (r : RoundTrip) → tripSteps big s out ≡ t → tripAnswer t ≡ tripTold r → roundTripNumber (tripTold r) ≡ 0 → tripOf r (stepBuffers t) ≡ roundTripOutcomeIn big s out
   trip-answered t r e h k =
       let a = ap tripAnswer e ∙ h in
-      let b = after-answer (roundTripNumber (tripAnswer (tripSteps s out))) (tripSteps s out) out (ap roundTripNumber a ∙ k) in
+      let b = after-answer (roundTripNumber (tripAnswer (tripSteps big s out))) (tripSteps big s out) out (ap roundTripNumber a ∙ k) in
       λ i. record { answer = sym a i; buffers = (ap stepBuffers (sym e) ∙ sym b) i }
 
-module _ (s t : Bytes) (out : Buffers) where
-  pair-refused : (bs : Buffers) (r : SameExports) → pairAnswer (pairSteps s t out) ≡ pairTold r → sameExportsNumber (pairTold r) ≢ 0 → bs ≡ cleared out → pairOf r bs ≡ sameExportsOutcome s t out
+module _ (big : Bool) (s t : Bytes) (out : Buffers) where
+  pair-refused : (bs : Buffers) (r : SameExports) → pairAnswer (pairSteps big s t out) ≡ pairTold r → sameExportsNumber (pairTold r) ≢ 0 → bs ≡ cleared out → pairOf r bs ≡ sameExportsOutcome big s t out
   pair-refused bs r h k e =
-      let b = after-refusal (sameExportsNumber (pairAnswer (pairSteps s t out))) (pairSteps s t out) out (λ z. k (sym (ap sameExportsNumber h) ∙ z)) in
+      let b = after-refusal (sameExportsNumber (pairAnswer (pairSteps big s t out))) (pairSteps big s t out) out (λ z. k (sym (ap sameExportsNumber h) ∙ z)) in
       λ i. record { answer = sym h i; buffers = (e ∙ sym b) i }
 
-  pair-answered : (u : Steps) (r : SameExports) → pairSteps s t out ≡ u → pairAnswer u ≡ pairTold r → sameExportsNumber (pairTold r) ≡ 0 → pairOf r (stepBuffers u) ≡ sameExportsOutcome s t out
+  pair-answered : (u : Steps) (r : SameExports) → pairSteps big s t out ≡ u → pairAnswer u ≡ pairTold r → sameExportsNumber (pairTold r) ≡ 0 → pairOf r (stepBuffers u) ≡ sameExportsOutcome big s t out
   pair-answered u r e h k =
       let a = ap pairAnswer e ∙ h in
-      let b = after-answer (sameExportsNumber (pairAnswer (pairSteps s t out))) (pairSteps s t out) out (ap sameExportsNumber a ∙ k) in
+      let b = after-answer (sameExportsNumber (pairAnswer (pairSteps big s t out))) (pairSteps big s t out) out (ap sameExportsNumber a ∙ k) in
       λ i. record { answer = sym a i; buffers = (ap stepBuffers (sym e) ∙ sym b) i }
 
 -- ── `round_trip`; a prime marks a buffer after its step, two primes one that was cleared later
 
-module _ (s a b c d a' b' : Bytes) where
+module _ (big : Bool) (s a b c d a' b' : Bytes) where
   abbrev lent : Buffers
   lent = four a b c d
 
   abbrev Done : RoundTrip → Buffers → Type 0
-  Done r bs = tripOf r bs ≡ roundTripOutcome s lent
+  Done r bs = tripOf r bs ≡ roundTripOutcomeIn big s lent
 
   abbrev Back : TwoSteps → Type 0
-  Back r = Told (exportOutcome s a) (importOutcome (written (exportOutcome s a)) b) a b a' b' r
+  Back r = Told (exportOutcomeIn big s a) (importOutcomeIn big (written (exportOutcomeIn big s a)) b) a b a' b' r
 
   pub export-out : (r : TwoSteps) → Back r → (n : ℕ) → r ≡ TwoSteps.FirstRefused n → (c' d' : Bytes) → Zeros c c' → Zeros d d' → Done (RoundTrip.ExportRefused n) (four a' b' c' d')
   export-out r h n e c' d' z y =
       let t : Back (TwoSteps.FirstRefused n) = subst Back e h in
-      trip-refused s lent (four a' b' c' d') (RoundTrip.ExportRefused n) (rw (t .0, ne-eqb n 0 (t .1))) (t .1) (λ i. record { first = t .2 i; second = t .3 i; third = z i; fourth = y i })
+      trip-refused big s lent (four a' b' c' d') (RoundTrip.ExportRefused n) (rw (t .0, ne-eqb n 0 (t .1))) (t .1) (λ i. record { first = t .2 i; second = t .3 i; third = z i; fourth = y i })
 
   pub import-out : (r : TwoSteps) → Back r → (n : ℕ) → r ≡ TwoSteps.SecondRefused n → (c' d' : Bytes) → Zeros c c' → Zeros d d' → Done (RoundTrip.ImportRefused n) (four a' b' c' d')
   import-out r h n e c' d' z y =
       let t : Back (TwoSteps.SecondRefused n) = subst Back e h in
-      trip-refused s lent (four a' b' c' d') (RoundTrip.ImportRefused n) (rw (t .0, t .1, ne-eqb n 0 (t .2))) (t .2) (λ i. record { first = t .3 i; second = t .4 i; third = z i; fourth = y i })
+      trip-refused big s lent (four a' b' c' d') (RoundTrip.ImportRefused n) (rw (t .0, t .1, ne-eqb n 0 (t .2))) (t .2) (λ i. record { first = t .3 i; second = t .4 i; third = z i; fourth = y i })
 
   module _ (r : TwoSteps) (h : Back r) (l m : ℕ) (e : r ≡ TwoSteps.Written l m) (c' d' : Bytes) where
     t : Back (TwoSteps.Written l m)
     t = subst Back e h
 
     abbrev Again : TwoSteps → Type 0
-    Again r = Told (plainOutcome s c) (exportOutcome (written (plainOutcome s c)) d) c d c' d' r
+    Again r = Told (plainOutcome s c) (exportOutcomeIn big (written (plainOutcome s c)) d) c d c' d' r
 
-    zero-1 : exportOutcome s a .number ≡ 0
+    zero-1 : exportOutcomeIn big s a .number ≡ 0
     zero-1 = number-of (t .0)
 
-    zero-2 : importOutcome (written (exportOutcome s a)) b .number ≡ 0
+    zero-2 : importOutcomeIn big (written (exportOutcomeIn big s a)) b .number ≡ 0
     zero-2 = number-of (t .1)
 
     module _ (a'' b'' : Bytes) (z : Zeros a' a'') (y : Zeros b' b'') where
       both-clear : Zeros a a'' × Zeros b b''
-      both-clear = (cleared-later (exported s) 0 l a a' (t .0) a'' z, cleared-later (imported (written (exportOutcome s a))) 0 m b b' (t .1) b'' y)
+      both-clear = (cleared-later (exported big s) 0 l a a' (t .0) a'' z, cleared-later (imported big (written (exportOutcomeIn big s a))) 0 m b b' (t .1) b'' y)
 
       pub plain-out : (q : TwoSteps) → Again q → (n : ℕ) → q ≡ TwoSteps.FirstRefused n → Done (RoundTrip.PlainRefused n) (four a'' b'' c' d')
       plain-out q k n f =
           let u : Again (TwoSteps.FirstRefused n) = subst Again f k in
-          trip-refused s lent (four a'' b'' c' d') (RoundTrip.PlainRefused n) (rw (zero-1, zero-2, u .0, ne-eqb n 0 (u .1))) (u .1)
+          trip-refused big s lent (four a'' b'' c' d') (RoundTrip.PlainRefused n) (rw (zero-1, zero-2, u .0, ne-eqb n 0 (u .1))) (u .1)
           (λ i. record { first = both-clear .0 i; second = both-clear .1 i; third = u .2 i; fourth = u .3 i })
 
       pub again-out : (q : TwoSteps) → Again q → (n : ℕ) → q ≡ TwoSteps.SecondRefused n → Done (RoundTrip.AgainRefused n) (four a'' b'' c' d')
       again-out q k n f =
           let u : Again (TwoSteps.SecondRefused n) = subst Again f k in
-          trip-refused s lent (four a'' b'' c' d') (RoundTrip.AgainRefused n) (rw (zero-1, zero-2, u .0, u .1, ne-eqb n 0 (u .2))) (u .2)
+          trip-refused big s lent (four a'' b'' c' d') (RoundTrip.AgainRefused n) (rw (zero-1, zero-2, u .0, u .1, ne-eqb n 0 (u .2))) (u .2)
           (λ i. record { first = both-clear .0 i; second = both-clear .1 i; third = u .3 i; fourth = u .4 i })
 
     module _ (v : TwoSteps) (k : Again v) (p q : ℕ) (f : v ≡ TwoSteps.Written p q) where
@@ -163,39 +163,39 @@ module _ (s a b c d a' b' : Bytes) where
       abbrev left : Steps
       left = record { first = outcomeOf 0 l a'; second = outcomeOf 0 m b'; third = outcomeOf 0 p c'; fourth = outcomeOf 0 q d' }
 
-      are : tripSteps s lent ≡ left
+      are : tripSteps big s lent ≡ left
       are = λ i. record { first = sym (t .0) i; second = sym (t .1) i; third = sym (u .0) i; fourth = sym (u .1) i }
 
       pub import-apart : same (take m b') (take p c') ≡ false → Done RoundTrip.ImportDiffers (four a' b' c' d')
-      import-apart i = trip-answered s lent left RoundTrip.ImportDiffers are (rw i) refl
+      import-apart i = trip-answered big s lent left RoundTrip.ImportDiffers are (rw i) refl
 
       pub again-apart : same (take m b') (take p c') ≡ true → same (take q d') (take l a') ≡ false → Done RoundTrip.AgainDiffers (four a' b' c' d')
-      again-apart i j = trip-answered s lent left RoundTrip.AgainDiffers are (rw (i, j)) refl
+      again-apart i j = trip-answered big s lent left RoundTrip.AgainDiffers are (rw (i, j)) refl
 
       pub all-alike : same (take m b') (take p c') ≡ true → same (take q d') (take l a') ≡ true → Done RoundTrip.AllSame (four a' b' c' d')
-      all-alike i j = trip-answered s lent left RoundTrip.AllSame are (rw (i, j)) refl
+      all-alike i j = trip-answered big s lent left RoundTrip.AllSame are (rw (i, j)) refl
 
 -- ── `same_exports`
 
-module _ (s t a b c d a' b' : Bytes) where
+module _ (big : Bool) (s t a b c d a' b' : Bytes) where
   abbrev handedIn : Buffers
   handedIn = four a b c d
 
   abbrev Compares : SameExports → Buffers → Type 0
-  Compares r bs = pairOf r bs ≡ sameExportsOutcome s t handedIn
+  Compares r bs = pairOf r bs ≡ sameExportsOutcome big s t handedIn
 
   abbrev Exports : TwoSteps → Type 0
-  Exports r = Told (exportOutcome s a) (exportOutcome t b) a b a' b' r
+  Exports r = Told (exportOutcomeIn big s a) (exportOutcomeIn big t b) a b a' b' r
 
   pub one-export-out : (r : TwoSteps) → Exports r → (n : ℕ) → r ≡ TwoSteps.FirstRefused n → (c' d' : Bytes) → Zeros c c' → Zeros d d' → Compares (SameExports.OneExportRefused n) (four a' b' c' d')
   one-export-out r h n e c' d' z y =
       let v : Exports (TwoSteps.FirstRefused n) = subst Exports e h in
-      pair-refused s t handedIn (four a' b' c' d') (SameExports.OneExportRefused n) (rw (v .0, ne-eqb n 0 (v .1))) (v .1) (λ i. record { first = v .2 i; second = v .3 i; third = z i; fourth = y i })
+      pair-refused big s t handedIn (four a' b' c' d') (SameExports.OneExportRefused n) (rw (v .0, ne-eqb n 0 (v .1))) (v .1) (λ i. record { first = v .2 i; second = v .3 i; third = z i; fourth = y i })
 
   pub other-export-out : (r : TwoSteps) → Exports r → (n : ℕ) → r ≡ TwoSteps.SecondRefused n → (c' d' : Bytes) → Zeros c c' → Zeros d d' → Compares (SameExports.OtherExportRefused n) (four a' b' c' d')
   other-export-out r h n e c' d' z y =
       let v : Exports (TwoSteps.SecondRefused n) = subst Exports e h in
-      pair-refused s t handedIn (four a' b' c' d') (SameExports.OtherExportRefused n) (rw (v .0, v .1, ne-eqb n 0 (v .2))) (v .2) (λ i. record { first = v .3 i; second = v .4 i; third = z i; fourth = y i })
+      pair-refused big s t handedIn (four a' b' c' d') (SameExports.OtherExportRefused n) (rw (v .0, v .1, ne-eqb n 0 (v .2))) (v .2) (λ i. record { first = v .3 i; second = v .4 i; third = z i; fourth = y i })
 
   module _ (r : TwoSteps) (h : Exports r) (l m : ℕ) (e : r ≡ TwoSteps.Written l m) (c' d' : Bytes) where
     v : Exports (TwoSteps.Written l m)
@@ -204,30 +204,30 @@ module _ (s t a b c d a' b' : Bytes) where
     abbrev Plains : TwoSteps → Type 0
     Plains r = Told (plainOutcome s c) (plainOutcome t d) c d c' d' r
 
-    first-zero : exportOutcome s a .number ≡ 0
+    first-zero : exportOutcomeIn big s a .number ≡ 0
     first-zero = number-of (v .0)
 
-    second-zero : exportOutcome t b .number ≡ 0
+    second-zero : exportOutcomeIn big t b .number ≡ 0
     second-zero = number-of (v .1)
 
     module _ (a'' b'' : Bytes) (z : Zeros a' a'') (y : Zeros b' b'') where
       exports-clear : Zeros a a'' × Zeros b b''
-      exports-clear = (cleared-later (exported s) 0 l a a' (v .0) a'' z, cleared-later (exported t) 0 m b b' (v .1) b'' y)
+      exports-clear = (cleared-later (exported big s) 0 l a a' (v .0) a'' z, cleared-later (exported big t) 0 m b b' (v .1) b'' y)
 
       pub one-plain-out : (q : TwoSteps) → Plains q → (n : ℕ) → q ≡ TwoSteps.FirstRefused n → Compares (SameExports.OnePlainRefused n) (four a'' b'' c' d')
       one-plain-out q k n f =
           let u : Plains (TwoSteps.FirstRefused n) = subst Plains f k in
-          pair-refused s t handedIn (four a'' b'' c' d') (SameExports.OnePlainRefused n) (rw (first-zero, second-zero, u .0, ne-eqb n 0 (u .1))) (u .1)
+          pair-refused big s t handedIn (four a'' b'' c' d') (SameExports.OnePlainRefused n) (rw (first-zero, second-zero, u .0, ne-eqb n 0 (u .1))) (u .1)
           (λ i. record { first = exports-clear .0 i; second = exports-clear .1 i; third = u .2 i; fourth = u .3 i })
 
       pub other-plain-out : (q : TwoSteps) → Plains q → (n : ℕ) → q ≡ TwoSteps.SecondRefused n → Compares (SameExports.OtherPlainRefused n) (four a'' b'' c' d')
       other-plain-out q k n f =
           let u : Plains (TwoSteps.SecondRefused n) = subst Plains f k in
-          pair-refused s t handedIn (four a'' b'' c' d') (SameExports.OtherPlainRefused n) (rw (first-zero, second-zero, u .0, u .1, ne-eqb n 0 (u .2))) (u .2)
+          pair-refused big s t handedIn (four a'' b'' c' d') (SameExports.OtherPlainRefused n) (rw (first-zero, second-zero, u .0, u .1, ne-eqb n 0 (u .2))) (u .2)
           (λ i. record { first = exports-clear .0 i; second = exports-clear .1 i; third = u .3 i; fourth = u .4 i })
 
     pub compared-out : (w : TwoSteps) → Plains w → (p q : ℕ) → w ≡ TwoSteps.Written p q → (x y : Bool) → x ≡ same (take l a') (take m b') → y ≡ same (take p c') (take q d') → Compares (SameExports.Compared x y) (four a' b' c' d')
     compared-out w k p q g x y i j =
         let u : Plains (TwoSteps.Written p q) = subst Plains g k in
-        pair-answered s t handedIn (record { first = outcomeOf 0 l a'; second = outcomeOf 0 m b'; third = outcomeOf 0 p c'; fourth = outcomeOf 0 q d' }) (SameExports.Compared x y)
+        pair-answered big s t handedIn (record { first = outcomeOf 0 l a'; second = outcomeOf 0 m b'; third = outcomeOf 0 p c'; fourth = outcomeOf 0 q d' }) (SameExports.Compared x y)
         (λ o. record { first = sym (v .0) o; second = sym (v .1) o; third = sym (u .0) o; fourth = sym (u .1) o }) (rw (i, j)) refl

@@ -1,11 +1,11 @@
 // Demand 3 as two calls: a field sheet goes out and back over four lent buffers, and what stands in them is compared; and two field sheets are
-// compared by their exports and their plain forms. The first step that is refused is the answer, and then every lent byte is zero.
+// compared by their exports and their plain forms; the metadata of all exports is big-endian (`big`) or not. The first step that is refused is the answer, and then every lent byte is zero.
 ghost use mathlib.Core.Path.{_≡_};
 ghost use lib.ListN.{length, replicate, take};
 ghost use Rattle.sheets.specs.Bytes.{same};
-ghost use Rattle.sheets.specs.Outcome.{importOutcome, exportOutcome, plainOutcome};
+ghost use Rattle.sheets.specs.Outcome.{importOutcomeIn, exportOutcomeIn, plainOutcome};
 ghost use Rattle.sheets.specs.Demand3.{written};
-ghost use Rattle.sheets.specs.RoundTrip.{roundTripOutcome, sameExportsOutcome};
+ghost use Rattle.sheets.specs.RoundTrip.{roundTripOutcomeIn, sameExportsOutcome};
 ghost use Rattle.outcome.specs.Answers.{outcomeOf};
 ghost use Rattle.round_trips.specs.Trips.{Told, four, tripOf, pairOf};
 
@@ -58,16 +58,16 @@ fn clear_both(a: &mut [u8], b: &mut [u8])
 }
 
 // The export of the sheet, and the import of what that wrote.
-fn out_and_back(sheet: &[u8], first: &mut [u8], second: &mut [u8]) -> TwoSteps
-    ensures { λ r. ⌜ Told (exportOutcome (now (sheet .entry)) (now (first .entry))) (importOutcome (written (exportOutcome (now (sheet .entry)) (now (first .entry)))) (now (second .entry))) (now (first .entry)) (now (second .entry)) (now (first .exit)) (now (second .exit)) r ⌝ }
+fn out_and_back(sheet: &[u8], big: bool, first: &mut [u8], second: &mut [u8]) -> TwoSteps
+    ensures { λ r. ⌜ Told (exportOutcomeIn big (now (sheet .entry)) (now (first .entry))) (importOutcomeIn big (written (exportOutcomeIn big (now (sheet .entry)) (now (first .entry)))) (now (second .entry))) (now (first .entry)) (now (second .entry)) (now (first .exit)) (now (second .exit)) r ⌝ }
 {
-    let x = field_calls::export(sheet, first);
+    let x = field_calls::export(sheet, big, first);
     if x.number != 0 {
         buffer::clear(second);
         return TwoSteps::FirstRefused(x.number);
     }
     let n = buffer::within(x.length, first.len());
-    let y = import_sheet::import(&first[..n], second);
+    let y = import_sheet::import(&first[..n], big, second);
     if y.number != 0 {
         buffer::clear(first);
         return TwoSteps::SecondRefused(y.number);
@@ -76,8 +76,8 @@ fn out_and_back(sheet: &[u8], first: &mut [u8], second: &mut [u8]) -> TwoSteps
 }
 
 // The plain form of the sheet, and the export of what that wrote.
-fn plain_and_out(sheet: &[u8], third: &mut [u8], fourth: &mut [u8]) -> TwoSteps
-    ensures { λ r. ⌜ Told (plainOutcome (now (sheet .entry)) (now (third .entry))) (exportOutcome (written (plainOutcome (now (sheet .entry)) (now (third .entry)))) (now (fourth .entry))) (now (third .entry)) (now (fourth .entry)) (now (third .exit)) (now (fourth .exit)) r ⌝ }
+fn plain_and_out(sheet: &[u8], big: bool, third: &mut [u8], fourth: &mut [u8]) -> TwoSteps
+    ensures { λ r. ⌜ Told (plainOutcome (now (sheet .entry)) (now (third .entry))) (exportOutcomeIn big (written (plainOutcome (now (sheet .entry)) (now (third .entry)))) (now (fourth .entry))) (now (third .entry)) (now (fourth .entry)) (now (third .exit)) (now (fourth .exit)) r ⌝ }
 {
     let p = field_calls::plain_form(sheet, third);
     if p.number != 0 {
@@ -85,7 +85,7 @@ fn plain_and_out(sheet: &[u8], third: &mut [u8], fourth: &mut [u8]) -> TwoSteps
         return TwoSteps::FirstRefused(p.number);
     }
     let n = buffer::within(p.length, third.len());
-    let z = field_calls::export(&third[..n], fourth);
+    let z = field_calls::export(&third[..n], big, fourth);
     if z.number != 0 {
         buffer::clear(third);
         return TwoSteps::SecondRefused(z.number);
@@ -96,14 +96,15 @@ fn plain_and_out(sheet: &[u8], third: &mut [u8], fourth: &mut [u8]) -> TwoSteps
 // The export of the sheet, the import of that, the plain form of the sheet, and the export of that, each in its buffer.
 pub fn round_trip(
     sheet: &[u8],
+    big: bool,
     first: &mut [u8],
     second: &mut [u8],
     third: &mut [u8],
     fourth: &mut [u8],
 ) -> RoundTrip
-    ensures { λ r. ⌜ tripOf r (four (now (first .exit)) (now (second .exit)) (now (third .exit)) (now (fourth .exit))) ≡ roundTripOutcome (now (sheet .entry)) (four (now (first .entry)) (now (second .entry)) (now (third .entry)) (now (fourth .entry))) ⌝ }
+    ensures { λ r. ⌜ tripOf r (four (now (first .exit)) (now (second .exit)) (now (third .exit)) (now (fourth .exit))) ≡ roundTripOutcomeIn big (now (sheet .entry)) (four (now (first .entry)) (now (second .entry)) (now (third .entry)) (now (fourth .entry))) ⌝ }
 {
-    match out_and_back(sheet, first, second) {
+    match out_and_back(sheet, big, first, second) {
         TwoSteps::FirstRefused(number) => {
             clear_both(third, fourth);
             RoundTrip::ExportRefused(number)
@@ -112,7 +113,7 @@ pub fn round_trip(
             clear_both(third, fourth);
             RoundTrip::ImportRefused(number)
         }
-        TwoSteps::Written(x, y) => match plain_and_out(sheet, third, fourth) {
+        TwoSteps::Written(x, y) => match plain_and_out(sheet, big, third, fourth) {
             TwoSteps::FirstRefused(number) => {
                 clear_both(first, second);
                 RoundTrip::PlainRefused(number)
@@ -135,15 +136,15 @@ pub fn round_trip(
 }
 
 // The exports of two sheets.
-fn exports(one: &[u8], other: &[u8], first: &mut [u8], second: &mut [u8]) -> TwoSteps
-    ensures { λ r. ⌜ Told (exportOutcome (now (one .entry)) (now (first .entry))) (exportOutcome (now (other .entry)) (now (second .entry))) (now (first .entry)) (now (second .entry)) (now (first .exit)) (now (second .exit)) r ⌝ }
+fn exports(one: &[u8], other: &[u8], big: bool, first: &mut [u8], second: &mut [u8]) -> TwoSteps
+    ensures { λ r. ⌜ Told (exportOutcomeIn big (now (one .entry)) (now (first .entry))) (exportOutcomeIn big (now (other .entry)) (now (second .entry))) (now (first .entry)) (now (second .entry)) (now (first .exit)) (now (second .exit)) r ⌝ }
 {
-    let x = field_calls::export(one, first);
+    let x = field_calls::export(one, big, first);
     if x.number != 0 {
         buffer::clear(second);
         return TwoSteps::FirstRefused(x.number);
     }
-    let y = field_calls::export(other, second);
+    let y = field_calls::export(other, big, second);
     if y.number != 0 {
         buffer::clear(first);
         return TwoSteps::SecondRefused(y.number);
@@ -172,14 +173,15 @@ fn plains(one: &[u8], other: &[u8], third: &mut [u8], fourth: &mut [u8]) -> TwoS
 pub fn same_exports(
     one: &[u8],
     other: &[u8],
+    big: bool,
     first: &mut [u8],
     second: &mut [u8],
     third: &mut [u8],
     fourth: &mut [u8],
 ) -> SameExports
-    ensures { λ r. ⌜ pairOf r (four (now (first .exit)) (now (second .exit)) (now (third .exit)) (now (fourth .exit))) ≡ sameExportsOutcome (now (one .entry)) (now (other .entry)) (four (now (first .entry)) (now (second .entry)) (now (third .entry)) (now (fourth .entry))) ⌝ }
+    ensures { λ r. ⌜ pairOf r (four (now (first .exit)) (now (second .exit)) (now (third .exit)) (now (fourth .exit))) ≡ sameExportsOutcome big (now (one .entry)) (now (other .entry)) (four (now (first .entry)) (now (second .entry)) (now (third .entry)) (now (fourth .entry))) ⌝ }
 {
-    match exports(one, other, first, second) {
+    match exports(one, other, big, first, second) {
         TwoSteps::FirstRefused(number) => {
             clear_both(third, fourth);
             SameExports::OneExportRefused(number)

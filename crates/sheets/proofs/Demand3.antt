@@ -1,8 +1,8 @@
--- Demand 3, proved. Export and import undo each other up to plain form on trees (RoundTrip, PlainLaws); sheets are read back as the trees they
+-- Demand 3, proved, once for both orders of the metadata. Export and import undo each other up to plain form on trees (RoundTrip, PlainLaws); sheets are read back as the trees they
 -- were written from (SchemaLaws, FieldSheetLaws); what export writes keeps the rules of a schema sheet and fits 32 levels (ExportLaws), and a
 -- sheet of 65,535 bytes holds no text that a 32-bit length would not count (SizeLaws). Assumes nothing.
 use mathlib.Core.Path.{_≡_, sym, _∙_, ap, subst}
-use mathlib.Core.Bool.{true}
+use mathlib.Core.Bool.{Bool, true}
 use Prim.Native.Nat.{_≤_}
 use native.Mathlib.Omega.{arith}
 use lib.Dec.{leb}
@@ -30,79 +30,80 @@ use Rattle.sheets.proofs.SizeLaws.{sheet-short, field-few}
 
 -- ── what export answered, as a schema
 
-record Export (e : Exportable) : Type 0 where
-  schema : Schema
-  isExported : schemaNew (e .field) ≡ given schema
-  isWritten : writeSchemaSheet schema ≡ exportOf e
+module _ (big : Bool) where
+  record Export (e : Exportable big) : Type 0 where
+    schema : Schema
+    isExported : schemaNew big (e .field) ≡ given schema
+    isWritten : writeSchemaSheet schema ≡ exportOf e
 
-schema-of : (b x : Bytes) (f : Field) → readFieldSheet b ≡ given f → exported b ≡ given x → (s : Schema) × (schemaNew f ≡ given s) × (writeSchemaSheet s ≡ x)
-unfolding exported
-schema-of b x f r e =
-    let g : (schemaNew f >>= λ s. given (writeSchemaSheet s)) ≡ given x = rw r at e in
-    let s = first-gave (schemaNew f) (λ s. given (writeSchemaSheet s)) x g in
-    (s .0, s .1, cc)
+  schema-of : (b x : Bytes) (f : Field) → readFieldSheet b ≡ given f → exported big b ≡ given x → (s : Schema) × (schemaNew big f ≡ given s) × (writeSchemaSheet s ≡ x)
+  unfolding exported
+  schema-of b x f r e =
+      let g : (schemaNew big f >>= λ s. given (writeSchemaSheet s)) ≡ given x = rw r at e in
+      let s = first-gave (schemaNew big f) (λ s. given (writeSchemaSheet s)) x g in
+      (s .0, s .1, cc)
 
-export-of : (e : Exportable) → Export e
-export-of e =
-    let z = zero-answers (exported (e .sheet)) (e .buffer) (e .answersZero) in
-    let s = schema-of (e .sheet) (z .0) (e .field) (e .isField) (z .1) in
-    let x : exportOf e ≡ z .0 = ap written (z .3) ∙ written-success (z .0) (e .buffer) in
-    record { schema = s .0; isExported = s .1; isWritten = s .2 ∙ sym x }
+  export-of : (e : Exportable big) → Export e
+  export-of e =
+      let z = zero-answers (exported big (e .sheet)) (e .buffer) (e .answersZero) in
+      let s = schema-of (e .sheet) (z .0) (e .field) (e .isField) (z .1) in
+      let x : exportOf e ≡ z .0 = ap written (z .3) ∙ written-success (z .0) (e .buffer) in
+      record { schema = s .0; isExported = s .1; isWritten = s .2 ∙ sym x }
 
-rule-of : (e : Exportable) → Meets (fieldRule (e .field))
-rule-of e = field-read (e .sheet) (e .field) (e .isField) .0
+  rule-of : (e : Exportable big) → Meets (fieldRule (e .field))
+  rule-of e = field-read (e .sheet) (e .field) (e .isField) .0
 
-levels-of : (e : Exportable) → fieldLevels (e .field) ≤ 32
-levels-of e = leb-true (fieldLevels (e .field)) 32 (field-read (e .sheet) (e .field) (e .isField) .1)
+  levels-of : (e : Exportable big) → fieldLevels (e .field) ≤ 32
+  levels-of e = leb-true (fieldLevels (e .field)) 32 (field-read (e .sheet) (e .field) (e .isField) .1)
 
--- its plain form keeps the rules
-plain-of : (e : Exportable) → Meets (fieldRule (plain (e .field)))
-plain-of e = plain-rule (e .field) (field-few (e .field) (field-sheet-short (e .sheet) (e .field) (e .isField))) (rule-of e)
+  -- its plain form keeps the rules
+  plain-of : (e : Exportable big) → Meets (fieldRule (plain (e .field)))
+  plain-of e = plain-rule (e .field) (field-few (e .field) (field-sheet-short (e .sheet) (e .field) (e .isField))) (rule-of e)
 
--- ── the three parts, on sheets
+  -- ── the three parts, on sheets
 
-import-schema : (f : Field) (s : Schema) → Meets (fieldRule f) → fieldLevels f ≤ 32 → Meets (fieldFree f) → schemaNew f ≡ given s → IsShort (writeSchemaSheet s) → imported (writeSchemaSheet s) ≡ given (writeFieldSheet (plain f))
-unfolding imported
-import-schema f s h l k g short =
-    let a = export-good f s h g in
-    let fit : leb (length (writeSchemaSheet s)) 65535 ≡ true = le-leb (length (writeSchemaSheet s)) 65535 short in
-    rw (read-schema-sheet s (a .1) (a .0) (le-leb (schemaLevels s) 32 (omega (arith, a .2))) fit, import-export f s h k g (sheet-short s fit))
+  import-schema : (f : Field) (s : Schema) → Meets (fieldRule f) → fieldLevels f ≤ 32 → Meets (fieldFree f) → schemaNew big f ≡ given s → IsShort (writeSchemaSheet s) → imported big (writeSchemaSheet s) ≡ given (writeFieldSheet (plain f))
+  unfolding imported
+  import-schema f s h l k g short =
+      let a = export-good big f s h g in
+      let fit : leb (length (writeSchemaSheet s)) 65535 ≡ true = le-leb (length (writeSchemaSheet s)) 65535 short in
+      rw (read-schema-sheet s (a .1) (a .0) (le-leb (schemaLevels s) 32 (omega (arith, a .2))) fit, import-export big f s h k g (sheet-short s fit))
 
-pub comes-back : (e : Exportable) → imported (exportOf e) ≡ given (plainFormOf e)
-comes-back e =
-    let x = export-of e in
-    subst (λ y. IsShort y → imported y ≡ given (plainFormOf e)) (x .isWritten)
-    (import-schema (e .field) (x .schema) (rule-of e) (levels-of e) (free (e .field) (e .noReservedKey) (e .noWideIndex)) (x .isExported)) (e .shortExport)
+  pub comes-back : (e : Exportable big) → imported big (exportOf e) ≡ given (plainFormOf e)
+  comes-back e =
+      let x = export-of e in
+      subst (λ y. IsShort y → imported big y ≡ given (plainFormOf e)) (x .isWritten)
+      (import-schema (e .field) (x .schema) (rule-of e) (levels-of e) (free (e .field) (e .noReservedKey) (e .noWideIndex)) (x .isExported)) (e .shortExport)
 
-pub goes-again : (e : Exportable) → IsShort (plainFormOf e) → exported (plainFormOf e) ≡ given (exportOf e)
-unfolding exported
-goes-again e short =
-    let f = e .field in
-    let x = export-of e in
-    let levels : leb (fieldLevels (plain f)) 32 ≡ true = le-leb (fieldLevels (plain f)) 32 (omega (arith, plain-levels f, levels-of e)) in
-    rw (read-field-sheet (plain f) (plain-of e) levels (le-leb (length (plainFormOf e)) 65535 short), export-plain f, x .isExported) (ap given (x .isWritten))
+  pub goes-again : (e : Exportable big) → IsShort (plainFormOf e) → exported big (plainFormOf e) ≡ given (exportOf e)
+  unfolding exported
+  goes-again e short =
+      let f = e .field in
+      let x = export-of e in
+      let levels : leb (fieldLevels (plain f)) 32 ≡ true = le-leb (fieldLevels (plain f)) 32 (omega (arith, plain-levels f, levels-of e)) in
+      rw (read-field-sheet (plain f) (plain-of e) levels (le-leb (length (plainFormOf e)) 65535 short), export-plain big f, x .isExported) (ap given (x .isWritten))
 
-pub same-plain : (d e : Exportable) → exportOf d ≡ exportOf e → plainFormOf d ≡ plainFormOf e
-same-plain d e p =
-    let both : _≡_ {A = Answer Bytes} (given (plainFormOf d)) (given (plainFormOf e)) = sym (comes-back d) ∙ ap imported p ∙ comes-back e in
-    cc
+  pub same-plain : (d e : Exportable big) → exportOf d ≡ exportOf e → plainFormOf d ≡ plainFormOf e
+  same-plain d e p =
+      let both : _≡_ {A = Answer Bytes} (given (plainFormOf d)) (given (plainFormOf e)) = sym (comes-back d) ∙ ap (imported big) p ∙ comes-back e in
+      cc
 
-pub same-export : (d e : Exportable) → plainFormOf d ≡ plainFormOf e → exportOf d ≡ exportOf e
-same-export d e p =
-    let x = export-of d in
-    let y = export-of e in
-    let q : plain (d .field) ≡ plain (e .field) = sheet-field (plain (d .field)) (plain (e .field)) (plain-of d) (plain-of e) p in
-    let both : _≡_ {A = Answer Schema} (given (x .schema)) (given (y .schema)) =
-    sym (x .isExported) ∙ sym (export-plain (d .field)) ∙ ap schemaNew q ∙ export-plain (e .field) ∙ y .isExported in
-    let s : x .schema ≡ y .schema = cc in
-    sym (x .isWritten) ∙ ap writeSchemaSheet s ∙ y .isWritten
+  pub same-export : (d e : Exportable big) → plainFormOf d ≡ plainFormOf e → exportOf d ≡ exportOf e
+  same-export d e p =
+      let x = export-of d in
+      let y = export-of e in
+      let q : plain (d .field) ≡ plain (e .field) = sheet-field (plain (d .field)) (plain (e .field)) (plain-of d) (plain-of e) p in
+      let both : _≡_ {A = Answer Schema} (given (x .schema)) (given (y .schema)) =
+      sym (x .isExported) ∙ sym (export-plain big (d .field)) ∙ ap (schemaNew big) q ∙ export-plain big (e .field) ∙ y .isExported in
+      let s : x .schema ≡ y .schema = cc in
+      sym (x .isWritten) ∙ ap writeSchemaSheet s ∙ y .isWritten
 
 -- ── the demand
 
-pub demand3 : Demand3
-demand3 =
+pub demand3 : (big : Bool) → Demand3 big
+demand3 big =
     record {
-      importsBack = λ e out room. ap (λ (a : Answer Bytes). outcome a out) (comes-back e) ∙ fits (plainFormOf e) out room;
-      exportsAgain = λ e short out room. ap (λ (a : Answer Bytes). outcome a out) (goes-again e short) ∙ fits (exportOf e) out room;
-      sameExports = λ d e. (same-plain d e, same-export d e);
+      importsBack = λ e out room. ap (λ (a : Answer Bytes). outcome a out) (comes-back big e) ∙ fits (plainFormOf e) out room;
+      exportsAgain = λ e short out room. ap (λ (a : Answer Bytes). outcome a out) (goes-again big e short) ∙ fits (exportOf e) out room;
+      sameExports = λ d e. (same-plain big d e, same-export big d e);
     }

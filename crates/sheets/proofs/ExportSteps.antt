@@ -30,126 +30,127 @@ test-same : {A B C : Type 0} (r : Refusal) (b : Bool) (x : A) (y : B) (f : A →
 test-same r true x y f g h = h
 test-same r false x y f g h = refl
 
--- a node, after what is below it
-own-written : (i : Info) (e : Option Extension) (f : Bytes) (x : ℕ) (cs : Schemas) (d : Dictionary) (ls : List Bytes) → childrenLines cs ++ dictionaryLines d ≡ ls
-    → (schemaOwn i e f x (countSchemas cs) (countDictionary d) >>= λ a. given (a ++ ls)) ≡ (schemaNode i e f x cs d >>= λ s. given (schemaLines s))
-own-written i e f x cs d ls h =
-    subst (λ l. (schemaOwn i e f x (countSchemas cs) (countDictionary d) >>= λ a. given (a ++ l)) ≡ (schemaNode i e f x cs d >>= λ s. given (schemaLines s))) h
-    (test-same zeroByte (passes (lacks 0 (i .name) and lacks 0 f)) _ _ (λ a. given (a ++ (childrenLines cs ++ dictionaryLines d))) (λ s. given (schemaLines s)) refl)
+module _ (big : Bool) where
+  -- a node, after what is below it
+  own-written : (i : Info) (e : Option Extension) (f : Bytes) (x : ℕ) (cs : Schemas) (d : Dictionary) (ls : List Bytes) → childrenLines cs ++ dictionaryLines d ≡ ls
+      → (schemaOwn big i e f x (countSchemas cs) (countDictionary d) >>= λ a. given (a ++ ls)) ≡ (schemaNode big i e f x cs d >>= λ s. given (schemaLines s))
+  own-written i e f x cs d ls h =
+      subst (λ l. (schemaOwn big i e f x (countSchemas cs) (countDictionary d) >>= λ a. given (a ++ l)) ≡ (schemaNode big i e f x cs d >>= λ s. given (schemaLines s))) h
+      (test-same zeroByte (passes (lacks 0 (i .name) and lacks 0 f)) _ _ (λ a. given (a ++ (childrenLines cs ++ dictionaryLines d))) (λ s. given (schemaLines s)) refl)
 
--- the line of a scalar, or of an index type alone
-alone : (i : Info) (e : Option Extension) (visited : Option Bearer → Answer (List Bytes)) (ls : List Bytes) (a : Answer Bytes)
-    → lineWritten (a >>= λ f. given (writes (schemaOwn i e f 0 0 0) skip)) visited ls ≡ ((a >>= λ f. schemaNode i e f 0 end absent) >>= λ s. given (schemaLines s))
-alone i e visited ls (refused r) = refl
-alone i e visited ls (given f) = own-written i e f 0 end absent [] refl
+  -- the line of a scalar, or of an index type alone
+  alone : (i : Info) (e : Option Extension) (visited : Option Bearer → Answer (List Bytes)) (ls : List Bytes) (a : Answer Bytes)
+      → lineWritten (a >>= λ f. given (writes (schemaOwn big i e f 0 0 0) skip)) visited ls ≡ ((a >>= λ f. schemaNode big i e f 0 end absent) >>= λ s. given (schemaLines s))
+  alone i e visited ls (refused r) = refl
+  alone i e visited ls (given f) = own-written i e f 0 end absent [] refl
 
--- a line over one child, and over a dictionary's values
-over-child : (i : Info) (e : Option Extension) (f : Bytes) (x : ℕ) (a : Answer Schema)
-    → ((a >>= λ s. given (schemaLines s)) >>= λ b. schemaOwn i e f x 1 0 >>= λ o. given (o ++ b)) ≡ ((a >>= λ c. schemaNode i e f x (c & end) absent) >>= λ s. given (schemaLines s))
-over-child i e f x (refused r) = refl
-over-child i e f x (given c) = own-written i e f x (c & end) absent (schemaLines c) (append-nil (schemaLines c ++ []) ∙ append-nil (schemaLines c))
+  -- a line over one child, and over a dictionary's values
+  over-child : (i : Info) (e : Option Extension) (f : Bytes) (x : ℕ) (a : Answer Schema)
+      → ((a >>= λ s. given (schemaLines s)) >>= λ b. schemaOwn big i e f x 1 0 >>= λ o. given (o ++ b)) ≡ ((a >>= λ c. schemaNode big i e f x (c & end) absent) >>= λ s. given (schemaLines s))
+  over-child i e f x (refused r) = refl
+  over-child i e f x (given c) = own-written i e f x (c & end) absent (schemaLines c) (append-nil (schemaLines c ++ []) ∙ append-nil (schemaLines c))
 
-over-values : (i : Info) (f : Bytes) (x : ℕ) (a : Answer Schema)
-    → ((a >>= λ s. given (schemaLines s)) >>= λ b. schemaOwn i none f x 0 1 >>= λ o. given (o ++ b)) ≡ ((a >>= λ d. schemaNode i none f x end (present d)) >>= λ s. given (schemaLines s))
-over-values i f x (refused r) = refl
-over-values i f x (given d) = own-written i none f x end (present d) (schemaLines d) refl
+  over-values : (i : Info) (f : Bytes) (x : ℕ) (a : Answer Schema)
+      → ((a >>= λ s. given (schemaLines s)) >>= λ b. schemaOwn big i none f x 0 1 >>= λ o. given (o ++ b)) ≡ ((a >>= λ d. schemaNode big i none f x end (present d)) >>= λ s. given (schemaLines s))
+  over-values i f x (refused r) = refl
+  over-values i f x (given d) = own-written i none f x end (present d) (schemaLines d) refl
 
-over-children : (i : Info) (e : Option Extension) (f : Bytes) (n : ℕ) (cs : Schemas) → countSchemas cs ≡ n
-    → (schemaNode i e f 0 cs absent >>= λ s. given (schemaLines s)) ≡ (schemaOwn i e f 0 n 0 >>= λ o. given (o ++ childrenLines cs))
-over-children i e f n cs h = subst (λ m. (schemaNode i e f 0 cs absent >>= λ s. given (schemaLines s)) ≡ (schemaOwn i e f 0 m 0 >>= λ o. given (o ++ childrenLines cs))) h
-    (sym (own-written i e f 0 cs absent (childrenLines cs) (append-nil (childrenLines cs))))
+  over-children : (i : Info) (e : Option Extension) (f : Bytes) (n : ℕ) (cs : Schemas) → countSchemas cs ≡ n
+      → (schemaNode big i e f 0 cs absent >>= λ s. given (schemaLines s)) ≡ (schemaOwn big i e f 0 n 0 >>= λ o. given (o ++ childrenLines cs))
+  over-children i e f n cs h = subst (λ m. (schemaNode big i e f 0 cs absent >>= λ s. given (schemaLines s)) ≡ (schemaOwn big i e f 0 m 0 >>= λ o. given (o ++ childrenLines cs))) h
+      (sym (own-written i e f 0 cs absent (childrenLines cs) (append-nil (childrenLines cs))))
 
-mutual
-  -- In every state, at a line with any columns: the lines of the schema, or its refusal.
-  pub type-exported : (t : ArrowDataType) (i : Option Info) (u : Option Bearer) → typeWalk schemaStep t i u ≡ schemaWritten t (infoOf u i) (extensionOf u)
-  type-exported (scalar s) i u = alone (infoOf u i) (extensionOf u) (λ τ. given []) [] (scalarFormat s)
-  type-exported (nested n j t) i u =
-      ap (λ (m : Answer (List Bytes)). m >>= λ b. schemaOwn (infoOf u i) (extensionOf u) (nestingFormat n) (sortedFlag n) 1 0 >>= λ o. given (o ++ b)) (type-exported t (some j) none)
-      ∙ over-child (infoOf u i) (extensionOf u) (nestingFormat n) (sortedFlag n) (schemaNewOf t j none)
-  type-exported (grouped g fs) i u = format (groupingFormat g (countFields fs)) (λ h k same. fields-exported fs h k same)
+  mutual
+    -- In every state, at a line with any columns: the lines of the schema, or its refusal.
+    pub type-exported : (t : ArrowDataType) (i : Option Info) (u : Option Bearer) → typeWalk (schemaStep big) t i u ≡ schemaWritten big t (infoOf u i) (extensionOf u)
+    type-exported (scalar s) i u = alone (infoOf u i) (extensionOf u) (λ τ. given []) [] (scalarFormat s)
+    type-exported (nested n j t) i u =
+        ap (λ (m : Answer (List Bytes)). m >>= λ b. schemaOwn big (infoOf u i) (extensionOf u) (nestingFormat n) (sortedFlag n) 1 0 >>= λ o. given (o ++ b)) (type-exported t (some j) none)
+        ∙ over-child (infoOf u i) (extensionOf u) (nestingFormat n) (sortedFlag n) (schemaNewOf big t j none)
+    type-exported (grouped g fs) i u = format (groupingFormat g (countFields fs)) (λ h k same. fields-exported fs h k same)
+      where
+        format : (a : Answer Bytes) → ((h : Schemas → Answer (List Bytes)) (k : List Bytes → Answer (List Bytes)) → ((cs : Schemas) → countSchemas cs ≡ countFields fs → h cs ≡ k (childrenLines cs)) → (fieldsWalk (schemaStep big) fs none >>= k) ≡ (schemaChildren big fs >>= h))
+            → lineWritten (a >>= λ f. given (writes (schemaOwn big (infoOf u i) (extensionOf u) f 0 (countFields fs) 0) (visit none))) (λ τ. fieldsWalk (schemaStep big) fs τ) (fieldsLines fs)
+            ≡ ((a >>= λ f. schemaChildren big fs >>= λ cs. schemaNode big (infoOf u i) (extensionOf u) f 0 cs absent) >>= λ s. given (schemaLines s))
+        format (refused r) next = refl
+        format (given f) next =
+            next (λ cs. schemaNode big (infoOf u i) (extensionOf u) f 0 cs absent >>= λ s. given (schemaLines s)) (λ b. schemaOwn big (infoOf u i) (extensionOf u) f 0 (countFields fs) 0 >>= λ o. given (o ++ b))
+            (λ cs e. over-children (infoOf u i) (extensionOf u) f (countFields fs) cs e)
+            ∙ sym (chained (schemaChildren big fs) (λ cs. schemaNode big (infoOf u i) (extensionOf u) f 0 cs absent) (λ s. given (schemaLines s)))
+    type-exported (dictionary ix ordered t) i none = format (indexFormat ix) (type-exported t none none)
+      where
+        format : (a : Answer Bytes) → typeWalk (schemaStep big) t none none ≡ schemaWritten big t valuesInfo none
+            → lineWritten (a >>= λ f. given (writes (schemaOwn big (orValues i) none f (flag ordered ORDERED) 0 1) (visit none))) (λ τ. typeWalk (schemaStep big) t none τ) (typeLines t none)
+            ≡ ((a >>= λ f. schemaNewOf big t valuesInfo none >>= λ d. schemaNode big (orValues i) none f (flag ordered ORDERED) end (present d)) >>= λ s. given (schemaLines s))
+        format (refused r) next = refl
+        format (given f) next =
+            ap (λ (m : Answer (List Bytes)). m >>= λ b. schemaOwn big (orValues i) none f (flag ordered ORDERED) 0 1 >>= λ o. given (o ++ b)) next
+            ∙ over-values (orValues i) f (flag ordered ORDERED) (schemaNewOf big t valuesInfo none)
+    type-exported (dictionary ix ordered t) i (some w) = alone (w .info) (some (w .extension)) (λ τ. typeWalk (schemaStep big) t none τ) (typeLines t none) (indexFormat ix)
+    type-exported (extension n m t) i u = nothing-own (typeWalk (schemaStep big) t none (some (record { info = infoOf u i; extension = outermost (extensionOf u) (n, m) })))
+        ∙ type-exported t none (some (record { info = infoOf u i; extension = outermost (extensionOf u) (n, m) }))
+
+    fields-exported : (fs : Fields) (h : Schemas → Answer (List Bytes)) (k : List Bytes → Answer (List Bytes)) → ((cs : Schemas) → countSchemas cs ≡ countFields fs → h cs ≡ k (childrenLines cs))
+        → (fieldsWalk (schemaStep big) fs none >>= k) ≡ (schemaChildren big fs >>= h)
+    fields-exported nil h k same = sym (same end refl)
+    fields-exported (add i t fs) h k same =
+        ap (λ (m : Answer (List Bytes)). (m >>= λ a. fieldsWalk (schemaStep big) fs none >>= λ b. given (a ++ b)) >>= k) (type-exported t (some i) none)
+        ∙ first (schemaNewOf big t i none) (λ h k same. fields-exported fs h k same)
+      where
+        first : (a : Answer Schema) → ((h : Schemas → Answer (List Bytes)) (k : List Bytes → Answer (List Bytes)) → ((cs : Schemas) → countSchemas cs ≡ countFields fs → h cs ≡ k (childrenLines cs)) → (fieldsWalk (schemaStep big) fs none >>= k) ≡ (schemaChildren big fs >>= h))
+            → (((a >>= λ s. given (schemaLines s)) >>= λ x. fieldsWalk (schemaStep big) fs none >>= λ b. given (x ++ b)) >>= k) ≡ ((a >>= λ c. schemaChildren big fs >>= λ cs. given (c & cs)) >>= h)
+        first (refused r) next = refl
+        first (given c) next =
+            chained (fieldsWalk (schemaStep big) fs none) (λ b. given (schemaLines c ++ b)) k
+            ∙ next (λ cs. h (c & cs)) (λ b. k (schemaLines c ++ b)) (λ cs e. same (c & cs) (ap suc e))
+            ∙ sym (chained (schemaChildren big fs) (λ cs. given (c & cs)) h)
+
+  -- the lines of a type's fields
+  pub children-exported : (fs : Fields) → fieldsWalk (schemaStep big) fs none ≡ childrenWritten big fs
+  children-exported fs = sym (right (fieldsWalk (schemaStep big) fs none)) ∙ fields-exported fs (λ cs. given (childrenLines cs)) (λ b. given b) (λ cs e. refl)
     where
-      format : (a : Answer Bytes) → ((h : Schemas → Answer (List Bytes)) (k : List Bytes → Answer (List Bytes)) → ((cs : Schemas) → countSchemas cs ≡ countFields fs → h cs ≡ k (childrenLines cs)) → (fieldsWalk schemaStep fs none >>= k) ≡ (schemaChildren fs >>= h))
-          → lineWritten (a >>= λ f. given (writes (schemaOwn (infoOf u i) (extensionOf u) f 0 (countFields fs) 0) (visit none))) (λ τ. fieldsWalk schemaStep fs τ) (fieldsLines fs)
-          ≡ ((a >>= λ f. schemaChildren fs >>= λ cs. schemaNode (infoOf u i) (extensionOf u) f 0 cs absent) >>= λ s. given (schemaLines s))
-      format (refused r) next = refl
-      format (given f) next =
-          next (λ cs. schemaNode (infoOf u i) (extensionOf u) f 0 cs absent >>= λ s. given (schemaLines s)) (λ b. schemaOwn (infoOf u i) (extensionOf u) f 0 (countFields fs) 0 >>= λ o. given (o ++ b))
-          (λ cs e. over-children (infoOf u i) (extensionOf u) f (countFields fs) cs e)
-          ∙ sym (chained (schemaChildren fs) (λ cs. schemaNode (infoOf u i) (extensionOf u) f 0 cs absent) (λ s. given (schemaLines s)))
-  type-exported (dictionary ix ordered t) i none = format (indexFormat ix) (type-exported t none none)
-    where
-      format : (a : Answer Bytes) → typeWalk schemaStep t none none ≡ schemaWritten t valuesInfo none
-          → lineWritten (a >>= λ f. given (writes (schemaOwn (orValues i) none f (flag ordered ORDERED) 0 1) (visit none))) (λ τ. typeWalk schemaStep t none τ) (typeLines t none)
-          ≡ ((a >>= λ f. schemaNewOf t valuesInfo none >>= λ d. schemaNode (orValues i) none f (flag ordered ORDERED) end (present d)) >>= λ s. given (schemaLines s))
-      format (refused r) next = refl
-      format (given f) next =
-          ap (λ (m : Answer (List Bytes)). m >>= λ b. schemaOwn (orValues i) none f (flag ordered ORDERED) 0 1 >>= λ o. given (o ++ b)) next
-          ∙ over-values (orValues i) f (flag ordered ORDERED) (schemaNewOf t valuesInfo none)
-  type-exported (dictionary ix ordered t) i (some w) = alone (w .info) (some (w .extension)) (λ τ. typeWalk schemaStep t none τ) (typeLines t none) (indexFormat ix)
-  type-exported (extension n m t) i u = nothing-own (typeWalk schemaStep t none (some (record { info = infoOf u i; extension = outermost (extensionOf u) (n, m) })))
-      ∙ type-exported t none (some (record { info = infoOf u i; extension = outermost (extensionOf u) (n, m) }))
+      right : (a : Answer (List Bytes)) → (a >>= λ b. given b) ≡ a
+      right (refused r) = refl
+      right (given b) = refl
 
-  fields-exported : (fs : Fields) (h : Schemas → Answer (List Bytes)) (k : List Bytes → Answer (List Bytes)) → ((cs : Schemas) → countSchemas cs ≡ countFields fs → h cs ≡ k (childrenLines cs))
-      → (fieldsWalk schemaStep fs none >>= k) ≡ (schemaChildren fs >>= h)
-  fields-exported nil h k same = sym (same end refl)
-  fields-exported (add i t fs) h k same =
-      ap (λ (m : Answer (List Bytes)). (m >>= λ a. fieldsWalk schemaStep fs none >>= λ b. given (a ++ b)) >>= k) (type-exported t (some i) none)
-      ∙ first (schemaNewOf t i none) (λ h k same. fields-exported fs h k same)
-    where
-      first : (a : Answer Schema) → ((h : Schemas → Answer (List Bytes)) (k : List Bytes → Answer (List Bytes)) → ((cs : Schemas) → countSchemas cs ≡ countFields fs → h cs ≡ k (childrenLines cs)) → (fieldsWalk schemaStep fs none >>= k) ≡ (schemaChildren fs >>= h))
-          → (((a >>= λ s. given (schemaLines s)) >>= λ x. fieldsWalk schemaStep fs none >>= λ b. given (x ++ b)) >>= k) ≡ ((a >>= λ c. schemaChildren fs >>= λ cs. given (c & cs)) >>= h)
-      first (refused r) next = refl
-      first (given c) next =
-          chained (fieldsWalk schemaStep fs none) (λ b. given (schemaLines c ++ b)) k
-          ∙ next (λ cs. h (c & cs)) (λ b. k (schemaLines c ++ b)) (λ cs e. same (c & cs) (ap suc e))
-          ∙ sym (chained (schemaChildren fs) (λ cs. given (c & cs)) h)
+  -- with the heading: export of a sheet
+  pub sheet-exported : (b : Bytes) → exported big b ≡ sheetWalk (schemaStep big) none schemaHeading b
+  unfolding exported
+  sheet-exported b =
+      chain-same (readFieldSheet b) (readFieldSheet b) (λ f. schemaNew big f >>= λ s. given (writeSheet schemaHeading (schemaLines s))) (λ f. (schemaNew big f >>= λ s. given (schemaLines s)) >>= λ ls. given (writeSheet schemaHeading ls)) refl
+      (λ f. sym (chained (schemaNew big f) (λ s. given (schemaLines s)) (λ ls. given (writeSheet schemaHeading ls))))
+      ∙ sheet-walked (schemaStep big) none schemaHeading b (λ f. schemaNew big f >>= λ s. given (schemaLines s)) (λ f. type-exported (f .type) (some (f .info)) none)
 
--- the lines of a type's fields
-pub children-exported : (fs : Fields) → fieldsWalk schemaStep fs none ≡ childrenWritten fs
-children-exported fs = sym (right (fieldsWalk schemaStep fs none)) ∙ fields-exported fs (λ cs. given (childrenLines cs)) (λ b. given b) (λ cs e. refl)
-  where
-    right : (a : Answer (List Bytes)) → (a >>= λ b. given b) ≡ a
-    right (refused r) = refl
-    right (given b) = refl
+  -- ── extensions
 
--- with the heading: export of a sheet
-pub sheet-exported : (b : Bytes) → exported b ≡ sheetWalk schemaStep none schemaHeading b
-unfolding exported
-sheet-exported b =
-    chain-same (readFieldSheet b) (readFieldSheet b) (λ f. schemaNew f >>= λ s. given (writeSheet schemaHeading (schemaLines s))) (λ f. (schemaNew f >>= λ s. given (schemaLines s)) >>= λ ls. given (writeSheet schemaHeading ls)) refl
-    (λ f. sym (chained (schemaNew f) (λ s. given (schemaLines s)) (λ ls. given (writeSheet schemaHeading ls))))
-    ∙ sheet-walked schemaStep none schemaHeading b (λ f. schemaNew f >>= λ s. given (schemaLines s)) (λ f. type-exported (f .type) (some (f .info)) none)
+  -- the lines of a type in extensions, where both parts of the state came from the first line of the field
+  around : (t : ArrowDataType) (j : Option Info) (w : Bearer) → typeWalk (schemaStep big) t j (some w)
+      ≡ lineWritten (schemaStepOf big (typeShape (toStorage t)) (typeCount (toStorage t)) (w .info) (some (w .extension))) (λ τ. rowWalk (schemaStep big) (typeBelow (toStorage t)) τ) (entryLines (typeBelow (toStorage t)))
+  around (scalar s) j w = walk-opened (schemaStep big) (scalar s) j (some w)
+  around (nested n k t) j w = walk-opened (schemaStep big) (nested n k t) j (some w)
+  around (grouped g fs) j w = walk-opened (schemaStep big) (grouped g fs) j (some w)
+  around (dictionary ix ordered t) j w = walk-opened (schemaStep big) (dictionary ix ordered t) j (some w)
+  around (extension n m t) j w = nothing-own (typeWalk (schemaStep big) t none (some w)) ∙ around t none w
 
--- ── extensions
+  -- A field's walk, the extensions around its type passed: the line of the type in all of them, with the columns and the extension of the field's first
+  -- line, then the row below it.
+  pub export-opened : (t : ArrowDataType) (i : Option Info) → typeWalk (schemaStep big) t i none
+      ≡ lineWritten (schemaStepOf big (typeShape (toStorage t)) (typeCount (toStorage t)) (orValues i) (extensionIn (typeShape t))) (λ τ. rowWalk (schemaStep big) (typeBelow (toStorage t)) τ) (entryLines (typeBelow (toStorage t)))
+  export-opened (scalar s) i = walk-opened (schemaStep big) (scalar s) i none
+  export-opened (nested n j t) i = walk-opened (schemaStep big) (nested n j t) i none
+  export-opened (grouped g fs) i = walk-opened (schemaStep big) (grouped g fs) i none
+  export-opened (dictionary ix ordered t) i = walk-opened (schemaStep big) (dictionary ix ordered t) i none
+  export-opened (extension n m t) i =
+      let w : Bearer = record { info = orValues i; extension = (n, m) } in
+      nothing-own (typeWalk (schemaStep big) t none (some w)) ∙ around t none w
 
--- the lines of a type in extensions, where both parts of the state came from the first line of the field
-around : (t : ArrowDataType) (j : Option Info) (w : Bearer) → typeWalk schemaStep t j (some w)
-    ≡ lineWritten (schemaStepOf (typeShape (toStorage t)) (typeCount (toStorage t)) (w .info) (some (w .extension))) (λ τ. rowWalk schemaStep (typeBelow (toStorage t)) τ) (entryLines (typeBelow (toStorage t)))
-around (scalar s) j w = walk-opened schemaStep (scalar s) j (some w)
-around (nested n k t) j w = walk-opened schemaStep (nested n k t) j (some w)
-around (grouped g fs) j w = walk-opened schemaStep (grouped g fs) j (some w)
-around (dictionary ix ordered t) j w = walk-opened schemaStep (dictionary ix ordered t) j (some w)
-around (extension n m t) j w = nothing-own (typeWalk schemaStep t none (some w)) ∙ around t none w
+  -- refused at once, and not: what is left of the walk
+  pub export-refused : (t : ArrowDataType) (i : Option Info) (r : Refusal) → schemaStepOf big (typeShape (toStorage t)) (typeCount (toStorage t)) (orValues i) (extensionIn (typeShape t)) ≡ refused r
+      → typeWalk (schemaStep big) t i none ≡ refused r
+  export-refused t i r e =
+      export-opened t i ∙ ap (λ (a : Answer (Step (Option Bearer))). lineWritten a (λ τ. rowWalk (schemaStep big) (typeBelow (toStorage t)) τ) (entryLines (typeBelow (toStorage t)))) e
 
--- A field's walk, the extensions around its type passed: the line of the type in all of them, with the columns and the extension of the field's first
--- line, then the row below it.
-pub export-opened : (t : ArrowDataType) (i : Option Info) → typeWalk schemaStep t i none
-    ≡ lineWritten (schemaStepOf (typeShape (toStorage t)) (typeCount (toStorage t)) (orValues i) (extensionIn (typeShape t))) (λ τ. rowWalk schemaStep (typeBelow (toStorage t)) τ) (entryLines (typeBelow (toStorage t)))
-export-opened (scalar s) i = walk-opened schemaStep (scalar s) i none
-export-opened (nested n j t) i = walk-opened schemaStep (nested n j t) i none
-export-opened (grouped g fs) i = walk-opened schemaStep (grouped g fs) i none
-export-opened (dictionary ix ordered t) i = walk-opened schemaStep (dictionary ix ordered t) i none
-export-opened (extension n m t) i =
-    let w : Bearer = record { info = orValues i; extension = (n, m) } in
-    nothing-own (typeWalk schemaStep t none (some w)) ∙ around t none w
-
--- refused at once, and not: what is left of the walk
-pub export-refused : (t : ArrowDataType) (i : Option Info) (r : Refusal) → schemaStepOf (typeShape (toStorage t)) (typeCount (toStorage t)) (orValues i) (extensionIn (typeShape t)) ≡ refused r
-    → typeWalk schemaStep t i none ≡ refused r
-export-refused t i r e =
-    export-opened t i ∙ ap (λ (a : Answer (Step (Option Bearer))). lineWritten a (λ τ. rowWalk schemaStep (typeBelow (toStorage t)) τ) (entryLines (typeBelow (toStorage t)))) e
-
-pub export-given : (t : ArrowDataType) (i : Option Info) (p : Step (Option Bearer)) → schemaStepOf (typeShape (toStorage t)) (typeCount (toStorage t)) (orValues i) (extensionIn (typeShape t)) ≡ given p
-    → typeWalk schemaStep t i none ≡ lineWritten (given p) (λ τ. rowWalk schemaStep (typeBelow (toStorage t)) τ) (entryLines (typeBelow (toStorage t)))
-export-given t i p e =
-    export-opened t i ∙ ap (λ (a : Answer (Step (Option Bearer))). lineWritten a (λ τ. rowWalk schemaStep (typeBelow (toStorage t)) τ) (entryLines (typeBelow (toStorage t)))) e
+  pub export-given : (t : ArrowDataType) (i : Option Info) (p : Step (Option Bearer)) → schemaStepOf big (typeShape (toStorage t)) (typeCount (toStorage t)) (orValues i) (extensionIn (typeShape t)) ≡ given p
+      → typeWalk (schemaStep big) t i none ≡ lineWritten (given p) (λ τ. rowWalk (schemaStep big) (typeBelow (toStorage t)) τ) (entryLines (typeBelow (toStorage t)))
+  export-given t i p e =
+      export-opened t i ∙ ap (λ (a : Answer (Step (Option Bearer))). lineWritten a (λ τ. rowWalk (schemaStep big) (typeBelow (toStorage t)) τ) (entryLines (typeBelow (toStorage t)))) e

@@ -1,6 +1,7 @@
 -- The sheets that tell each public call from the impostors (`ImpostorLaws`): import, export, plain form, the page, each mapping that answers a sheet, and the
 -- two conversions. Each by computation from its definition. Assumes nothing.
 use mathlib.Core.Path.{_≡_, refl}
+use mathlib.Core.Bool.{Bool}
 use Prim.Native.Nat.{ℕ, _+_}
 use native.Mathlib.Omega.{arith}
 use lib.ListN.{length}
@@ -21,9 +22,9 @@ use Rattle.sheets.proofs.ImpostorLaws.{Telling, TellingLines, shut-out,
 -- ── import, export, plain form
 
 -- a list of floats, and one of nulls
-importTelling : TellingLines imported schemaSheet length
+importTelling : (big : Bool) → TellingLines (imported big) schemaSheet length
 unfolding rows decimal imported
-importTelling =
+importTelling big =
     record {
       line = ascii "2b6c 70 2 ~ 1 0";
       rest = ascii "67 69 0 ~ 0 0\n";
@@ -41,13 +42,13 @@ importTelling =
       wrongAnswer = refl;
     }
 
-pub import-shuts-out : (f : Call Bytes) → Defined imported f → ShutOutOfLines schemaSheet length f
-import-shuts-out f defined = lines-shut-out imported schemaSheet length importTelling f defined
+pub import-shuts-out : (big : Bool) (f : Call Bytes) → Defined (imported big) f → ShutOutOfLines schemaSheet length f
+import-shuts-out big f defined = lines-shut-out (imported big) schemaSheet length (importTelling big) f defined
 
 -- a list of dates, and one of floats
-exportTelling : TellingLines exported fieldSheet length
+exportTelling : (big : Bool) → TellingLines (exported big) fieldSheet length
 unfolding rows decimal exported
-exportTelling =
+exportTelling big =
     record {
       line = ascii "27 0 0 ~ ~ 70 1 ~ 1";
       rest = ascii "16 0 0 ~ ~ 69 0 ~ 0\n";
@@ -65,8 +66,8 @@ exportTelling =
       wrongAnswer = refl;
     }
 
-pub export-shuts-out : (f : Call Bytes) → Defined exported f → ShutOutOfLines fieldSheet length f
-export-shuts-out f defined = lines-shut-out exported fieldSheet length exportTelling f defined
+pub export-shuts-out : (big : Bool) (f : Call Bytes) → Defined (exported big) f → ShutOutOfLines fieldSheet length f
+export-shuts-out big f defined = lines-shut-out (exported big) fieldSheet length (exportTelling big) f defined
 
 -- a list of unions without ids over two fields, and one of structs
 plainTelling : TellingLines plained fieldSheet length

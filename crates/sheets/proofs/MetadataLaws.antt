@@ -1,22 +1,24 @@
--- The metadata block read back as the pairs and the extension it was written from. Assumes nothing.
+-- The metadata block read back as the pairs and the extension it was written from, in the order that it was written in: one proof for both orders, which
+-- differ in the laws of a word alone. Assumes nothing.
 use mathlib.Core.Path.{_≡_, refl, sym, _∙_, ap}
 use mathlib.Core.Bool.{Bool, true, false, cond}
 use mathlib.Core.List.{List, [], _∷_, _++_, append-assoc, append-nil}
 use mathlib.Core.Option.{Option, none, some}
-use Prim.Native.Nat.{ℕ, zero, suc, _+_, _/_, _^_, _<_, _≤_}
+use Prim.Native.Nat.{ℕ, zero, suc, _+_, _/_, _%_, _^_, _<_, _≤_}
 use native.Mathlib.Omega.{arith}
 use native.Mathlib.Nat.{div-add-mod, div-lt-iff-lt-mul, pow-suc}
 use lib.Dec.{ltb}
 use lib.ListN.{length, length-append}
 use borrow.Author.Tests.{ltb-true, lt-ltb, not-true}
 use Rattle.sheets.specs.Rule.{Rule, is, _and_, each, Meets}
-use Rattle.sheets.specs.Bytes.{Bytes, same}
+use Rattle.sheets.specs.Bytes.{Bytes, same, all, isByte}
 use Rattle.sheets.specs.Answer.{Answer, given, _>>=_}
+use Rattle.sheets.specs.Text.{hex, writeText}
 use Rattle.sheets.specs.Utf8.{isUtf8}
 use Rattle.sheets.specs.Field.{Pair, before, firstAfter, pairsRule, metadataRule, textRule}
 use Rattle.sheets.specs.Plain.{plainPairs}
 use Rattle.sheets.specs.Demand3.{noReserved}
-use Rattle.sheets.specs.Metadata.{little, littleValue, cutAt, takeText, takePairs, readBlock, writeText32, writePairs, metadataToBytes, nameKey, metadataKey, reserved, Extension, insertNew, insertOver, ordinary, orElse, valueOf, somePairs, meaning, metadataFromBytes, orNone, withMetadata, blockOf, schemaMetadata}
+use Rattle.sheets.specs.Metadata.{little, littleValue, word32, value32, cutAt, takeText, takePairs, readBlock, writeText32, writePairs, metadataToBytes, nameKey, metadataKey, reserved, Extension, insertNew, insertOver, ordinary, orElse, valueOf, somePairs, meaning, metadataFromBytes, orNone, withMetadata, blockOf, schemaMetadata}
 use Rattle.sheets.proofs.BytesLaws.{same-eq, same-refl}
 
 -- ── numbers in bytes, at every width
@@ -27,9 +29,36 @@ little-value (suc k) n h =
     let next : n / 256 < 256 ^ k = div-lt-iff-lt-mul {k = 256} {x = n} {y = 256 ^ k} (omega arith) .1 (rw pow-suc at h) in
     rw (little-value k (n / 256) next) (omega (arith, div-add-mod n 256))
 
+low-byte : (n : ℕ) → isByte (n % 256) ≡ true
+low-byte n = lt-ltb (n % 256) 256 (omega arith)
+
 cut-length : (a b : Bytes) → cutAt (length a) (a ++ b) ≡ given (a, b)
 cut-length [] b = refl
 cut-length (x ∷ a) b = rw (cut-length a b)
+
+-- ── a word, in either order
+
+pub word-length : (big : Bool) (n : ℕ) → length (word32 big n) ≡ 4
+word-length true n = refl
+word-length false n = refl
+
+pub word-bytes : (big : Bool) (n : ℕ) → Meets (all isByte (word32 big n))
+word-bytes true n = search low-byte
+word-bytes false n = search low-byte
+
+-- a number of 32 bits is read back
+pub word-value : (big : Bool) (n : ℕ) → n < 2 ^ 32 → value32 big (word32 big n) ≡ n
+word-value true n h = little-value 4 n h
+word-value false n h = little-value 4 n h
+
+-- the column of a block that begins with a word is its hexadecimal text: it is not empty
+pub word-text : (big : Bool) (n : ℕ) (r : Bytes) → writeText (some (word32 big n ++ r)) ≡ hex (word32 big n ++ r)
+word-text true n r = refl
+word-text false n r = refl
+
+cut-word : (big : Bool) (n : ℕ) (r : Bytes) → cutAt 4 (word32 big n ++ r) ≡ given (word32 big n, r)
+cut-word true n r = refl
+cut-word false n r = refl
 
 -- ── the block
 
@@ -43,41 +72,52 @@ shortPair p = shortText (p .0) and shortText (p .1)
 abbrev pub textPair : Pair → Rule
 textPair p = is (isUtf8 (p .0)) and is (isUtf8 (p .1))
 
-take-text : (t r : Bytes) → isUtf8 t ≡ true → Meets (shortText t) → takeText (writeText32 t ++ r) ≡ given (t, r)
-take-text t r u h = rw (little-value 4 (length t) (omega (arith, ltb-true (length t) (2 ^ 31) h)), h, cut-length t r, u)
+module _ (big : Bool) where
+  take-text : (t r : Bytes) → isUtf8 t ≡ true → Meets (shortText t) → takeText big (writeText32 big t ++ r) ≡ given (t, r)
+  take-text t r u h =
+      rw (append-assoc (word32 big (length t)) t r, cut-word big (length t) (t ++ r), word-value big (length t) (omega (arith, ltb-true (length t) (2 ^ 31) h)), h, cut-length t r, u)
 
--- a key and a value are taken off what stands before other bytes
-take-pair : (n : ℕ) (p : Pair) (r : Bytes) → Meets (textPair p) → Meets (shortPair p) → takePairs (suc n) (writeText32 (p .0) ++ (writeText32 (p .1) ++ r)) ≡ (takePairs n r >>= λ ps. given (p ∷ ps))
-take-pair n p r u h = rw (take-text (p .0) (writeText32 (p .1) ++ r) (u .0) (h .0), take-text (p .1) r (u .1) (h .1))
+  -- a key and a value are taken off what stands before other bytes
+  take-pair : (n : ℕ) (p : Pair) (r : Bytes) → Meets (textPair p) → Meets (shortPair p) → takePairs big (suc n) (writeText32 big (p .0) ++ (writeText32 big (p .1) ++ r)) ≡ (takePairs big n r >>= λ ps. given (p ∷ ps))
+  take-pair n p r u h = rw (take-text (p .0) (writeText32 big (p .1) ++ r) (u .0) (h .0), take-text (p .1) r (u .1) (h .1))
 
--- "Bytes past the last pair are ignored"
-take-pairs : (ps : List Pair) (past : Bytes) → Meets (each textPair ps) → Meets (each shortPair ps) → takePairs (length ps) (writePairs ps ++ past) ≡ given ps
-take-pairs [] past u h = refl
-take-pairs (p ∷ ps) past u h =
-    let bytes : writePairs (p ∷ ps) ++ past ≡ writeText32 (p .0) ++ (writeText32 (p .1) ++ (writePairs ps ++ past)) =
-    append-assoc (writeText32 (p .0)) (writeText32 (p .1) ++ writePairs ps) past ∙ ap (λ (r : Bytes). writeText32 (p .0) ++ r) (append-assoc (writeText32 (p .1)) (writePairs ps) past) in
-    ap (takePairs (suc (length ps))) bytes ∙ take-pair (length ps) p (writePairs ps ++ past) (u .0) (h .0) ∙ ap (λ (a : Answer (List Pair)). a >>= λ qs. given (p ∷ qs)) (take-pairs ps past (u .1) (h .1))
+  -- "Bytes past the last pair are ignored"
+  take-pairs : (ps : List Pair) (past : Bytes) → Meets (each textPair ps) → Meets (each shortPair ps) → takePairs big (length ps) (writePairs big ps ++ past) ≡ given ps
+  take-pairs [] past u h = refl
+  take-pairs (p ∷ ps) past u h =
+      let bytes : writePairs big (p ∷ ps) ++ past ≡ writeText32 big (p .0) ++ (writeText32 big (p .1) ++ (writePairs big ps ++ past)) =
+      append-assoc (writeText32 big (p .0)) (writeText32 big (p .1) ++ writePairs big ps) past ∙ ap (λ (r : Bytes). writeText32 big (p .0) ++ r) (append-assoc (writeText32 big (p .1)) (writePairs big ps) past) in
+      ap (takePairs big (suc (length ps))) bytes ∙ take-pair (length ps) p (writePairs big ps ++ past) (u .0) (h .0) ∙ ap (λ (a : Answer (List Pair)). a >>= λ qs. given (p ∷ qs)) (take-pairs ps past (u .1) (h .1))
 
--- a block that is short has short texts and few of them
-pairs-length : (p : Pair) (ps : List Pair) → length (writePairs (p ∷ ps)) ≡ 4 + length (p .0) + (4 + length (p .1) + length (writePairs ps))
-pairs-length p ps = simp length-append
+  -- a block that is short has short texts and few of them
+  pub pairs-length : (p : Pair) (ps : List Pair) → length (writePairs big (p ∷ ps)) ≡ 4 + length (p .0) + (4 + length (p .1) + length (writePairs big ps))
+  pairs-length p ps = simp (length-append, word-length big)
 
-short-pairs : (ps : List Pair) → length (writePairs ps) < 2 ^ 31 → Meets (each shortPair ps) × (length ps ≤ length (writePairs ps))
-short-pairs [] h = (refl, omega arith)
-short-pairs (p ∷ ps) h =
-    let n : length (writePairs (p ∷ ps)) ≡ 4 + length (p .0) + (4 + length (p .1) + length (writePairs ps)) = pairs-length p ps in
-    let rest = short-pairs ps (omega arith) in
-    (((lt-ltb (length (p .0)) (2 ^ 31) (omega arith), lt-ltb (length (p .1)) (2 ^ 31) (omega arith)), rest .0), omega (arith, rest .1))
+  short-pairs : (ps : List Pair) → length (writePairs big ps) < 2 ^ 31 → Meets (each shortPair ps) × (length ps ≤ length (writePairs big ps))
+  short-pairs [] h = (refl, omega arith)
+  short-pairs (p ∷ ps) h =
+      let n : length (writePairs big (p ∷ ps)) ≡ 4 + length (p .0) + (4 + length (p .1) + length (writePairs big ps)) = pairs-length p ps in
+      let rest = short-pairs ps (omega arith) in
+      (((lt-ltb (length (p .0)) (2 ^ 31) (omega arith), lt-ltb (length (p .1)) (2 ^ 31) (omega arith)), rest .0), omega (arith, rest .1))
 
-pub read-past : (ps : List Pair) (past : Bytes) → Meets (each textPair ps) → length (metadataToBytes ps) < 2 ^ 31 → readBlock (metadataToBytes ps ++ past) ≡ given ps
-read-past ps past u h =
-    let n : length (metadataToBytes ps) ≡ 4 + length (writePairs ps) = length-append (little 4 (length ps)) (writePairs ps) in
-    let l = short-pairs ps (omega arith) in
-    let few : length ps < 2 ^ 31 = omega (arith, l .1) in
-    rw (little-value 4 (length ps) (omega arith), lt-ltb (length ps) (2 ^ 31) few, take-pairs ps past u (l .0))
+  pub block-length : (ps : List Pair) → length (metadataToBytes big ps) ≡ 4 + length (writePairs big ps)
+  block-length ps = simp (length-append, word-length big)
 
-pub read-block : (ps : List Pair) → Meets (each textPair ps) → length (metadataToBytes ps) < 2 ^ 31 → readBlock (metadataToBytes ps) ≡ given ps
-read-block ps u h = ap readBlock (sym (append-nil (metadataToBytes ps))) ∙ read-past ps [] u h
+  pub read-past : (ps : List Pair) (past : Bytes) → Meets (each textPair ps) → length (metadataToBytes big ps) < 2 ^ 31 → readBlock big (metadataToBytes big ps ++ past) ≡ given ps
+  read-past ps past u h =
+      let n : length (metadataToBytes big ps) ≡ 4 + length (writePairs big ps) = block-length ps in
+      let l = short-pairs ps (omega arith) in
+      let few : length ps < 2 ^ 31 = omega (arith, l .1) in
+      rw (
+        append-assoc (word32 big (length ps)) (writePairs big ps) past,
+        cut-word big (length ps) (writePairs big ps ++ past),
+        word-value big (length ps) (omega arith),
+        lt-ltb (length ps) (2 ^ 31) few,
+        take-pairs ps past u (l .0),
+      )
+
+  pub read-block : (ps : List Pair) → Meets (each textPair ps) → length (metadataToBytes big ps) < 2 ^ 31 → readBlock big (metadataToBytes big ps) ≡ given ps
+  read-block ps u h = ap (readBlock big) (sym (append-nil (metadataToBytes big ps))) ∙ read-past ps [] u h
 
 -- ── pairs and reserved keys
 
@@ -194,14 +234,15 @@ abbrev pub shortBlock : Option Bytes → Rule
 shortBlock none = is true
 shortBlock (some b) = is (ltb (length b) (2 ^ 31))
 
-read-plain : (ps : List Pair) → Meets (pairsRule ps) → Meets (noReserved ps) → Meets (shortBlock (blockOf ps)) → metadataFromBytes (blockOf ps) ≡ given (somePairs ps, none)
-read-plain [] h k l = refl
-read-plain (p ∷ ps) h k l =
-    rw (read-block (p ∷ ps) (pairs-text (p ∷ ps) h) (ltb-true (length (metadataToBytes (p ∷ ps))) (2 ^ 31) l)) (rw (none-values (p ∷ ps) k, ordinary-same (p ∷ ps) h k))
+module _ (big : Bool) where
+  read-plain : (ps : List Pair) → Meets (pairsRule ps) → Meets (noReserved ps) → Meets (shortBlock (blockOf big ps)) → metadataFromBytes big (blockOf big ps) ≡ given (somePairs ps, none)
+  read-plain [] h k l = refl
+  read-plain (p ∷ ps) h k l =
+      rw (read-block big (p ∷ ps) (pairs-text (p ∷ ps) h) (ltb-true (length (metadataToBytes big (p ∷ ps))) (2 ^ 31) l)) (rw (none-values (p ∷ ps) k, ordinary-same (p ∷ ps) h k))
 
-pub read-metadata : (ps : Option (List Pair)) (e : Option Extension) → Meets (metadataRule ps) → Meets (noReserved (orNone ps)) → Meets (extensionRule e) → Meets (shortBlock (schemaMetadata ps e))
-    → metadataFromBytes (schemaMetadata ps e) ≡ given (plainPairs ps, e)
-read-metadata ps none h k x l = rw (← (some-plain ps)) (read-plain (orNone ps) (pairs-ordered ps h) k l)
-read-metadata ps (some e) h k x l =
-    rw (← (some-plain ps), read-block (insertOver (nameKey, e .0) (withMetadata (e .1) (orNone ps))) (all-text e (orNone ps) x (pairs-text (orNone ps) (pairs-ordered ps h))) (ltb-true _ (2 ^ 31) l))
-    (rw (with-values (e .1) (e .0) (orNone ps) k, ordinary-same (orNone ps) (pairs-ordered ps h) k))
+  pub read-metadata : (ps : Option (List Pair)) (e : Option Extension) → Meets (metadataRule ps) → Meets (noReserved (orNone ps)) → Meets (extensionRule e) → Meets (shortBlock (schemaMetadata big ps e))
+      → metadataFromBytes big (schemaMetadata big ps e) ≡ given (plainPairs ps, e)
+  read-metadata ps none h k x l = rw (← (some-plain ps)) (read-plain (orNone ps) (pairs-ordered ps h) k l)
+  read-metadata ps (some e) h k x l =
+      rw (← (some-plain ps), read-block big (insertOver (nameKey, e .0) (withMetadata (e .1) (orNone ps))) (all-text e (orNone ps) x (pairs-text (orNone ps) (pairs-ordered ps h))) (ltb-true _ (2 ^ 31) l))
+      (rw (with-values (e .1) (e .0) (orNone ps) k, ordinary-same (orNone ps) (pairs-ordered ps h) k))

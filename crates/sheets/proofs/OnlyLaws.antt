@@ -116,27 +116,28 @@ grouping-numbers (union mode none) (suc count) = only-given ownerNumbers _
 grouping-numbers (union mode (some [])) count = only-refused ownerNumbers noUnionIds refl
 grouping-numbers (union mode (some (z ∷ zs))) count = only-given ownerNumbers _
 
-node-numbers : (i : Info) (e : Option Extension) (f : Bytes) (x : ℕ) (cs : Schemas) (d : Dictionary) → Only ownerNumbers (schemaNode i e f x cs d)
-node-numbers i e f x cs d = only-when ownerNumbers zeroByte refl (lacks 0 (i .name) and lacks 0 f) _
+module _ (big : Bool) where
+  node-numbers : (i : Info) (e : Option Extension) (f : Bytes) (x : ℕ) (cs : Schemas) (d : Dictionary) → Only ownerNumbers (schemaNode big i e f x cs d)
+  node-numbers i e f x cs d = only-when ownerNumbers zeroByte refl (lacks 0 (i .name) and lacks 0 f) _
 
-mutual
-  type-numbers : (t : ArrowDataType) (i : Info) (e : Option Extension) → Only ownerNumbers (schemaNewOf t i e)
-  type-numbers (scalar s) i e = only-chain ownerNumbers (scalarFormat s) _ (scalar-numbers s) (λ f g. node-numbers i e f 0 end absent)
-  type-numbers (nested n j t) i e = only-chain ownerNumbers (schemaNewOf t j none) _ (type-numbers t j none) (λ c g. node-numbers i e (nestingFormat n) (sortedFlag n) (c & end) absent)
-  type-numbers (grouped g fs) i e =
-      only-chain ownerNumbers (groupingFormat g (countFields fs)) _ (grouping-numbers g (countFields fs))
-      (λ f q. only-chain ownerNumbers (schemaChildren fs) _ (fields-numbers fs) (λ cs p. node-numbers i e f 0 cs absent))
-  type-numbers (dictionary ix ordered t) i none =
-      only-chain ownerNumbers (indexFormat ix) _ (scalar-numbers (leaf (ix + Kind.Int8) 0))
-      (λ f q. only-chain ownerNumbers (schemaNewOf t valuesInfo none) _ (type-numbers t valuesInfo none) (λ d p. node-numbers i none f (flag ordered ORDERED) end (present d)))
-  type-numbers (dictionary ix ordered t) i (some e) =
-      only-chain ownerNumbers (indexFormat ix) _ (scalar-numbers (leaf (ix + Kind.Int8) 0)) (λ f q. node-numbers i (some e) f 0 end absent)
-  type-numbers (extension n m t) i e = type-numbers t i _
+  mutual
+    type-numbers : (t : ArrowDataType) (i : Info) (e : Option Extension) → Only ownerNumbers (schemaNewOf big t i e)
+    type-numbers (scalar s) i e = only-chain ownerNumbers (scalarFormat s) _ (scalar-numbers s) (λ f g. node-numbers i e f 0 end absent)
+    type-numbers (nested n j t) i e = only-chain ownerNumbers (schemaNewOf big t j none) _ (type-numbers t j none) (λ c g. node-numbers i e (nestingFormat n) (sortedFlag n) (c & end) absent)
+    type-numbers (grouped g fs) i e =
+        only-chain ownerNumbers (groupingFormat g (countFields fs)) _ (grouping-numbers g (countFields fs))
+        (λ f q. only-chain ownerNumbers (schemaChildren big fs) _ (fields-numbers fs) (λ cs p. node-numbers i e f 0 cs absent))
+    type-numbers (dictionary ix ordered t) i none =
+        only-chain ownerNumbers (indexFormat ix) _ (scalar-numbers (leaf (ix + Kind.Int8) 0))
+        (λ f q. only-chain ownerNumbers (schemaNewOf big t valuesInfo none) _ (type-numbers t valuesInfo none) (λ d p. node-numbers i none f (flag ordered ORDERED) end (present d)))
+    type-numbers (dictionary ix ordered t) i (some e) =
+        only-chain ownerNumbers (indexFormat ix) _ (scalar-numbers (leaf (ix + Kind.Int8) 0)) (λ f q. node-numbers i (some e) f 0 end absent)
+    type-numbers (extension n m t) i e = type-numbers t i _
 
-  fields-numbers : (fs : Fields) → Only ownerNumbers (schemaChildren fs)
-  fields-numbers nil = only-given ownerNumbers end
-  fields-numbers (add i t fs) =
-      only-chain ownerNumbers (schemaNewOf t i none) _ (type-numbers t i none) (λ c q. only-chain ownerNumbers (schemaChildren fs) _ (fields-numbers fs) (λ cs p. only-given ownerNumbers (c & cs)))
+    fields-numbers : (fs : Fields) → Only ownerNumbers (schemaChildren big fs)
+    fields-numbers nil = only-given ownerNumbers end
+    fields-numbers (add i t fs) =
+        only-chain ownerNumbers (schemaNewOf big t i none) _ (type-numbers t i none) (λ c q. only-chain ownerNumbers (schemaChildren big fs) _ (fields-numbers fs) (λ cs p. only-given ownerNumbers (c & cs)))
 
 -- a refusal is among more numbers too
 pub only-more : {A : Type 0} (ns ms : List ℕ) → ((n : ℕ) → oneOf ns n ≡ true → oneOf ms n ≡ true) → (a : Answer A) → Only ns a → Only ms a
@@ -153,11 +154,12 @@ owner-export n h = rw h (either (eqb n 1) (either (eqb n 2) (or-true (eqb n 3)))
     either true k = refl
     either false k = k
 
-pub export-numbers : (b : Bytes) → Only exportNumbers (exported b)
-unfolding exported
-export-numbers b =
-    only-chain exportNumbers (readFieldSheet b) _ (field-sheet-numbers exportNumbers refl refl refl b)
-    (λ f e. only-chain exportNumbers (schemaNew f) _ (only-more ownerNumbers exportNumbers owner-export (schemaNew f) (type-numbers (f .type) (f .info) none)) (λ s g. only-given exportNumbers _))
+module _ (big : Bool) where
+  pub export-numbers : (b : Bytes) → Only exportNumbers (exported big b)
+  unfolding exported
+  export-numbers b =
+      only-chain exportNumbers (readFieldSheet b) _ (field-sheet-numbers exportNumbers refl refl refl b)
+      (λ f e. only-chain exportNumbers (schemaNew big f) _ (only-more ownerNumbers exportNumbers owner-export (schemaNew big f) (type-numbers big (f .type) (f .info) none)) (λ s g. only-given exportNumbers _))
 
 -- plain form: the sheet's maker is turned back, and no other
 pub plain-numbers : (b : Bytes) → Only sheetNumbers (plained b)

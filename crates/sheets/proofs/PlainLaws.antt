@@ -44,48 +44,50 @@ pairs-same none = refl
 pairs-same (some []) = refl
 pairs-same (some (p ∷ ps)) = refl
 
-metadata-same : (ps : Option (List Pair)) (e : Option Extension) → schemaMetadata (plainPairs ps) e ≡ schemaMetadata ps e
-metadata-same ps none = rw (pairs-same ps)
-metadata-same ps (some e) = rw (pairs-same ps)
+module _ (big : Bool) where
+  metadata-same : (ps : Option (List Pair)) (e : Option Extension) → schemaMetadata big (plainPairs ps) e ≡ schemaMetadata big ps e
+  metadata-same ps none = rw (pairs-same ps)
+  metadata-same ps (some e) = rw (pairs-same ps)
 
-node-same : (i : Info) (e : Option Extension) (f : Bytes) (x : ℕ) (cs : Schemas) (d : Dictionary) → schemaNode (plainInfo i) e f x cs d ≡ schemaNode i e f x cs d
-node-same i e f x cs d = rw (metadata-same (i .pairs) e)
+  node-same : (i : Info) (e : Option Extension) (f : Bytes) (x : ℕ) (cs : Schemas) (d : Dictionary) → schemaNode big (plainInfo i) e f x cs d ≡ schemaNode big i e f x cs d
+  node-same i e f x cs d = rw (metadata-same (i .pairs) e)
 
 pub count-plain : (fs : Fields) → countFields (plainFields fs) ≡ countFields fs
 count-plain nil = refl
 count-plain (add i t fs) = rw (count-plain fs)
 
-mutual
-  type-same : (t : ArrowDataType) (i : Info) (e : Option Extension) → schemaNewOf (plainType t (isSome e)) (plainInfo i) e ≡ schemaNewOf t i e
-  type-same (scalar s) i e =
-      chain-same (scalarFormat (plainScalar s)) (scalarFormat s) (λ f. schemaNode (plainInfo i) e f 0 end absent) (λ f. schemaNode i e f 0 end absent)
-      (scalar-same s) (λ f. node-same i e f 0 end absent)
-  type-same (nested n j t) i e =
-      chain-same (schemaNewOf (plainType t false) (plainInfo j) none) (schemaNewOf t j none)
-      (λ c. schemaNode (plainInfo i) e (nestingFormat n) (sortedFlag n) (c & end) absent) (λ c. schemaNode i e (nestingFormat n) (sortedFlag n) (c & end) absent)
-      (type-same t j none) (λ c. node-same i e (nestingFormat n) (sortedFlag n) (c & end) absent)
-  type-same (grouped g fs) i e =
-      chain-same (groupingFormat (plainGrouping g (countFields fs)) (countFields (plainFields fs))) (groupingFormat g (countFields fs))
-      (λ f. schemaChildren (plainFields fs) >>= λ cs. schemaNode (plainInfo i) e f 0 cs absent) (λ f. schemaChildren fs >>= λ cs. schemaNode i e f 0 cs absent)
-      (rw (count-plain fs) (grouping-same g (countFields fs)))
-      (λ f. chain-same (schemaChildren (plainFields fs)) (schemaChildren fs) (λ cs. schemaNode (plainInfo i) e f 0 cs absent) (λ cs. schemaNode i e f 0 cs absent) (fields-same fs) (λ cs. node-same i e f 0 cs absent))
-  type-same (dictionary ix ordered t) i none =
-      chain-same (indexFormat ix) (indexFormat ix)
-      (λ f. schemaNewOf (plainType t false) valuesInfo none >>= λ d. schemaNode (plainInfo i) none f (flag ordered 1) end (present d)) (λ f. schemaNewOf t valuesInfo none >>= λ d. schemaNode i none f (flag ordered 1) end (present d))
-      refl
-      (λ f. chain-same (schemaNewOf (plainType t false) valuesInfo none) (schemaNewOf t valuesInfo none) (λ d. schemaNode (plainInfo i) none f (flag ordered 1) end (present d)) (λ d. schemaNode i none f (flag ordered 1) end (present d)) (type-same t valuesInfo none) (λ d. node-same i none f (flag ordered 1) end (present d)))
-  type-same (dictionary ix ordered t) i (some e) =
-      chain-same (indexFormat ix) (indexFormat ix) (λ f. schemaNode (plainInfo i) (some e) f 0 end absent) (λ f. schemaNode i (some e) f 0 end absent) refl (λ f. node-same i (some e) f 0 end absent)
-  type-same (extension n m t) i none = type-same t i (some (n, m))
-  type-same (extension n m t) i (some e) = type-same t i (some e)
+module _ (big : Bool) where
+  mutual
+    type-same : (t : ArrowDataType) (i : Info) (e : Option Extension) → schemaNewOf big (plainType t (isSome e)) (plainInfo i) e ≡ schemaNewOf big t i e
+    type-same (scalar s) i e =
+        chain-same (scalarFormat (plainScalar s)) (scalarFormat s) (λ f. schemaNode big (plainInfo i) e f 0 end absent) (λ f. schemaNode big i e f 0 end absent)
+        (scalar-same s) (λ f. node-same big i e f 0 end absent)
+    type-same (nested n j t) i e =
+        chain-same (schemaNewOf big (plainType t false) (plainInfo j) none) (schemaNewOf big t j none)
+        (λ c. schemaNode big (plainInfo i) e (nestingFormat n) (sortedFlag n) (c & end) absent) (λ c. schemaNode big i e (nestingFormat n) (sortedFlag n) (c & end) absent)
+        (type-same t j none) (λ c. node-same big i e (nestingFormat n) (sortedFlag n) (c & end) absent)
+    type-same (grouped g fs) i e =
+        chain-same (groupingFormat (plainGrouping g (countFields fs)) (countFields (plainFields fs))) (groupingFormat g (countFields fs))
+        (λ f. schemaChildren big (plainFields fs) >>= λ cs. schemaNode big (plainInfo i) e f 0 cs absent) (λ f. schemaChildren big fs >>= λ cs. schemaNode big i e f 0 cs absent)
+        (rw (count-plain fs) (grouping-same g (countFields fs)))
+        (λ f. chain-same (schemaChildren big (plainFields fs)) (schemaChildren big fs) (λ cs. schemaNode big (plainInfo i) e f 0 cs absent) (λ cs. schemaNode big i e f 0 cs absent) (fields-same fs) (λ cs. node-same big i e f 0 cs absent))
+    type-same (dictionary ix ordered t) i none =
+        chain-same (indexFormat ix) (indexFormat ix)
+        (λ f. schemaNewOf big (plainType t false) valuesInfo none >>= λ d. schemaNode big (plainInfo i) none f (flag ordered 1) end (present d)) (λ f. schemaNewOf big t valuesInfo none >>= λ d. schemaNode big i none f (flag ordered 1) end (present d))
+        refl
+        (λ f. chain-same (schemaNewOf big (plainType t false) valuesInfo none) (schemaNewOf big t valuesInfo none) (λ d. schemaNode big (plainInfo i) none f (flag ordered 1) end (present d)) (λ d. schemaNode big i none f (flag ordered 1) end (present d)) (type-same t valuesInfo none) (λ d. node-same big i none f (flag ordered 1) end (present d)))
+    type-same (dictionary ix ordered t) i (some e) =
+        chain-same (indexFormat ix) (indexFormat ix) (λ f. schemaNode big (plainInfo i) (some e) f 0 end absent) (λ f. schemaNode big i (some e) f 0 end absent) refl (λ f. node-same big i (some e) f 0 end absent)
+    type-same (extension n m t) i none = type-same t i (some (n, m))
+    type-same (extension n m t) i (some e) = type-same t i (some e)
 
-  fields-same : (fs : Fields) → schemaChildren (plainFields fs) ≡ schemaChildren fs
-  fields-same nil = refl
-  fields-same (add i t fs) = rw (type-same t i none, fields-same fs)
+    fields-same : (fs : Fields) → schemaChildren big (plainFields fs) ≡ schemaChildren big fs
+    fields-same nil = refl
+    fields-same (add i t fs) = rw (type-same t i none, fields-same fs)
 
--- exporting the plain form gives the same
-pub export-plain : (f : Field) → schemaNew (plain f) ≡ schemaNew f
-export-plain f = type-same (f .type) (f .info) none
+  -- exporting the plain form gives the same
+  pub export-plain : (f : Field) → schemaNew big (plain f) ≡ schemaNew big f
+  export-plain f = type-same (f .type) (f .info) none
 
 -- ── the rules
 

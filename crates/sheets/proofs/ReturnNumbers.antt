@@ -57,23 +57,24 @@ index-nine f =
 
 -- ── a node
 
-metadata-plain : (ps : List Pair) → Meets (pairsRule ps) → Meets (shortBlock (blockOf ps)) → Only nine (metadataFromBytes (blockOf ps))
-metadata-plain [] h l = only-given nine _
-metadata-plain (p ∷ ps) h l =
-    rw (read-block (p ∷ ps) (pairs-text (p ∷ ps) h) (ltb-true (length (metadataToBytes (p ∷ ps))) (2 ^ 31) l)) (only-given nine _)
+module _ (big : Bool) where
+  metadata-plain : (ps : List Pair) → Meets (pairsRule ps) → Meets (shortBlock (blockOf big ps)) → Only nine (metadataFromBytes big (blockOf big ps))
+  metadata-plain [] h l = only-given nine _
+  metadata-plain (p ∷ ps) h l =
+      rw (read-block big (p ∷ ps) (pairs-text (p ∷ ps) h) (ltb-true (length (metadataToBytes big (p ∷ ps))) (2 ^ 31) l)) (only-given nine _)
 
-metadata-nine : (ps : Option (List Pair)) (e : Option Extension) → Meets (metadataRule ps) → Meets (extensionRule e) → Meets (shortBlock (schemaMetadata ps e)) → Only nine (metadataFromBytes (schemaMetadata ps e))
-metadata-nine ps none h x l = metadata-plain (orNone ps) (pairs-ordered ps h) l
-metadata-nine ps (some e) h x l =
-    rw (read-block (insertOver (nameKey, e .0) (withMetadata (e .1) (orNone ps))) (all-text e (orNone ps) x (pairs-text (orNone ps) (pairs-ordered ps h))) (ltb-true _ (2 ^ 31) l)) (only-given nine _)
+  metadata-nine : (ps : Option (List Pair)) (e : Option Extension) → Meets (metadataRule ps) → Meets (extensionRule e) → Meets (shortBlock (schemaMetadata big ps e)) → Only nine (metadataFromBytes big (schemaMetadata big ps e))
+  metadata-nine ps none h x l = metadata-plain (orNone ps) (pairs-ordered ps h) l
+  metadata-nine ps (some e) h x l =
+      rw (read-block big (insertOver (nameKey, e .0) (withMetadata (e .1) (orNone ps))) (all-text e (orNone ps) x (pairs-text (orNone ps) (pairs-ordered ps h))) (ltb-true _ (2 ^ 31) l)) (only-given nine _)
 
-node-nine : (i : Info) (e : Option Extension) (f : Bytes) (x : ℕ) (cs : Schemas) (d : Dictionary) → isUtf8 f ≡ true → Meets (infoRule i) → Meets (extensionRule e) → Meets (shortBlock (schemaMetadata (i .pairs) e))
-    → Only nine (toDtype f (pos (flag (i .nullable) NULLABLE + x)) (toFields cs) (toValues d)) → Only nine (toField (schema (exportedNode i e f x) cs d))
-node-nine i e f x cs d u h k l t =
-    rw u
-    (only-chain nine (toDtype f (pos (flag (i .nullable) NULLABLE + x)) (toFields cs) (toValues d)) _ t
-    (λ a q. only-chain nine (metadataFromBytes (schemaMetadata (i .pairs) e)) _ (metadata-nine (i .pairs) e (h .1) k l)
-    (λ m r. rw (h .0) (only-given nine _))))
+  node-nine : (i : Info) (e : Option Extension) (f : Bytes) (x : ℕ) (cs : Schemas) (d : Dictionary) → isUtf8 f ≡ true → Meets (infoRule i) → Meets (extensionRule e) → Meets (shortBlock (schemaMetadata big (i .pairs) e))
+      → Only nine (toDtype f (pos (flag (i .nullable) NULLABLE + x)) (toFields big cs) (toValues big d)) → Only nine (toField big (schema (exportedNode big i e f x) cs d))
+  node-nine i e f x cs d u h k l t =
+      rw u
+      (only-chain nine (toDtype f (pos (flag (i .nullable) NULLABLE + x)) (toFields big cs) (toValues big d)) _ t
+      (λ a q. only-chain nine (metadataFromBytes big (schemaMetadata big (i .pairs) e)) _ (metadata-nine (i .pairs) e (h .1) k l)
+      (λ m r. rw (h .0) (only-given nine _))))
 
 -- ── the tree
 
@@ -84,56 +85,57 @@ nesting-any sorted largeList h = (largeList, refl)
 nesting-any sorted (fixedSizeList n) h = (fixedSizeList n, rw (read-size n h))
 nesting-any sorted (map b) h = (map sorted, refl)
 
-abbrev Nine : Schema → Type 0
-Nine s = Meets (schemaShort s) → Only nine (toField s)
+module _ (big : Bool) where
+  abbrev Nine : Schema → Type 0
+  Nine s = Meets (schemaShort s) → Only nine (toField big s)
 
-mutual
-  type-nine : (t : ArrowDataType) (i : Info) (e : Option Extension) (s : Schema) → Meets (typeRule t) → Meets (infoRule i) → Meets (extensionRule e)
-      → schemaNewOf t i e ≡ given s → Meets (schemaShort s) → Only nine (toField s)
-  type-nine (scalar c) i e s h hi x g =
-      let q = first-gave (scalarFormat c) (λ f. schemaNode i e f 0 end absent) s g in
-      carry Nine i e (q .0) 0 end absent s (q .2)
-      (λ l. node-nine i e (q .0) 0 end absent (utf8-scalar c (q .0) h (q .1)) hi x (l .0)
-      (rw (read-scalar (isSorted (pos (flag (i .nullable) NULLABLE + 0))) c (q .0) h (q .1)) (only-given nine _)))
-  type-nine (nested n j t) i e s h hi x g =
-      let q = first-gave (schemaNewOf t j none) (λ c. schemaNode i e (nestingFormat n) (sortedFlag n) (c & end) absent) s g in
-      carry Nine i e (nestingFormat n) (sortedFlag n) (q .0 & end) absent s (q .2)
-      (λ l. node-nine i e (nestingFormat n) (sortedFlag n) (q .0 & end) absent (utf8-nesting n) hi x (l .0)
-      (rw (nesting-any (isSorted (pos (flag (i .nullable) NULLABLE + sortedFlag n))) n (h .0) .1)
-      (only-chain nine (toField (q .0)) _ (type-nine t j none (q .0) (h .1 .1) (h .1 .0) refl (q .1) (l .1 .1 .0 .0)) (λ f r. only-given nine _))))
-  type-nine (grouped c fs) i e s h hi x g =
-      let q = first-gave (groupingFormat c (countFields fs)) (λ f. schemaChildren fs >>= λ cs. schemaNode i e f 0 cs absent) s g in
-      let p = first-gave (schemaChildren fs) (λ cs. schemaNode i e (q .0) 0 cs absent) s (q .2) in
-      carry Nine i e (q .0) 0 (p .0) absent s (p .2)
-      (λ l. node-nine i e (q .0) 0 (p .0) absent (utf8-grouping c (countFields fs) (q .0) (q .1)) hi x (l .0)
-      (rw (read-grouping (isSorted (pos (flag (i .nullable) NULLABLE + 0))) c (countFields fs) (q .0) (h .0) (omega (arith, leb-true (countSchemas (p .0)) (2 ^ 31) (l .1 .0), count-export fs (p .0) (p .1))) (q .1))
-      (only-chain nine (allOf (toFields (p .0))) _ (fields-nine fs (p .0) (h .1) (p .1) (l .1 .1 .0)) (λ a r. only-given nine _))))
-  type-nine (dictionary ix ordered t) i none s h hi x g =
-      let q = first-gave (indexFormat ix) (λ f. schemaNewOf t valuesInfo none >>= λ d. schemaNode i none f (flag ordered ORDERED) end (present d)) s g in
-      let p = first-gave (schemaNewOf t valuesInfo none) (λ d. schemaNode i none (q .0) (flag ordered ORDERED) end (present d)) s (q .2) in
-      carry Nine i none (q .0) (flag ordered ORDERED) end (present (p .0)) s (p .2)
-      (λ l. node-nine i none (q .0) (flag ordered ORDERED) end (present (p .0)) (utf8-scalar (leaf (ix + Kind.Int8) 0) (q .0) (index-leaf ix (h .0)) (q .1)) hi x (l .0)
-      (only-chain nine (toIntegerType (q .0)) _ (index-nine (q .0))
-      (λ k r. only-chain nine (toField (p .0)) _ (type-nine t valuesInfo none (p .0) (h .1) values-rule refl (p .1) (l .1 .1 .1)) (λ v w. only-given nine _))))
-  type-nine (dictionary ix ordered t) i (some e) s h hi x g =
-      let q = first-gave (indexFormat ix) (λ f. schemaNode i (some e) f 0 end absent) s g in
-      carry Nine i (some e) (q .0) 0 end absent s (q .2)
-      (λ l. node-nine i (some e) (q .0) 0 end absent (utf8-scalar (leaf (ix + Kind.Int8) 0) (q .0) (index-leaf ix (h .0)) (q .1)) hi x (l .0)
-      (rw (read-scalar (isSorted (pos (flag (i .nullable) NULLABLE + 0))) (leaf (ix + Kind.Int8) 0) (q .0) (index-leaf ix (h .0)) (q .1)) (only-given nine _)))
-  type-nine (extension n m t) i none s h hi x g = type-nine t i (some (n, m)) s (h .1 .1) hi (h .0, h .1 .0) g
-  type-nine (extension n m t) i (some e) s h hi x g = type-nine t i (some e) s (h .1 .1) hi x g
+  mutual
+    type-nine : (t : ArrowDataType) (i : Info) (e : Option Extension) (s : Schema) → Meets (typeRule t) → Meets (infoRule i) → Meets (extensionRule e)
+        → schemaNewOf big t i e ≡ given s → Meets (schemaShort s) → Only nine (toField big s)
+    type-nine (scalar c) i e s h hi x g =
+        let q = first-gave (scalarFormat c) (λ f. schemaNode big i e f 0 end absent) s g in
+        carry big Nine i e (q .0) 0 end absent s (q .2)
+        (λ l. node-nine big i e (q .0) 0 end absent (utf8-scalar c (q .0) h (q .1)) hi x (l .0)
+        (rw (read-scalar (isSorted (pos (flag (i .nullable) NULLABLE + 0))) c (q .0) h (q .1)) (only-given nine _)))
+    type-nine (nested n j t) i e s h hi x g =
+        let q = first-gave (schemaNewOf big t j none) (λ c. schemaNode big i e (nestingFormat n) (sortedFlag n) (c & end) absent) s g in
+        carry big Nine i e (nestingFormat n) (sortedFlag n) (q .0 & end) absent s (q .2)
+        (λ l. node-nine big i e (nestingFormat n) (sortedFlag n) (q .0 & end) absent (utf8-nesting n) hi x (l .0)
+        (rw (nesting-any (isSorted (pos (flag (i .nullable) NULLABLE + sortedFlag n))) n (h .0) .1)
+        (only-chain nine (toField big (q .0)) _ (type-nine t j none (q .0) (h .1 .1) (h .1 .0) refl (q .1) (l .1 .1 .0 .0)) (λ f r. only-given nine _))))
+    type-nine (grouped c fs) i e s h hi x g =
+        let q = first-gave (groupingFormat c (countFields fs)) (λ f. schemaChildren big fs >>= λ cs. schemaNode big i e f 0 cs absent) s g in
+        let p = first-gave (schemaChildren big fs) (λ cs. schemaNode big i e (q .0) 0 cs absent) s (q .2) in
+        carry big Nine i e (q .0) 0 (p .0) absent s (p .2)
+        (λ l. node-nine big i e (q .0) 0 (p .0) absent (utf8-grouping c (countFields fs) (q .0) (q .1)) hi x (l .0)
+        (rw (read-grouping (isSorted (pos (flag (i .nullable) NULLABLE + 0))) c (countFields fs) (q .0) (h .0) (omega (arith, leb-true (countSchemas (p .0)) (2 ^ 31) (l .1 .0), count-export big fs (p .0) (p .1))) (q .1))
+        (only-chain nine (allOf (toFields big (p .0))) _ (fields-nine fs (p .0) (h .1) (p .1) (l .1 .1 .0)) (λ a r. only-given nine _))))
+    type-nine (dictionary ix ordered t) i none s h hi x g =
+        let q = first-gave (indexFormat ix) (λ f. schemaNewOf big t valuesInfo none >>= λ d. schemaNode big i none f (flag ordered ORDERED) end (present d)) s g in
+        let p = first-gave (schemaNewOf big t valuesInfo none) (λ d. schemaNode big i none (q .0) (flag ordered ORDERED) end (present d)) s (q .2) in
+        carry big Nine i none (q .0) (flag ordered ORDERED) end (present (p .0)) s (p .2)
+        (λ l. node-nine big i none (q .0) (flag ordered ORDERED) end (present (p .0)) (utf8-scalar (leaf (ix + Kind.Int8) 0) (q .0) (index-leaf ix (h .0)) (q .1)) hi x (l .0)
+        (only-chain nine (toIntegerType (q .0)) _ (index-nine (q .0))
+        (λ k r. only-chain nine (toField big (p .0)) _ (type-nine t valuesInfo none (p .0) (h .1) values-rule refl (p .1) (l .1 .1 .1)) (λ v w. only-given nine _))))
+    type-nine (dictionary ix ordered t) i (some e) s h hi x g =
+        let q = first-gave (indexFormat ix) (λ f. schemaNode big i (some e) f 0 end absent) s g in
+        carry big Nine i (some e) (q .0) 0 end absent s (q .2)
+        (λ l. node-nine big i (some e) (q .0) 0 end absent (utf8-scalar (leaf (ix + Kind.Int8) 0) (q .0) (index-leaf ix (h .0)) (q .1)) hi x (l .0)
+        (rw (read-scalar (isSorted (pos (flag (i .nullable) NULLABLE + 0))) (leaf (ix + Kind.Int8) 0) (q .0) (index-leaf ix (h .0)) (q .1)) (only-given nine _)))
+    type-nine (extension n m t) i none s h hi x g = type-nine t i (some (n, m)) s (h .1 .1) hi (h .0, h .1 .0) g
+    type-nine (extension n m t) i (some e) s h hi x g = type-nine t i (some e) s (h .1 .1) hi x g
 
-  fields-nine : (fs : Fields) (cs : Schemas) → Meets (fieldsRule fs) → schemaChildren fs ≡ given cs → Meets (childrenShort cs) → Only nine (allOf (toFields cs))
-  fields-nine nil cs h g =
-      let e : end ≡ cs = cc in
-      subst (λ c. Meets (childrenShort c) → Only nine (allOf (toFields c))) e (λ l. only-given nine _)
-  fields-nine (add i t fs) cs h g =
-      let q = first-gave (schemaNewOf t i none) (λ c. schemaChildren fs >>= λ r. given (c & r)) cs g in
-      let p = first-gave (schemaChildren fs) (λ r. given (q .0 & r)) cs (q .2) in
-      let e : q .0 & p .0 ≡ cs = cc in
-      subst (λ c. Meets (childrenShort c) → Only nine (allOf (toFields c))) e
-      (λ l. only-chain nine (toField (q .0)) _ (type-nine t i none (q .0) (h .1 .0) (h .0) refl (q .1) (l .0))
-      (λ a r. only-chain nine (allOf (toFields (p .0))) _ (fields-nine fs (p .0) (h .1 .1) (p .1) (l .1)) (λ b w. only-given nine _)))
+    fields-nine : (fs : Fields) (cs : Schemas) → Meets (fieldsRule fs) → schemaChildren big fs ≡ given cs → Meets (childrenShort cs) → Only nine (allOf (toFields big cs))
+    fields-nine nil cs h g =
+        let e : end ≡ cs = cc in
+        subst (λ c. Meets (childrenShort c) → Only nine (allOf (toFields big c))) e (λ l. only-given nine _)
+    fields-nine (add i t fs) cs h g =
+        let q = first-gave (schemaNewOf big t i none) (λ c. schemaChildren big fs >>= λ r. given (c & r)) cs g in
+        let p = first-gave (schemaChildren big fs) (λ r. given (q .0 & r)) cs (q .2) in
+        let e : q .0 & p .0 ≡ cs = cc in
+        subst (λ c. Meets (childrenShort c) → Only nine (allOf (toFields big c))) e
+        (λ l. only-chain nine (toField big (q .0)) _ (type-nine t i none (q .0) (h .1 .0) (h .0) refl (q .1) (l .0))
+        (λ a r. only-chain nine (allOf (toFields big (p .0))) _ (fields-nine fs (p .0) (h .1 .1) (p .1) (l .1)) (λ b w. only-given nine _)))
 
 -- ── the sheet
 
@@ -143,23 +145,24 @@ returnNumbers = 1 ∷ 9 ∷ []
 nine-return : (n : ℕ) → oneOf nine n ≡ true → oneOf returnNumbers n ≡ true
 nine-return n k = rw k (or-true (eqb n 1))
 
-schema-return : (f : Field) (s : Schema) → Meets (fieldRule f) → fieldLevels f ≤ 32 → schemaNew f ≡ given s → Only returnNumbers (imported (writeSchemaSheet s))
-unfolding imported
-schema-return f s h l g = pick (leb (length (writeSchemaSheet s)) 65535) refl
-  where
-    pick : (t : Bool) → leb (length (writeSchemaSheet s)) 65535 ≡ t → Only returnNumbers (imported (writeSchemaSheet s))
-    pick false e = rw e (only-refused returnNumbers notSheet refl)
-    pick true e =
-        let a = export-good f s h g in
-        rw (read-schema-sheet s (a .1) (a .0) (le-leb (schemaLevels s) 32 (omega (arith, a .2))) e)
-        (only-chain returnNumbers (toField s) _ (λ r k. nine-return (numberOf r) (type-nine (f .type) (f .info) none s (h .1) (h .0) refl g (sheet-short s e) r k)) (λ b k. only-given returnNumbers _))
+module _ (big : Bool) where
+  schema-return : (f : Field) (s : Schema) → Meets (fieldRule f) → fieldLevels f ≤ 32 → schemaNew big f ≡ given s → Only returnNumbers (imported big (writeSchemaSheet s))
+  unfolding imported
+  schema-return f s h l g = pick (leb (length (writeSchemaSheet s)) 65535) refl
+    where
+      pick : (t : Bool) → leb (length (writeSchemaSheet s)) 65535 ≡ t → Only returnNumbers (imported big (writeSchemaSheet s))
+      pick false e = rw e (only-refused returnNumbers notSheet refl)
+      pick true e =
+          let a = export-good big f s h g in
+          rw (read-schema-sheet s (a .1) (a .0) (le-leb (schemaLevels s) 32 (omega (arith, a .2))) e)
+          (only-chain returnNumbers (toField big s) _ (λ r k. nine-return (numberOf r) (type-nine big (f .type) (f .info) none s (h .1) (h .0) refl g (sheet-short s e) r k)) (λ b k. only-given returnNumbers _))
 
--- import of what export wrote, for any field sheet
-pub return-numbers : (b x : Bytes) → exported b ≡ given x → Only returnNumbers (imported x)
-unfolding exported
-return-numbers b x h =
-    let f = first-gave (readFieldSheet b) _ x h in
-    let s = first-gave (schemaNew (f .0)) _ x (f .2) in
-    let k = field-read b (f .0) (f .1) in
-    let same : writeSchemaSheet (s .0) ≡ x = cc in
-    subst (λ y. Only returnNumbers (imported y)) same (schema-return (f .0) (s .0) (k .0) (leb-true (fieldLevels (f .0)) 32 (k .1)) (s .1))
+  -- import of what export wrote, for any field sheet
+  pub return-numbers : (b x : Bytes) → exported big b ≡ given x → Only returnNumbers (imported big x)
+  unfolding exported
+  return-numbers b x h =
+      let f = first-gave (readFieldSheet b) _ x h in
+      let s = first-gave (schemaNew big (f .0)) _ x (f .2) in
+      let k = field-read b (f .0) (f .1) in
+      let same : writeSchemaSheet (s .0) ≡ x = cc in
+      subst (λ y. Only returnNumbers (imported big y)) same (schema-return (f .0) (s .0) (k .0) (leb-true (fieldLevels (f .0)) 32 (k .1)) (s .1))

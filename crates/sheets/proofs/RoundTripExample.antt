@@ -10,7 +10,7 @@ use Rattle.sheets.specs.Number.{decimal}
 use Rattle.sheets.specs.Format.{rows}
 use Rattle.sheets.specs.Bench.{fieldSheet, times}
 use Rattle.sheets.specs.Outcome.{imported, exported, plained, outcome}
-use Rattle.sheets.specs.RoundTrip.{Buffers, cleared, RoundTrip, allSame, exportRefused, importRefused, plainRefused, againRefused, importDiffers, roundTripOutcome, SameExports, compared, oneExportRefused, otherExportRefused, onePlainRefused, otherPlainRefused, sameExportsOutcome, TripRoom}
+use Rattle.sheets.specs.RoundTrip.{Buffers, cleared, RoundTrip, allSame, exportRefused, importRefused, plainRefused, againRefused, importDiffers, roundTripOutcomeIn, roundTripOutcome, SameExports, compared, oneExportRefused, otherExportRefused, onePlainRefused, otherPlainRefused, sameExportsOutcome, TripRoom}
 use Rattle.sheets.proofs.Demand3Example.{fieldText, schemaText, plainText, here}
 use Rattle.sheets.proofs.RoundTripLaws.{round-trip}
 
@@ -51,22 +51,24 @@ trips =
     ∷ roundTripOutcome (fieldSheet (ascii "37 0 0 65 ~ - 0 ~ 1\n32 4 0 ~ ~ ~ ~ ~ 1\n25 0 0 ~ ~ ~ ~ ~ 0\n")) (buffers 999 999 999 999) .answer
     -- a reserved key
     ∷ roundTripOutcome (fieldSheet (ascii "0 0 0 ~ ~ - 0 4152524f573a657874656e73696f6e3a6e616d65=65 0\n")) (buffers 999 999 999 999) .answer
+    -- big-endian
+    ∷ roundTripOutcomeIn true fieldText (buffers 999 999 999 999) .answer
     ∷ []
 
-pub trips-right : trips ≡ allSame ∷ exportRefused 16 ∷ importRefused 16 ∷ plainRefused 16 ∷ againRefused 16 ∷ exportRefused 1 ∷ exportRefused 2 ∷ exportRefused 3 ∷ exportRefused 12 ∷ exportRefused 13 ∷ exportRefused 14 ∷ importRefused 9 ∷ allSame ∷ importDiffers ∷ []
+pub trips-right : trips ≡ allSame ∷ exportRefused 16 ∷ importRefused 16 ∷ plainRefused 16 ∷ againRefused 16 ∷ exportRefused 1 ∷ exportRefused 2 ∷ exportRefused 3 ∷ exportRefused 12 ∷ exportRefused 13 ∷ exportRefused 14 ∷ importRefused 9 ∷ allSame ∷ importDiffers ∷ allSame ∷ []
 unfolding rows decimal imported exported plained outcome
 trips-right = refl
 
 -- two fields: alike, unlike, and alike in their exports alone, which a reserved key allows
 abbrev pub pairs : List SameExports
 pairs =
-    sameExportsOutcome fieldText plainText (buffers 999 999 999 999) .answer
-    ∷ sameExportsOutcome fieldText (fieldSheet (ascii "0 0 0 ~ ~ - 0 ~ 0\n")) (buffers 999 999 999 999) .answer
-    ∷ sameExportsOutcome (fieldSheet (ascii "0 0 0 ~ ~ - 0 4152524f573a657874656e73696f6e3a6e616d65=65 0\n")) (fieldSheet (ascii "37 0 0 65 ~ - 0 ~ 1\n0 0 0 ~ ~ ~ ~ ~ 0\n")) (buffers 999 999 999 999) .answer
-    ∷ sameExportsOutcome (fieldSheet (ascii "40 0 0 ~ ~ - 0 ~ 0\n")) plainText (buffers 999 999 999 999) .answer
-    ∷ sameExportsOutcome fieldText [] (buffers 999 999 999 999) .answer
-    ∷ sameExportsOutcome fieldText plainText (buffers 999 999 9 999) .answer
-    ∷ sameExportsOutcome fieldText plainText (buffers 999 999 999 9) .answer
+    sameExportsOutcome false fieldText plainText (buffers 999 999 999 999) .answer
+    ∷ sameExportsOutcome false fieldText (fieldSheet (ascii "0 0 0 ~ ~ - 0 ~ 0\n")) (buffers 999 999 999 999) .answer
+    ∷ sameExportsOutcome false (fieldSheet (ascii "0 0 0 ~ ~ - 0 4152524f573a657874656e73696f6e3a6e616d65=65 0\n")) (fieldSheet (ascii "37 0 0 65 ~ - 0 ~ 1\n0 0 0 ~ ~ ~ ~ ~ 0\n")) (buffers 999 999 999 999) .answer
+    ∷ sameExportsOutcome false (fieldSheet (ascii "40 0 0 ~ ~ - 0 ~ 0\n")) plainText (buffers 999 999 999 999) .answer
+    ∷ sameExportsOutcome false fieldText [] (buffers 999 999 999 999) .answer
+    ∷ sameExportsOutcome false fieldText plainText (buffers 999 999 9 999) .answer
+    ∷ sameExportsOutcome false fieldText plainText (buffers 999 999 999 9) .answer
     ∷ []
 
 pub pairs-right : pairs ≡ compared true true ∷ compared false false ∷ compared true false ∷ oneExportRefused 12 ∷ otherExportRefused 1 ∷ onePlainRefused 16 ∷ otherPlainRefused 16 ∷ []

@@ -1,6 +1,6 @@
 -- `round_trip`: under the conditions of demand 3 it says that all is the same, and each buffer is what the demand says; what it answers then with
 -- any buffers; and, for every sheet and all buffers, what each answer means, which numbers each step can give, and what every lent byte is. By cases
--- of the four steps in order. Assumes nothing.
+-- of the four steps in order; once for both orders of the metadata. Assumes nothing.
 use mathlib.Core.Path.{_≡_, refl, sym, _∙_, ap, subst}
 use mathlib.Core.Logic.{_↔_, _≢_}
 use mathlib.Core.Bool.{Bool, true, false, cond, or-true}
@@ -19,9 +19,9 @@ use Rattle.sheets.specs.Schema.{Schema, writeSchemaSheet}
 use Rattle.sheets.specs.Field.{Field, fieldRule, fieldLevels}
 use Rattle.sheets.specs.Export.{schemaNew}
 use Rattle.sheets.specs.Plain.{plain}
-use Rattle.sheets.specs.Outcome.{Outcome, success, outcome, imported, exported, plained, exportOutcome}
+use Rattle.sheets.specs.Outcome.{Outcome, success, outcome, imported, exported, plained, exportOutcomeIn}
 use Rattle.sheets.specs.Demand3.{NoReservedKey, NoWideIndex, IsShort, written, Exportable, exportOf, plainFormOf}
-use Rattle.sheets.specs.RoundTrip.{Steps, Buffers, stepBuffers, cleared, buffersAfter, sameWritten, RoundTrip, allSame, exportRefused, importRefused, plainRefused, againRefused, importDiffers, againDiffers, roundTripNumber, tripSteps, tripAnswer, roundTripOutcome, TripRoom, fourSheets}
+use Rattle.sheets.specs.RoundTrip.{Steps, Buffers, stepBuffers, cleared, buffersAfter, sameWritten, RoundTrip, allSame, exportRefused, importRefused, plainRefused, againRefused, importDiffers, againDiffers, roundTripNumber, tripSteps, tripAnswer, roundTripOutcomeIn, TripRoom, fourSheets}
 use Rattle.sheets.proofs.BytesLaws.{same-refl, same-eq}
 use Rattle.sheets.proofs.OutcomeLaws.{Cases, turnedBack, tooLong, answered, cases, turned, fits, fits-not, number-at-most, zero-answers, written-success}
 use Rattle.sheets.proofs.Tests.{first-gave, same-given, not-given, never}
@@ -34,38 +34,42 @@ use Rattle.sheets.proofs.Demand3.{comes-back, goes-again}
 
 -- ── under the conditions
 
-pub exported-given : (e : Exportable) → exported (e .sheet) ≡ given (exportOf e)
-exported-given e =
-    let z = zero-answers (exported (e .sheet)) (e .buffer) (e .answersZero) in
-    z .1 ∙ ap given (sym (ap written (z .3) ∙ written-success (z .0) (e .buffer)))
+module _ {big : Bool} where
+  pub exported-given : (e : Exportable big) → exported big (e .sheet) ≡ given (exportOf e)
+  exported-given e =
+      let z = zero-answers (exported big (e .sheet)) (e .buffer) (e .answersZero) in
+      z .1 ∙ ap given (sym (ap written (z .3) ∙ written-success (z .0) (e .buffer)))
 
 plained-of : (b : Bytes) (f : Field) → readFieldSheet b ≡ given f → plained b ≡ given (writeFieldSheet (plain f))
 unfolding plained
 plained-of b f h = rw h
 
-pub plained-given : (e : Exportable) → plained (e .sheet) ≡ given (plainFormOf e)
-plained-given e = plained-of (e .sheet) (e .field) (e .isField)
+module _ {big : Bool} where
+  pub plained-given : (e : Exportable big) → plained (e .sheet) ≡ given (plainFormOf e)
+  plained-given e = plained-of (e .sheet) (e .field) (e .isField)
 
 abbrev tripSuccess : Bytes → Bytes → Buffers → Steps
 tripSuccess x p out = fourSheets x p p x out
 
-given-steps : (b x p : Bytes) (out : Buffers) → exported b ≡ given x → imported x ≡ given p → plained b ≡ given p → exported p ≡ given x
-    → length x ≤ length (out .first) → length p ≤ length (out .second) → length p ≤ length (out .third) → length x ≤ length (out .fourth)
-    → tripSteps b out ≡ tripSuccess x p out
-given-steps b x p out h i j k r s t u =
-    simp (h, fits x (out .first) r, written-success, i, fits p (out .second) s, j, fits p (out .third) t, k, fits x (out .fourth) u)
+module _ (big : Bool) where
+  given-steps : (b x p : Bytes) (out : Buffers) → exported big b ≡ given x → imported big x ≡ given p → plained b ≡ given p → exported big p ≡ given x
+      → length x ≤ length (out .first) → length p ≤ length (out .second) → length p ≤ length (out .third) → length x ≤ length (out .fourth)
+      → tripSteps big b out ≡ tripSuccess x p out
+  given-steps b x p out h i j k r s t u =
+      simp (h, fits x (out .first) r, written-success, i, fits p (out .second) s, j, fits p (out .third) t, k, fits x (out .fourth) u)
 
 success-same : (x p : Bytes) (out : Buffers) → tripAnswer (tripSuccess x p out) ≡ allSame
 success-same x p out = simp (written-success, same-refl)
 
--- "importing its export answers 0 and gives its plain form, byte for byte; exporting the plain form gives the same bytes as exporting the field":
--- the answer is that all is the same, and each buffer has the sheet that the demand says, and past it what it held
-pub round-trip : (e : Exportable) (out : Buffers) → TripRoom e out → IsShort (plainFormOf e)
-    → roundTripOutcome (e .sheet) out ≡ record { answer = allSame; buffers = stepBuffers (fourSheets (exportOf e) (plainFormOf e) (plainFormOf e) (exportOf e) out) }
-round-trip e out room short =
-    let s = given-steps (e .sheet) (exportOf e) (plainFormOf e) out (exported-given e) (comes-back e) (plained-given e) (goes-again e short) (room .first) (room .second) (room .third) (room .fourth) in
-    let a = ap tripAnswer s ∙ success-same (exportOf e) (plainFormOf e) out in
-    λ i. record { answer = a i; buffers = (ap (λ (n : ℕ). buffersAfter n (tripSteps (e .sheet) out) out) (ap roundTripNumber a) ∙ ap stepBuffers s) i }
+module _ {big : Bool} where
+  -- "importing its export answers 0 and gives its plain form, byte for byte; exporting the plain form gives the same bytes as exporting the field":
+  -- the answer is that all is the same, and each buffer has the sheet that the demand says, and past it what it held
+  pub round-trip : (e : Exportable big) (out : Buffers) → TripRoom e out → IsShort (plainFormOf e)
+      → roundTripOutcomeIn big (e .sheet) out ≡ record { answer = allSame; buffers = stepBuffers (fourSheets (exportOf e) (plainFormOf e) (plainFormOf e) (exportOf e) out) }
+  round-trip e out room short =
+      let s = given-steps big (e .sheet) (exportOf e) (plainFormOf e) out (exported-given e) (comes-back big e) (plained-given e) (goes-again big e short) (room .first) (room .second) (room .third) (room .fourth) in
+      let a = ap tripAnswer s ∙ success-same (exportOf e) (plainFormOf e) out in
+      λ i. record { answer = a i; buffers = (ap (λ (n : ℕ). buffersAfter n (tripSteps big (e .sheet) out) out) (ap roundTripNumber a) ∙ ap stepBuffers s) i }
 
 -- ── under the conditions, whatever the buffers hold and however long they are: exactly this is answered
 
@@ -84,38 +88,39 @@ tripExpected x p out =
     (importRefused 16))
     (exportRefused 16)
 
--- a sheet that is too long is refused with 1
-too-long : (p : Bytes) → leb (length p) 65535 ≡ false → exported p ≡ refused notSheet
-unfolding exported
-too-long p h = rw h
+module _ (big : Bool) where
+  -- a sheet that is too long is refused with 1
+  too-long : (p : Bytes) → leb (length p) 65535 ≡ false → exported big p ≡ refused notSheet
+  unfolding exported
+  too-long p h = rw h
 
-module _ (b x p : Bytes) (out : Buffers) (h : exported b ≡ given x) (i : imported x ≡ given p) (j : plained b ≡ given p) (k : IsShort p → exported p ≡ given x) where
-  step-1 : fitsIn x (out .first) ≡ true → exportOutcome b (out .first) ≡ success x (out .first)
-  step-1 r = ap (λ (a : Answer Bytes). outcome a (out .first)) h ∙ fits x (out .first) (leb-true (length x) (length (out .first)) r)
+  module _ (b x p : Bytes) (out : Buffers) (h : exported big b ≡ given x) (i : imported big x ≡ given p) (j : plained b ≡ given p) (k : IsShort p → exported big p ≡ given x) where
+    step-1 : fitsIn x (out .first) ≡ true → exportOutcomeIn big b (out .first) ≡ success x (out .first)
+    step-1 r = ap (λ (a : Answer Bytes). outcome a (out .first)) h ∙ fits x (out .first) (leb-true (length x) (length (out .first)) r)
 
-  abbrev Expects : Bool → Bool → Bool → Bool → Bool → Type 0
-  Expects r s t l u =
-      tripAnswer (tripSteps b out) ≡ cond r (cond s (cond t (cond l (cond u allSame (againRefused 16)) (againRefused 1)) (plainRefused 16)) (importRefused 16)) (exportRefused 16)
+    abbrev Expects : Bool → Bool → Bool → Bool → Bool → Type 0
+    Expects r s t l u =
+        tripAnswer (tripSteps big b out) ≡ cond r (cond s (cond t (cond l (cond u allSame (againRefused 16)) (againRefused 1)) (plainRefused 16)) (importRefused 16)) (exportRefused 16)
 
-  expected : (r s t l u : Bool) → fitsIn x (out .first) ≡ r → fitsIn p (out .second) ≡ s → fitsIn p (out .third) ≡ t → leb (length p) 65535 ≡ l → fitsIn x (out .fourth) ≡ u → Expects r s t l u
-  expected false s t l u er es et el eu = rw (h, fits-not x (out .first) (leb-false (length x) (length (out .first)) er))
-  expected true false t l u er es et el eu =
-      rw (step-1 er, written-success x (out .first), i, fits-not p (out .second) (leb-false (length p) (length (out .second)) es))
-  expected true true false l u er es et el eu =
-      simp (step-1 er, written-success, i, fits p (out .second) (leb-true (length p) (length (out .second)) es), j, fits-not p (out .third) (leb-false (length p) (length (out .third)) et))
-  expected true true true false u er es et el eu =
-      simp (step-1 er, written-success, i, fits p (out .second) (leb-true (length p) (length (out .second)) es), j, fits p (out .third) (leb-true (length p) (length (out .third)) et), too-long p el, turned notSheet (out .fourth))
-  expected true true true true false er es et el eu =
-      simp (step-1 er, written-success, i, fits p (out .second) (leb-true (length p) (length (out .second)) es), j, fits p (out .third) (leb-true (length p) (length (out .third)) et), k (leb-true (length p) 65535 el), fits-not x (out .fourth) (leb-false (length x) (length (out .fourth)) eu))
-  expected true true true true true er es et el eu =
-      ap tripAnswer (given-steps b x p out h i j (k (leb-true (length p) 65535 el)) (leb-true (length x) (length (out .first)) er) (leb-true (length p) (length (out .second)) es) (leb-true (length p) (length (out .third)) et) (leb-true (length x) (length (out .fourth)) eu))
-      ∙ success-same x p out
+    expected : (r s t l u : Bool) → fitsIn x (out .first) ≡ r → fitsIn p (out .second) ≡ s → fitsIn p (out .third) ≡ t → leb (length p) 65535 ≡ l → fitsIn x (out .fourth) ≡ u → Expects r s t l u
+    expected false s t l u er es et el eu = rw (h, fits-not x (out .first) (leb-false (length x) (length (out .first)) er))
+    expected true false t l u er es et el eu =
+        rw (step-1 er, written-success x (out .first), i, fits-not p (out .second) (leb-false (length p) (length (out .second)) es))
+    expected true true false l u er es et el eu =
+        simp (step-1 er, written-success, i, fits p (out .second) (leb-true (length p) (length (out .second)) es), j, fits-not p (out .third) (leb-false (length p) (length (out .third)) et))
+    expected true true true false u er es et el eu =
+        simp (step-1 er, written-success, i, fits p (out .second) (leb-true (length p) (length (out .second)) es), j, fits p (out .third) (leb-true (length p) (length (out .third)) et), too-long p el, turned notSheet (out .fourth))
+    expected true true true true false er es et el eu =
+        simp (step-1 er, written-success, i, fits p (out .second) (leb-true (length p) (length (out .second)) es), j, fits p (out .third) (leb-true (length p) (length (out .third)) et), k (leb-true (length p) 65535 el), fits-not x (out .fourth) (leb-false (length x) (length (out .fourth)) eu))
+    expected true true true true true er es et el eu =
+        ap tripAnswer (given-steps big b x p out h i j (k (leb-true (length p) 65535 el)) (leb-true (length x) (length (out .first)) er) (leb-true (length p) (length (out .second)) es) (leb-true (length p) (length (out .third)) et) (leb-true (length x) (length (out .fourth)) eu))
+        ∙ success-same x p out
 
--- what `round_trip` answers to a field that meets the conditions, with any buffers
-pub round-trip-exactly : (e : Exportable) (out : Buffers) → roundTripOutcome (e .sheet) out .answer ≡ tripExpected (exportOf e) (plainFormOf e) out
-round-trip-exactly e out =
-    expected (e .sheet) (exportOf e) (plainFormOf e) out (exported-given e) (comes-back e) (plained-given e) (goes-again e)
-    (fitsIn (exportOf e) (out .first)) (fitsIn (plainFormOf e) (out .second)) (fitsIn (plainFormOf e) (out .third)) (leb (length (plainFormOf e)) 65535) (fitsIn (exportOf e) (out .fourth)) refl refl refl refl refl
+  -- what `round_trip` answers to a field that meets the conditions, with any buffers
+  pub round-trip-exactly : (e : Exportable big) (out : Buffers) → roundTripOutcomeIn big (e .sheet) out .answer ≡ tripExpected (exportOf e) (plainFormOf e) out
+  round-trip-exactly e out =
+      expected (e .sheet) (exportOf e) (plainFormOf e) out (exported-given e) (comes-back big e) (plained-given e) (goes-again big e)
+      (fitsIn (exportOf e) (out .first)) (fitsIn (plainFormOf e) (out .second)) (fitsIn (plainFormOf e) (out .third)) (leb (length (plainFormOf e)) 65535) (fitsIn (exportOf e) (out .fourth)) refl refl refl refl refl
 
 -- ── the buffers after a call, by its number
 
@@ -192,159 +197,160 @@ number-among ns a out h d = go (cases a out)
     go (answered x e l o) = absurd (d (ap (λ (y : Outcome). y .number) o))
 
 -- a sheet that was exported and its plain form
-pub record Both (b x p : Bytes) : Type 0 where
+pub record Both (big : Bool) (b x p : Bytes) : Type 0 where
   pub field : Field
   pub schema : Schema
   pub isField : readFieldSheet b ≡ given field
-  pub isExported : schemaNew field ≡ given schema
+  pub isExported : schemaNew big field ≡ given schema
   pub isWritten : writeSchemaSheet schema ≡ x
   pub isPlain : writeFieldSheet (plain field) ≡ p
 
-pub both-of : (b x p : Bytes) → exported b ≡ given x → plained b ≡ given p → Both b x p
-unfolding exported plained
-both-of b x p h k =
-    let f = first-gave (readFieldSheet b) _ x h in
-    let s = first-gave (schemaNew (f .0)) _ x (f .2) in
-    let q : given (writeFieldSheet (plain (f .0))) ≡ given p = rw (f .1) at k in
-    record { field = f .0; schema = s .0; isField = f .1; isExported = s .1; isWritten = same-given (s .2); isPlain = same-given q }
+module _ (big : Bool) where
+  pub both-of : (b x p : Bytes) → exported big b ≡ given x → plained b ≡ given p → Both big b x p
+  unfolding exported plained
+  both-of b x p h k =
+      let f = first-gave (readFieldSheet b) _ x h in
+      let s = first-gave (schemaNew big (f .0)) _ x (f .2) in
+      let q : given (writeFieldSheet (plain (f .0))) ≡ given p = rw (f .1) at k in
+      record { field = f .0; schema = s .0; isField = f .1; isExported = s .1; isWritten = same-given (s .2); isPlain = same-given q }
 
--- a sheet that can be exported has a plain form
-pub plain-there : (b x : Bytes) → exported b ≡ given x → (p : Bytes) × (plained b ≡ given p)
-unfolding exported
-plain-there b x h =
-    let f = first-gave (readFieldSheet b) _ x h in
-    (writeFieldSheet (plain (f .0)), plained-of b (f .0) (f .1))
+  -- a sheet that can be exported has a plain form
+  pub plain-there : (b x : Bytes) → exported big b ≡ given x → (p : Bytes) × (plained b ≡ given p)
+  unfolding exported
+  plain-there b x h =
+      let f = first-gave (readFieldSheet b) _ x h in
+      (writeFieldSheet (plain (f .0)), plained-of b (f .0) (f .1))
 
-both-rule : {b x p : Bytes} → (t : Both b x p) → Meets (fieldRule (plain (t .field)))
-both-rule {b} t = plain-rule (t .field) (field-few (t .field) (field-sheet-short b (t .field) (t .isField))) (field-read b (t .field) (t .isField) .0)
+  both-rule : {b x p : Bytes} → (t : Both big b x p) → Meets (fieldRule (plain (t .field)))
+  both-rule {b} t = plain-rule (t .field) (field-few (t .field) (field-sheet-short b (t .field) (t .isField))) (field-read b (t .field) (t .isField) .0)
 
--- "exporting the plain form gives the same bytes as exporting the field": whatever is in the field
-again-any : {b x p : Bytes} → Both b x p → IsShort p → exported p ≡ given x
-unfolding exported
-again-any {b} {x} t short =
-    let f = t .field in
-    let levels : leb (fieldLevels (plain f)) 32 ≡ true = le-leb (fieldLevels (plain f)) 32 (omega (arith, plain-levels f, leb-true (fieldLevels f) 32 (field-read b f (t .isField) .1))) in
-    subst (λ y. IsShort y → exported y ≡ given x) (t .isPlain)
-    (λ l. rw (read-field-sheet (plain f) (both-rule t) levels (le-leb (length (writeFieldSheet (plain f))) 65535 l), export-plain f, t .isExported) (ap given (t .isWritten))) short
+  -- "exporting the plain form gives the same bytes as exporting the field": whatever is in the field
+  again-any : {b x p : Bytes} → Both big b x p → IsShort p → exported big p ≡ given x
+  unfolding exported
+  again-any {b} {x} t short =
+      let f = t .field in
+      let levels : leb (fieldLevels (plain f)) 32 ≡ true = le-leb (fieldLevels (plain f)) 32 (omega (arith, plain-levels f, leb-true (fieldLevels f) 32 (field-read b f (t .isField) .1))) in
+      subst (λ y. IsShort y → exported big y ≡ given x) (t .isPlain)
+      (λ l. rw (read-field-sheet (plain f) (both-rule t) levels (le-leb (length (writeFieldSheet (plain f))) 65535 l), export-plain big f, t .isExported) (ap given (t .isWritten))) short
 
--- plain forms that are equal have equal exports: whatever is in the fields
-pub alike-any : {b x p c y q : Bytes} → Both b x p → Both c y q → p ≡ q → x ≡ y
-alike-any t u e =
-    let f : plain (t .field) ≡ plain (u .field) = sheet-field (plain (t .field)) (plain (u .field)) (both-rule t) (both-rule u) (t .isPlain ∙ e ∙ sym (u .isPlain)) in
-    let s : t .schema ≡ u .schema = same-given (sym (t .isExported) ∙ sym (export-plain (t .field)) ∙ ap schemaNew f ∙ export-plain (u .field) ∙ u .isExported) in
-    sym (t .isWritten) ∙ ap writeSchemaSheet s ∙ u .isWritten
+  -- plain forms that are equal have equal exports: whatever is in the fields
+  pub alike-any : {b x p c y q : Bytes} → Both big b x p → Both big c y q → p ≡ q → x ≡ y
+  alike-any t u e =
+      let f : plain (t .field) ≡ plain (u .field) = sheet-field (plain (t .field)) (plain (u .field)) (both-rule t) (both-rule u) (t .isPlain ∙ e ∙ sym (u .isPlain)) in
+      let s : t .schema ≡ u .schema = same-given (sym (t .isExported) ∙ sym (export-plain big (t .field)) ∙ ap (schemaNew big) f ∙ export-plain big (u .field) ∙ u .isExported) in
+      sym (t .isWritten) ∙ ap writeSchemaSheet s ∙ u .isWritten
 
-again-numbers : {b x p : Bytes} → Both b x p → Only (1 ∷ []) (exported p)
-again-numbers {p = p} t = pick (leb (length p) 65535) refl
-  where
-    pick : (s : Bool) → leb (length p) 65535 ≡ s → Only (1 ∷ []) (exported p)
-    pick true e = only-known (1 ∷ []) (exported p) _ (again-any t (leb-true (length p) 65535 e))
-    pick false e = subst (λ (a : Answer Bytes). Only (1 ∷ []) a) (sym (too-long p e)) (only-refused (1 ∷ []) notSheet refl)
-
--- a sheet that was answered was short
-short-imported : (x y : Bytes) → imported x ≡ given y → IsShort x
-unfolding imported
-short-imported x y h = pick (leb (length x) 65535) refl
-  where
-    pick : (s : Bool) → leb (length x) 65535 ≡ s → IsShort x
-    pick true e = leb-true (length x) 65535 e
-    pick false e = not-given (rw e at h)
-
-short-exported : (x y : Bytes) → exported x ≡ given y → IsShort x
-short-exported x y h = pick (leb (length x) 65535) refl
-  where
-    pick : (s : Bool) → leb (length x) 65535 ≡ s → IsShort x
-    pick true e = leb-true (length x) 65535 e
-    pick false e = not-given (sym (too-long x e) ∙ h)
-
--- ── the laws, for every sheet and all buffers
-
-module _ (b : Bytes) (out : Buffers) where
-  abbrev Says : RoundTrip → Type 0
-  Says x = roundTripOutcome b out .answer ≡ x
-
-  abbrev steps : Steps
-  steps = tripSteps b out
-
-  -- what the answer x says of the steps
-  pub says : (x : RoundTrip) → Says x → Told steps x
-  says x h = subst (Told steps) h (told steps)
-
-  -- it never says that all is the same when a step was refused, or when the bytes differ
-  pub same-means : Says allSame → NoneRefused steps × (written (steps .second) ≡ written (steps .third)) × (written (steps .fourth) ≡ written (steps .first))
-  same-means h = says allSame h
-
-  -- a refused export: the numbers of the sheet's maker, of the field's owner, or 16
-  pub export-refused : (n : ℕ) → Says (exportRefused n) → oneOf (16 ∷ exportNumbers) n ≡ true
-  export-refused n h =
-      let t = says (exportRefused n) h in
-      subst (λ (m : ℕ). oneOf (16 ∷ exportNumbers) m ≡ true) (t .0) (number-among exportNumbers (exported b) (out .first) (export-numbers b) (t .1))
-
-  -- a refused import: 1 where the export is too long to be handed in, 9 for a dictionary index of 128 bits, or 16
-  pub import-refused : (n : ℕ) → Says (importRefused n) → oneOf (16 ∷ returnNumbers) n ≡ true
-  import-refused n h =
-      let t = says (importRefused n) h in
-      let only = return-numbers b (written (steps .first)) (zero-gave (exported b) (out .first) (t .2)) in
-      subst (λ (m : ℕ). oneOf (16 ∷ returnNumbers) m ≡ true) (t .0) (number-among returnNumbers (imported (written (steps .first))) (out .second) only (t .1))
-
-  -- a refused plain form: 16 only
-  pub plain-refused : (n : ℕ) → Says (plainRefused n) → oneOf (16 ∷ []) n ≡ true
-  plain-refused n h =
-      let t = says (plainRefused n) h in
-      let p = plain-there b (written (steps .first)) (zero-gave (exported b) (out .first) (t .2)) in
-      subst (λ (m : ℕ). oneOf (16 ∷ []) m ≡ true) (t .0) (number-among [] (plained b) (out .third) (only-known [] (plained b) (p .0) (p .1)) (t .1))
-
-  -- the sheet, its export and its plain form, where both were answered
-  trip-both : steps .first .number ≡ 0 → steps .third .number ≡ 0 → Both b (written (steps .first)) (written (steps .third))
-  trip-both z y = both-of b (written (steps .first)) (written (steps .third)) (zero-gave (exported b) (out .first) z) (zero-gave (plained b) (out .third) y)
-
-  -- a refused second export: 1 where the plain form is too long to be handed in, or 16
-  pub again-refused : (n : ℕ) → Says (againRefused n) → oneOf (16 ∷ 1 ∷ []) n ≡ true
-  again-refused n h =
-      let t = says (againRefused n) h in
-      subst (λ (m : ℕ). oneOf (16 ∷ 1 ∷ []) m ≡ true) (t .0) (number-among (1 ∷ []) (exported (written (steps .third))) (out .fourth) (again-numbers (trip-both (t .2) (t .4))) (t .1))
-
-  -- the second export never differs from the first, whatever is in the field
-  pub again-never-differs : Says againDiffers → ⊥
-  again-never-differs h =
-      let t = says againDiffers h in
-      never (sym (t .2) ∙ ap (λ (y : Bytes). same y (written (steps .first))) (alike (t .0)) ∙ same-refl (written (steps .first)))
+  again-numbers : {b x p : Bytes} → Both big b x p → Only (1 ∷ []) (exported big p)
+  again-numbers {p = p} t = pick (leb (length p) 65535) refl
     where
-      alike : NoneRefused steps → written (steps .fourth) ≡ written (steps .first)
-      alike z =
-          let four = zero-gave (exported (written (steps .third))) (out .fourth) (z .fourth) in
-          same-given (sym four ∙ again-any (trip-both (z .first) (z .third)) (short-exported (written (steps .third)) (written (steps .fourth)) four))
+      pick : (s : Bool) → leb (length p) 65535 ≡ s → Only (1 ∷ []) (exported big p)
+      pick true e = only-known (1 ∷ []) (exported big p) _ (again-any t (leb-true (length p) 65535 e))
+      pick false e = subst (λ (a : Answer Bytes). Only (1 ∷ []) a) (sym (too-long big p e)) (only-refused (1 ∷ []) notSheet refl)
 
-  -- import gives another field than the plain form only where a key is reserved or an index has 128 bits
-  pub import-differs : Says importDiffers → (f : Field) → readFieldSheet b ≡ given f → NoReservedKey f → NoWideIndex f → ⊥
-  import-differs h f r k w =
-      let t = says importDiffers h in
-      never (sym (t .1) ∙ ap (λ (y : Bytes). same y (written (steps .third))) (alike (t .0)) ∙ same-refl (written (steps .third)))
+  -- a sheet that was answered was short
+  short-imported : (x y : Bytes) → imported big x ≡ given y → IsShort x
+  unfolding imported
+  short-imported x y h = pick (leb (length x) 65535) refl
     where
-      alike : NoneRefused steps → written (steps .second) ≡ written (steps .third)
-      alike z =
-          let two = zero-gave (imported (written (steps .first))) (out .second) (z .second) in
-          let e : Exportable = record { sheet = b; field = f; isField = r; noReservedKey = k; noWideIndex = w; buffer = out .first; answersZero = z .first; shortExport = short-imported (written (steps .first)) (written (steps .second)) two } in
-          same-given (sym two ∙ comes-back e ∙ sym (plained-of b f r) ∙ zero-gave (plained b) (out .third) (z .third))
+      pick : (s : Bool) → leb (length x) 65535 ≡ s → IsShort x
+      pick true e = leb-true (length x) 65535 e
+      pick false e = not-given (rw e at h)
 
-  -- the number of the answer is at most 16, and 0 exactly if no step was refused
-  pub number-means : (roundTripNumber (roundTripOutcome b out .answer) ≤ 16) × ((roundTripNumber (roundTripOutcome b out .answer) ≡ 0) ↔ NoneRefused steps)
-  number-means = go (roundTripOutcome b out .answer) (told steps)
+  short-exported : (x y : Bytes) → exported big x ≡ given y → IsShort x
+  short-exported x y h = pick (leb (length x) 65535) refl
     where
-      go : (r : RoundTrip) → Told steps r → (roundTripNumber r ≤ 16) × ((roundTripNumber r ≡ 0) ↔ NoneRefused steps)
-      go allSame t = (omega arith, (λ e. t .0, λ z. refl))
-      go (exportRefused n) t = (omega (arith, t .0, number-at-most (exported b) (out .first)), (λ e. absurd (t .1 (t .0 ∙ e)), λ z. sym (t .0) ∙ z .first))
-      go (importRefused n) t =
-          (omega (arith, t .0, number-at-most (imported (written (steps .first))) (out .second)), (λ e. absurd (t .1 (t .0 ∙ e)), λ z. sym (t .0) ∙ z .second))
-      go (plainRefused n) t = (omega (arith, t .0, number-at-most (plained b) (out .third)), (λ e. absurd (t .1 (t .0 ∙ e)), λ z. sym (t .0) ∙ z .third))
-      go (againRefused n) t =
-          (omega (arith, t .0, number-at-most (exported (written (steps .third))) (out .fourth)), (λ e. absurd (t .1 (t .0 ∙ e)), λ z. sym (t .0) ∙ z .fourth))
-      go importDiffers t = (omega arith, (λ e. t .0, λ z. refl))
-      go againDiffers t = (omega arith, (λ e. t .0, λ z. refl))
+      pick : (s : Bool) → leb (length x) 65535 ≡ s → IsShort x
+      pick true e = leb-true (length x) 65535 e
+      pick false e = not-given (sym (too-long big x e) ∙ h)
 
-  -- every lent byte: zeros where a step was refused, else what the steps left
-  pub refused-clears : roundTripNumber (roundTripOutcome b out .answer) ≢ 0 → roundTripOutcome b out .buffers ≡ cleared out
-  refused-clears h = after-refusal (roundTripNumber (roundTripOutcome b out .answer)) steps out h
+  -- ── the laws, for every sheet and all buffers
 
-  pub answered-keeps : roundTripNumber (roundTripOutcome b out .answer) ≡ 0 → roundTripOutcome b out .buffers ≡ stepBuffers steps
-  answered-keeps h = after-answer (roundTripNumber (roundTripOutcome b out .answer)) steps out h
+  module _ (b : Bytes) (out : Buffers) where
+    abbrev Says : RoundTrip → Type 0
+    Says x = roundTripOutcomeIn big b out .answer ≡ x
+
+    abbrev steps : Steps
+    steps = tripSteps big b out
+
+    -- what the answer x says of the steps
+    pub says : (x : RoundTrip) → Says x → Told steps x
+    says x h = subst (Told steps) h (told steps)
+
+    -- it never says that all is the same when a step was refused, or when the bytes differ
+    pub same-means : Says allSame → NoneRefused steps × (written (steps .second) ≡ written (steps .third)) × (written (steps .fourth) ≡ written (steps .first))
+    same-means h = says allSame h
+
+    -- a refused export: the numbers of the sheet's maker, of the field's owner, or 16
+    pub export-refused : (n : ℕ) → Says (exportRefused n) → oneOf (16 ∷ exportNumbers) n ≡ true
+    export-refused n h =
+        let t = says (exportRefused n) h in
+        subst (λ (m : ℕ). oneOf (16 ∷ exportNumbers) m ≡ true) (t .0) (number-among exportNumbers (exported big b) (out .first) (export-numbers big b) (t .1))
+
+    -- a refused import: 1 where the export is too long to be handed in, 9 for a dictionary index of 128 bits, or 16
+    pub import-refused : (n : ℕ) → Says (importRefused n) → oneOf (16 ∷ returnNumbers) n ≡ true
+    import-refused n h =
+        let t = says (importRefused n) h in
+        let only = return-numbers big b (written (steps .first)) (zero-gave (exported big b) (out .first) (t .2)) in
+        subst (λ (m : ℕ). oneOf (16 ∷ returnNumbers) m ≡ true) (t .0) (number-among returnNumbers (imported big (written (steps .first))) (out .second) only (t .1))
+
+    -- a refused plain form: 16 only
+    pub plain-refused : (n : ℕ) → Says (plainRefused n) → oneOf (16 ∷ []) n ≡ true
+    plain-refused n h =
+        let t = says (plainRefused n) h in
+        let p = plain-there b (written (steps .first)) (zero-gave (exported big b) (out .first) (t .2)) in
+        subst (λ (m : ℕ). oneOf (16 ∷ []) m ≡ true) (t .0) (number-among [] (plained b) (out .third) (only-known [] (plained b) (p .0) (p .1)) (t .1))
+
+    -- the sheet, its export and its plain form, where both were answered
+    trip-both : steps .first .number ≡ 0 → steps .third .number ≡ 0 → Both big b (written (steps .first)) (written (steps .third))
+    trip-both z y = both-of b (written (steps .first)) (written (steps .third)) (zero-gave (exported big b) (out .first) z) (zero-gave (plained b) (out .third) y)
+
+    -- a refused second export: 1 where the plain form is too long to be handed in, or 16
+    pub again-refused : (n : ℕ) → Says (againRefused n) → oneOf (16 ∷ 1 ∷ []) n ≡ true
+    again-refused n h =
+        let t = says (againRefused n) h in
+        subst (λ (m : ℕ). oneOf (16 ∷ 1 ∷ []) m ≡ true) (t .0) (number-among (1 ∷ []) (exported big (written (steps .third))) (out .fourth) (again-numbers (trip-both (t .2) (t .4))) (t .1))
+
+    -- the second export never differs from the first, whatever is in the field
+    pub again-never-differs : Says againDiffers → ⊥
+    again-never-differs h =
+        let t = says againDiffers h in
+        never (sym (t .2) ∙ ap (λ (y : Bytes). same y (written (steps .first))) (alike (t .0)) ∙ same-refl (written (steps .first)))
+      where
+        alike : NoneRefused steps → written (steps .fourth) ≡ written (steps .first)
+        alike z =
+            let four = zero-gave (exported big (written (steps .third))) (out .fourth) (z .fourth) in
+            same-given (sym four ∙ again-any (trip-both (z .first) (z .third)) (short-exported (written (steps .third)) (written (steps .fourth)) four))
+
+    -- import gives another field than the plain form only where a key is reserved or an index has 128 bits
+    pub import-differs : Says importDiffers → (f : Field) → readFieldSheet b ≡ given f → NoReservedKey f → NoWideIndex f → ⊥
+    import-differs h f r k w =
+        let t = says importDiffers h in
+        never (sym (t .1) ∙ ap (λ (y : Bytes). same y (written (steps .third))) (alike (t .0)) ∙ same-refl (written (steps .third)))
+      where
+        alike : NoneRefused steps → written (steps .second) ≡ written (steps .third)
+        alike z =
+            let two = zero-gave (imported big (written (steps .first))) (out .second) (z .second) in
+            let e : Exportable big = record { sheet = b; field = f; isField = r; noReservedKey = k; noWideIndex = w; buffer = out .first; answersZero = z .first; shortExport = short-imported (written (steps .first)) (written (steps .second)) two } in
+            same-given (sym two ∙ comes-back big e ∙ sym (plained-of b f r) ∙ zero-gave (plained b) (out .third) (z .third))
+
+    -- the number of the answer is at most 16, and 0 exactly if no step was refused
+    pub number-means : (roundTripNumber (roundTripOutcomeIn big b out .answer) ≤ 16) × ((roundTripNumber (roundTripOutcomeIn big b out .answer) ≡ 0) ↔ NoneRefused steps)
+    number-means = go (roundTripOutcomeIn big b out .answer) (told steps)
+      where
+        go : (r : RoundTrip) → Told steps r → (roundTripNumber r ≤ 16) × ((roundTripNumber r ≡ 0) ↔ NoneRefused steps)
+        go allSame t = (omega arith, (λ e. t .0, λ z. refl))
+        go (exportRefused n) t = (omega (arith, t .0, number-at-most (exported big b) (out .first)), (λ e. absurd (t .1 (t .0 ∙ e)), λ z. sym (t .0) ∙ z .first))
+        go (importRefused n) t =
+            (omega (arith, t .0, number-at-most (imported big (written (steps .first))) (out .second)), (λ e. absurd (t .1 (t .0 ∙ e)), λ z. sym (t .0) ∙ z .second))
+        go (plainRefused n) t = (omega (arith, t .0, number-at-most (plained b) (out .third)), (λ e. absurd (t .1 (t .0 ∙ e)), λ z. sym (t .0) ∙ z .third))
+        go (againRefused n) t =
+            (omega (arith, t .0, number-at-most (exported big (written (steps .third))) (out .fourth)), (λ e. absurd (t .1 (t .0 ∙ e)), λ z. sym (t .0) ∙ z .fourth))
+        go importDiffers t = (omega arith, (λ e. t .0, λ z. refl))
+        go againDiffers t = (omega arith, (λ e. t .0, λ z. refl))
+
+    -- every lent byte: zeros where a step was refused, else what the steps left
+    pub refused-clears : roundTripNumber (roundTripOutcomeIn big b out .answer) ≢ 0 → roundTripOutcomeIn big b out .buffers ≡ cleared out
+    refused-clears h = after-refusal (roundTripNumber (roundTripOutcomeIn big b out .answer)) steps out h
+
+    pub answered-keeps : roundTripNumber (roundTripOutcomeIn big b out .answer) ≡ 0 → roundTripOutcomeIn big b out .buffers ≡ stepBuffers steps
+    answered-keeps h = after-answer (roundTripNumber (roundTripOutcomeIn big b out .answer)) steps out h

@@ -1,16 +1,17 @@
 -- Sheets that tell the wrong turns of document 01 from the right ones, and each refusal from its neighbours in the order of visiting: one table,
 -- by computation. The answers are the source's, but for document 02. Assumes nothing.
 use mathlib.Core.Path.{_≡_, refl}
+use mathlib.Core.Bool.{Bool, true, false}
 use mathlib.Core.List.{List, [], _∷_, _++_, map}
 use Prim.Native.Nat.{ℕ}
 use lib.ListN.{replicate}
 use Rattle.sheets.specs.Bytes.{Bytes, ascii}
 use Rattle.sheets.specs.Refusal.{noRoom}
 use Rattle.sheets.specs.Outcome.{imported, exported, plained, outcome, importOutcome}
-use Rattle.sheets.specs.Bench.{Case, Right, numbered, schemaSheet, fieldSheet, imports, importRefuses, exports, times}
+use Rattle.sheets.specs.Bench.{Case, Right, schemaSheet, fieldSheet, imports, importRefuses, exports, times}
 
 abbrev exportRefuses : Bytes → ℕ → Case
-exportRefuses a n = record { call = exported; sheet = fieldSheet a; wanted = (n, []) }
+exportRefuses a n = record { call = exported false; sheet = fieldSheet a; wanted = (n, []) }
 
 abbrev plains : Bytes → Bytes → Case
 plains a b = record { call = plained; sheet = fieldSheet a; wanted = (0, fieldSheet b) }
@@ -106,6 +107,48 @@ exportTurns =
 pub export-turns : Right exportTurns
 unfolding imported exported plained
 export-turns = refl
+
+-- document 02, #104: metadata in each order
+abbrev importsIn : Bool → Bytes → Bytes → Case
+importsIn big a b = record { call = imported big; sheet = schemaSheet a; wanted = (0, fieldSheet b) }
+
+abbrev importRefusesIn : Bool → Bytes → ℕ → Case
+importRefusesIn big a n = record { call = imported big; sheet = schemaSheet a; wanted = (n, []) }
+
+abbrev exportsIn : Bool → Bytes → Bytes → Case
+exportsIn big a b = record { call = exported big; sheet = fieldSheet a; wanted = (0, schemaSheet b) }
+
+abbrev pub orderTurns : List Case
+orderTurns =
+    -- one pair, in each order, and in the other one
+    importsIn true (ascii "6e - 0 00000001000000016d0000000131 0 0\n") (ascii "0 0 0 ~ ~ - 0 6d=31 0\n")
+    ∷ importsIn false (ascii "6e - 0 01000000010000006d0100000031 0 0\n") (ascii "0 0 0 ~ ~ - 0 6d=31 0\n")
+    ∷ importRefusesIn true (ascii "6e - 0 01000000010000006d0100000031 0 0\n") 11
+    ∷ importRefusesIn false (ascii "6e - 0 00000001000000016d0000000131 0 0\n") 11
+    -- the sign is in the first byte of a big-endian number, and in the last byte of a little-endian one: of the count, and of a length
+    ∷ importsIn true (ascii "6e - 0 80000000 0 0\n") (ascii "0 0 0 ~ ~ - 0 ~ 0\n")
+    ∷ importRefusesIn false (ascii "6e - 0 80000000 0 0\n") 11
+    ∷ importRefusesIn true (ascii "6e - 0 00000080 0 0\n") 11
+    ∷ importsIn false (ascii "6e - 0 00000080 0 0\n") (ascii "0 0 0 ~ ~ - 0 ~ 0\n")
+    ∷ importRefusesIn true (ascii "6e - 0 0000000180000000 0 0\n") 11
+    -- a length: extent before text; no block at all
+    ∷ importRefusesIn true (ascii "6e - 0 0000000100000001ff 0 0\n") 5
+    ∷ importRefusesIn true (ascii "6e - 0 0000000100000002ff 0 0\n") 11
+    ∷ importRefusesIn true (ascii "6e - 0 - 0 0\n") 11
+    -- the last of equal keys; bytes past the last pair
+    ∷ importsIn true (ascii "6e - 0 00000002000000016d0000000131000000016d0000000132 0 0\n") (ascii "0 0 0 ~ ~ - 0 6d=32 0\n")
+    ∷ importsIn true (ascii "6e - 0 00000001000000016d000000013100 0 0\n") (ascii "0 0 0 ~ ~ - 0 6d=31 0\n")
+    -- every block of a sheet is in the order, a child's and a dictionary's values' too
+    ∷ importsIn true (ascii "2b73 - 0 00000001000000016d0000000131 1 0\n69 - 0 00000001000000016e0000000131 0 1\n67 - 0 00000001000000016f0000000131 0 0\n") (ascii "30 0 0 ~ ~ - 0 6d=31 1\n32 2 0 ~ ~ - 0 6e=31 1\n14 0 0 ~ ~ ~ ~ ~ 0\n")
+    ∷ importRefusesIn true (ascii "69 - 0 ~ 0 1\n67 - 0 01000000010000006d0100000031 0 0\n") 11
+    -- what export writes
+    ∷ exportsIn true (ascii "37 0 0 78 ~ - 0 ~ 1\n0 0 0 ~ ~ ~ ~ ~ 0\n") (ascii "6e - 0 00000001000000144152524f573a657874656e73696f6e3a6e616d650000000178 0 0\n")
+    ∷ exportsIn true (ascii "0 0 0 ~ ~ - 0 6d=31 0\n") (ascii "6e - 0 00000001000000016d0000000131 0 0\n")
+    ∷ []
+
+pub order-turns : Right orderTurns
+unfolding imported exported
+order-turns = refl
 
 -- "16 comes exactly if the sheet is longer than the buffer": a field sheet of 67 bytes into 66 bytes and into 67
 pub room-turns : map (λ (n : ℕ). importOutcome (schemaSheet (ascii "67 - 0 ~ 0 0\n")) (replicate n 7) .number) (66 ∷ 67 ∷ []) ≡ noRoom ∷ 0 ∷ []

@@ -1,5 +1,6 @@
 -- Document 01, 'Bench cases': A1 to A11, one table with one proof from the definitions. Assumes nothing.
 use mathlib.Core.Path.{_≡_, refl}
+use mathlib.Core.Bool.{false}
 use mathlib.Core.List.{List, [], _∷_, _++_, map}
 use Prim.Native.Nat.{ℕ, zero, suc}
 use Rattle.sheets.specs.Refusal.{numberOf}
@@ -36,15 +37,15 @@ fieldSheet ls = fieldHeading ++ (lineEnd ∷ ls)
 
 -- import of these lines gives those
 abbrev pub imports : Bytes → Bytes → Case
-imports a b = record { call = imported; sheet = schemaSheet a; wanted = (0, fieldSheet b) }
+imports a b = record { call = imported false; sheet = schemaSheet a; wanted = (0, fieldSheet b) }
 
 -- import of these lines is refused with this number
 abbrev pub importRefuses : Bytes → ℕ → Case
-importRefuses a n = record { call = imported; sheet = schemaSheet a; wanted = (n, []) }
+importRefuses a n = record { call = imported false; sheet = schemaSheet a; wanted = (n, []) }
 
 -- export of these lines gives those
 abbrev pub exports : Bytes → Bytes → Case
-exports a b = record { call = exported; sheet = fieldSheet a; wanted = (0, schemaSheet b) }
+exports a b = record { call = exported false; sheet = fieldSheet a; wanted = (0, schemaSheet b) }
 
 -- the lines n times
 abbrev pub times : ℕ → Bytes → Bytes

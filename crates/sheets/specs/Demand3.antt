@@ -1,9 +1,10 @@
--- Demand 3, as a statement about public calls. `proofs/Demand3.antt` proves it (`demand3 : Demand3`) and gives fields that meet its
--- conditions (`proofs/Demand3Example.antt`).
+-- Demand 3, as a statement about public calls. `proofs/Demand3.antt` proves it for each order of the metadata (`demand3 : (big : Bool) → Demand3 big`) and
+-- `proofs/Demand3Example.antt` gives fields that meet its conditions.
 --
 -- "For every field that can be exported (no 128-bit dictionary index, no reserved key, sheets of at most 65,535 bytes, room in the buffers):
 -- importing its export answers 0 and gives its plain form, byte for byte; exporting the plain form gives the same bytes as exporting the field;
--- two such fields export to the same bytes exactly when their plain forms are equal."
+-- two such fields export to the same bytes exactly when their plain forms are equal." Document 02, #104: "On the old conditions a field exported and
+-- imported under one order comes back in plain form."
 -- Assumes nothing.
 use mathlib.Core.Path.{_≡_}
 use mathlib.Core.Logic.{_↔_}
@@ -21,7 +22,7 @@ use Rattle.sheets.specs.Field.{Pair, Info, ArrowDataType, scalar, nested
 use Rattle.sheets.specs.FieldSheet.{readFieldSheet, writeFieldSheet}
 use Rattle.sheets.specs.Metadata.{reserved, orNone}
 use Rattle.sheets.specs.Plain.{plain}
-use Rattle.sheets.specs.Outcome.{Outcome, success, importOutcome, exportOutcome}
+use Rattle.sheets.specs.Outcome.{Outcome, success, importOutcomeIn, exportOutcomeIn}
 
 -- ── the conditions
 
@@ -75,13 +76,13 @@ IsShort b = length b ≤ sheetLimit
 abbrev pub HasRoom : Bytes → Bytes → Type 0
 HasRoom out x = length x ≤ length out
 
--- ── a field that can be exported
+-- ── a field that can be exported, under one order
 
 -- the bytes within the length that a call answered
 abbrev pub written : Outcome → Bytes
 written o = take (o .size) (o .buffer)
 
-pub record Exportable : Type 0 where
+pub record Exportable (big : Bool) : Type 0 where
   -- the field sheet that is handed in, and the field that it says
   pub sheet : Bytes
   pub field : Field
@@ -92,24 +93,24 @@ pub record Exportable : Type 0 where
   pub noWideIndex : NoWideIndex field
   -- what the buffer held that its export was put into: "It can be exported if export into a buffer that is long enough answers 0."
   pub buffer : Bytes
-  pub answersZero : exportOutcome sheet buffer .number ≡ 0
+  pub answersZero : exportOutcomeIn big sheet buffer .number ≡ 0
   -- "The sheets on the way are those handed in: the field and its export"; that the field is short is part of `isField`
-  pub shortExport : IsShort (written (exportOutcome sheet buffer))
+  pub shortExport : IsShort (written (exportOutcomeIn big sheet buffer))
 
 -- its export: "the length, and every byte within the length"
-abbrev pub exportOf : Exportable → Bytes
-exportOf e = written (exportOutcome (e .sheet) (e .buffer))
+abbrev pub exportOf : {big : Bool} → Exportable big → Bytes
+exportOf {big} e = written (exportOutcomeIn big (e .sheet) (e .buffer))
 
 -- its plain form, a field sheet
-abbrev pub plainFormOf : Exportable → Bytes
+abbrev pub plainFormOf : {big : Bool} → Exportable big → Bytes
 plainFormOf e = writeFieldSheet (plain (e .field))
 
--- ── the demand; `out` is what a buffer that is lent held before
+-- ── the demand, the same order on both ways; `out` is what a buffer that is lent held before
 
-pub record Demand3 : Type 0 where
+pub record Demand3 (big : Bool) : Type 0 where
   -- "importing its export answers 0 and gives its plain form, byte for byte"
-  pub importsBack : (e : Exportable) (out : Bytes) → HasRoom out (plainFormOf e) → importOutcome (exportOf e) out ≡ success (plainFormOf e) out
+  pub importsBack : (e : Exportable big) (out : Bytes) → HasRoom out (plainFormOf e) → importOutcomeIn big (exportOf e) out ≡ success (plainFormOf e) out
   -- "exporting the plain form gives the same bytes as exporting the field"; here the plain form is handed in
-  pub exportsAgain : (e : Exportable) → IsShort (plainFormOf e) → (out : Bytes) → HasRoom out (exportOf e) → exportOutcome (plainFormOf e) out ≡ success (exportOf e) out
+  pub exportsAgain : (e : Exportable big) → IsShort (plainFormOf e) → (out : Bytes) → HasRoom out (exportOf e) → exportOutcomeIn big (plainFormOf e) out ≡ success (exportOf e) out
   -- "two such fields export to the same bytes exactly when their plain forms are equal"
-  pub sameExports : (d e : Exportable) → (exportOf d ≡ exportOf e) ↔ (plainFormOf d ≡ plainFormOf e)
+  pub sameExports : (d e : Exportable big) → (exportOf d ≡ exportOf e) ↔ (plainFormOf d ≡ plainFormOf e)

@@ -1,7 +1,7 @@
 -- Import: `to_field` and `to_dtype`, a field from a schema. "A field is read through its type, and a type through its fields." Assumes nothing.
+use mathlib.Core.Bool.{Bool}
 use mathlib.Core.List.{List, [], _∷_}
 use mathlib.Core.Option.{Option, none, some}
-use Prim.Native.Nat.{zero, suc}
 use lib.IntN.{ℤ}
 use Rattle.sheets.specs.Refusal.{nullFormat, notUtf8, noChild}
 use Rattle.sheets.specs.Bytes.{Bytes}
@@ -57,24 +57,25 @@ abbrev pub extended : Option Extension → ArrowDataType → ArrowDataType
 extended none t = t
 extended (some e) t = extension (e .0) (e .1) t
 
--- `to_field`: the format and what is below, "Then come metadata, then the name"
-abbrev pub toFieldNode : Node → List (Answer Field) → Option (Answer Field) → Answer Field
-toFieldNode n children values = do
+-- `to_field`: the format and what is below, "Then come metadata, then the name". The first argument says that the metadata is big-endian (document 02, #104:
+-- "import, export and every later call built on them take it and pass it on")
+abbrev pub toFieldNode : Bool → Node → List (Answer Field) → Option (Answer Field) → Answer Field
+toFieldNode big n children values = do
   f ← formatText (n .format)
   t ← toDtype f (n .flags) children values
-  (pairs, e) ← metadataFromBytes (n .metadata)
+  (pairs, e) ← metadataFromBytes big (n .metadata)
   name ← nameText (n .name)
   given (record { info = record { name = name; nullable = nullable (n .flags); pairs = pairs }; type = extended e t })
 
 -- An answer for each node. "Lines the Rust never visits are tested for form only": the answers that no type asks for count for nothing.
 abbrev mutual
-  pub toField : Schema → Answer Field
-  toField (schema n cs d) = toFieldNode n (toFields cs) (toValues d)
+  pub toField : Bool → Schema → Answer Field
+  toField big (schema n cs d) = toFieldNode big n (toFields big cs) (toValues big d)
 
-  pub toFields : Schemas → List (Answer Field)
-  toFields end = []
-  toFields (s & ss) = toField s ∷ toFields ss
+  pub toFields : Bool → Schemas → List (Answer Field)
+  toFields big end = []
+  toFields big (s & ss) = toField big s ∷ toFields big ss
 
-  pub toValues : Dictionary → Option (Answer Field)
-  toValues absent = none
-  toValues (present s) = some (toField s)
+  pub toValues : Bool → Dictionary → Option (Answer Field)
+  toValues big absent = none
+  toValues big (present s) = some (toField big s)

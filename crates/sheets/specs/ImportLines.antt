@@ -45,9 +45,9 @@ below (ofExtension n m) children = 1
 abbrev pub Own : Type 0
 Own = Info × Option Extension
 
-abbrev pub ownOf : Node → Answer Own
-ownOf n = do
-  (pairs, e) ← metadataFromBytes (n .metadata)
+abbrev pub ownOf : Bool → Node → Answer Own
+ownOf big n = do
+  (pairs, e) ← metadataFromBytes big (n .metadata)
   name ← nameText (n .name)
   given (record { name = name; nullable = nullable (n .flags); pairs = pairs }, e)
 
@@ -56,23 +56,23 @@ abbrev pub shown : Bool → Info → Option Info
 shown true i = none
 shown false i = some i
 
--- ── the lines of a node and of what it visits
+-- ── the lines of a node and of what it visits; `big` is the order of the metadata (document 02, #104)
 
 -- the lines that a schema becomes
-abbrev pub written : Bool → Schema → Answer (List Bytes)
-written bare s = toField s >>= λ f. given (typeLines (f .type) (shown bare (f .info)))
+abbrev pub written : Bool → Bool → Schema → Answer (List Bytes)
+written big bare s = toField big s >>= λ f. given (typeLines (f .type) (shown bare (f .info)))
 
 -- the lines of a schema's type, whose first line shows what is given of a field: "A field is read through its type, and a type through its fields"
-abbrev pub typeWritten : Option Info → Schema → Answer (List Bytes)
-typeWritten j (schema n cs d) = do
+abbrev pub typeWritten : Bool → Option Info → Schema → Answer (List Bytes)
+typeWritten big j (schema n cs d) = do
   f ← formatText (n .format)
-  t ← toDtype f (n .flags) (toFields cs) (toValues d)
+  t ← toDtype f (n .flags) (toFields big cs) (toValues big d)
   given (typeLines t j)
 
 -- of schemas one after the other
-abbrev pub rowWritten : Bool → Schemas → Answer (List Bytes)
-rowWritten bare end = given []
-rowWritten bare (s & ss) = written bare s >>= λ a. rowWritten bare ss >>= λ b. given (a ++ b)
+abbrev pub rowWritten : Bool → Bool → Schemas → Answer (List Bytes)
+rowWritten big bare end = given []
+rowWritten big bare (s & ss) = written big bare s >>= λ a. rowWritten big bare ss >>= λ b. given (a ++ b)
 
 -- the schemas that a node of this type visits: "Lists and map use their first child only"; a dictionary its dictionary; struct and union all children
 abbrev pub visited : Shape → Schemas → Dictionary → Schemas

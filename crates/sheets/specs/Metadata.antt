@@ -1,6 +1,8 @@
--- Document 01, 'Metadata block': "a signed 32-bit count, then length, key, length, value. Our lengths are little-endian". Assumes nothing.
-use mathlib.Core.Bool.{Bool, true, _||_, cond}
-use mathlib.Core.List.{List, [], _∷_, _++_}
+-- Document 01, 'Metadata block': "a signed 32-bit count, then length, key, length, value. Our lengths are little-endian"; and document 02, #104: "The reader
+-- and the writer of a block's count and lengths take the order as a yes (big-endian) or no from the caller". That argument is `big`; the orders differ in
+-- `inOrder` and nowhere else. Assumes nothing.
+use mathlib.Core.Bool.{Bool, true, false, _||_, cond}
+use mathlib.Core.List.{List, [], _∷_, _++_, reverse}
 use mathlib.Core.Option.{Option, none, some}
 use Prim.Native.Nat.{ℕ, zero, suc, _+_, _*_, _/_, _%_, _^_}
 use lib.Dec.{ltb}
@@ -22,6 +24,18 @@ abbrev pub littleValue : Bytes → ℕ
 littleValue [] = 0
 littleValue (b ∷ bs) = b + 256 * littleValue bs
 
+-- "most significant byte first": the same bytes in the other direction
+abbrev pub inOrder : Bool → Bytes → Bytes
+inOrder true bs = reverse bs
+inOrder false bs = bs
+
+-- a count or a length of 32 bits, and the number of such bytes
+abbrev pub word32 : Bool → ℕ → Bytes
+word32 big n = inOrder big (little 4 n)
+
+abbrev pub value32 : Bool → Bytes → ℕ
+value32 big bs = littleValue (inOrder big bs)
+
 -- the first n bytes and the others; 11 "metadata cut short"
 abbrev pub cutAt : ℕ → Bytes → Answer (Bytes × Bytes)
 cutAt zero bs = given ([], bs)
@@ -29,38 +43,38 @@ cutAt (suc n) [] = refused badMetadata
 cutAt (suc n) (b ∷ bs) = cutAt n bs >>= λ (h, r). given (b ∷ h, r)
 
 -- "A length is tested for sign, then extent, then text." As an unsigned number a negative length is 2^31 or more
-abbrev pub takeText : Bytes → Answer (Bytes × Bytes)
-takeText bs = do
+abbrev pub takeText : Bool → Bytes → Answer (Bytes × Bytes)
+takeText big bs = do
   (four, bs) ← cutAt 4 bs
-  let n : ℕ = littleValue four
+  let n : ℕ = value32 big four
   _ ← when badMetadata (is (ltb n (2 ^ 31))) true
   (t, bs) ← cutAt n bs
   when notUtf8 (is (isUtf8 t)) (t, bs)
 
 -- a key, a value, and the other pairs
-abbrev pub takePairs : ℕ → Bytes → Answer (List Pair)
-takePairs zero bs = given []
-takePairs (suc n) bs = takeText bs >>= λ (k, bs). takeText bs >>= λ (v, bs). takePairs n bs >>= λ ps. given ((k, v) ∷ ps)
+abbrev pub takePairs : Bool → ℕ → Bytes → Answer (List Pair)
+takePairs big zero bs = given []
+takePairs big (suc n) bs = takeText big bs >>= λ (k, bs). takeText big bs >>= λ (v, bs). takePairs big n bs >>= λ ps. given ((k, v) ∷ ps)
 
 -- "A count of 0 or less gives no pairs"
 abbrev pub countOf : ℕ → ℕ
 countOf n = cond (ltb n (2 ^ 31)) n 0
 
 -- the pairs of a block; "Bytes past the last pair are ignored"
-abbrev pub readBlock : Bytes → Answer (List Pair)
-readBlock bs = cutAt 4 bs >>= λ (four, bs). takePairs (countOf (littleValue four)) bs
+abbrev pub readBlock : Bool → Bytes → Answer (List Pair)
+readBlock big bs = cutAt 4 bs >>= λ (four, bs). takePairs big (countOf (value32 big four)) bs
 
 -- the length and the text
-abbrev pub writeText32 : Bytes → Bytes
-writeText32 t = little 4 (length t) ++ t
+abbrev pub writeText32 : Bool → Bytes → Bytes
+writeText32 big t = word32 big (length t) ++ t
 
-abbrev pub writePairs : List Pair → Bytes
-writePairs [] = []
-writePairs (p ∷ ps) = writeText32 (p .0) ++ (writeText32 (p .1) ++ writePairs ps)
+abbrev pub writePairs : Bool → List Pair → Bytes
+writePairs big [] = []
+writePairs big (p ∷ ps) = writeText32 big (p .0) ++ (writeText32 big (p .1) ++ writePairs big ps)
 
 -- `metadata_to_bytes`
-abbrev pub metadataToBytes : List Pair → Bytes
-metadataToBytes ps = little 4 (length ps) ++ writePairs ps
+abbrev pub metadataToBytes : Bool → List Pair → Bytes
+metadataToBytes big ps = word32 big (length ps) ++ writePairs big ps
 
 -- ── what the pairs say
 
@@ -121,9 +135,9 @@ abbrev pub meaning : List Pair → Option (List Pair) × Option Extension
 meaning ps = (somePairs (ordinary ps), extensionOf (valueOf nameKey ps) (valueOf metadataKey ps))
 
 -- `metadata_from_bytes`; a null pointer has no pairs
-abbrev pub metadataFromBytes : Option Bytes → Answer (Option (List Pair) × Option Extension)
-metadataFromBytes none = given (none, none)
-metadataFromBytes (some b) = readBlock b >>= λ ps. given (meaning ps)
+abbrev pub metadataFromBytes : Bool → Option Bytes → Answer (Option (List Pair) × Option Extension)
+metadataFromBytes big none = given (none, none)
+metadataFromBytes big (some b) = readBlock big b >>= λ ps. given (meaning ps)
 
 abbrev pub orNone : Option (List Pair) → List Pair
 orNone none = []
@@ -133,11 +147,11 @@ abbrev pub withMetadata : Option Bytes → List Pair → List Pair
 withMetadata none ps = ps
 withMetadata (some m) ps = insertOver (metadataKey, m) ps
 
-abbrev pub blockOf : List Pair → Option Bytes
-blockOf [] = none
-blockOf (p ∷ ps) = some (metadataToBytes (p ∷ ps))
+abbrev pub blockOf : Bool → List Pair → Option Bytes
+blockOf big [] = none
+blockOf big (p ∷ ps) = some (metadataToBytes big (p ∷ ps))
 
 -- the metadata of `ArrowSchema::new`: "Export adds the reserved keys, overwriting equal ones", `~` in `more` adds no metadata key
-abbrev pub schemaMetadata : Option (List Pair) → Option Extension → Option Bytes
-schemaMetadata ps none = blockOf (orNone ps)
-schemaMetadata ps (some e) = some (metadataToBytes (insertOver (nameKey, e .0) (withMetadata (e .1) (orNone ps))))
+abbrev pub schemaMetadata : Bool → Option (List Pair) → Option Extension → Option Bytes
+schemaMetadata big ps none = blockOf big (orNone ps)
+schemaMetadata big ps (some e) = some (metadataToBytes big (insertOver (nameKey, e .0) (withMetadata (e .1) (orNone ps))))

@@ -1,9 +1,9 @@
 -- What each public call answers (document 01, 'Who is turned back', 'Agreement on the contracts'): its number, its length, and every byte of the
 -- buffer that was lent. Assumes nothing.
-use mathlib.Core.Bool.{Bool, cond}
+use mathlib.Core.Bool.{Bool, false, not, cond}
 use mathlib.Core.List.{_++_}
 use Prim.Native.Nat.{ℕ}
-use lib.Dec.{leb}
+use lib.Dec.{eqb, leb}
 use lib.ListN.{length, drop, replicate}
 use Rattle.sheets.specs.Bytes.{Bytes}
 use Rattle.sheets.specs.Refusal.{numberOf, noRoom}
@@ -19,22 +19,26 @@ use Rattle.sheets.specs.Plain.{plain}
 use Rattle.sheets.specs.Page.{page}
 use Rattle.sheets.specs.Mappings.{PhysicalType, withDtype, toPhysicalType, underlyingPhysicalType, toStorage, toStorageRecursive, innerDtype, getChild, isNested, containsDictionary, fromIntegerType, fromPrimitiveType}
 
+-- document 02, #104: "take the order as a yes (big-endian) or no from the caller". A host hands over a number: 0 is no, every other one is yes
+abbrev pub isYes : ℕ → Bool
+isYes n = not (eqb n 0)
+
 -- ── the sheet that is answered, or the refusal
 
--- import: the field sheet of a schema sheet
-unfoldable pub imported : Bytes → Answer Bytes
+-- import: the field sheet of a schema sheet, whose metadata is big-endian, or not (document 02, #104)
+unfoldable pub imported : Bool → Bytes → Answer Bytes
 unfolding rows decimal
-imported b = do
+imported big b = do
   s ← readSchemaSheet b
-  f ← toField s
+  f ← toField big s
   given (writeFieldSheet f)
 
--- export: the schema sheet of a field sheet
-unfoldable pub exported : Bytes → Answer Bytes
+-- export: the schema sheet of a field sheet, with metadata in that order
+unfoldable pub exported : Bool → Bytes → Answer Bytes
 unfolding rows decimal
-exported b = do
+exported big b = do
   f ← readFieldSheet b
-  s ← schemaNew f
+  s ← schemaNew big f
   given (writeSchemaSheet s)
 
 -- the plain form of a field sheet: "a field sheet again, heading included"
@@ -84,12 +88,19 @@ unfoldable pub outcome : Answer Bytes → Bytes → Outcome
 outcome (refused r) out = refusal (numberOf r) out
 outcome (given x) out = cond (leb (length x) (length out)) (success x out) (refusal noRoom out)
 
--- the calls: a sheet (and an index, or a place alone), then what the lent buffer held
+-- the calls: a sheet (and an index, or a place alone), then what the lent buffer held; import and export take the order of the metadata before these
+abbrev pub importOutcomeIn : Bool → Bytes → Bytes → Outcome
+importOutcomeIn big b out = outcome (imported big b) out
+
+abbrev pub exportOutcomeIn : Bool → Bytes → Bytes → Outcome
+exportOutcomeIn big b out = outcome (exported big b) out
+
+-- "Our lengths are little-endian"
 abbrev pub importOutcome : Bytes → Bytes → Outcome
-importOutcome b out = outcome (imported b) out
+importOutcome b out = importOutcomeIn false b out
 
 abbrev pub exportOutcome : Bytes → Bytes → Outcome
-exportOutcome b out = outcome (exported b) out
+exportOutcome b out = exportOutcomeIn false b out
 
 abbrev pub plainOutcome : Bytes → Bytes → Outcome
 plainOutcome b out = outcome (plained b) out

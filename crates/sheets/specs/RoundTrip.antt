@@ -1,14 +1,15 @@
 -- Demand 3 as two calls over lent buffers: `round_trip` takes a field sheet out and back and compares, `same_exports` compares two field sheets.
 -- Each has four steps, in order; the first that is refused is the answer, and then every lent byte is zero. Else the answer compares what was
--- written, and each buffer is left as its step's outcome says. `proofs/RoundTripLaws.antt` and `proofs/SameExportsLaws.antt` have what holds of them.
+-- written, and each buffer is left as its step's outcome says. Both take the order of the metadata (document 02, #104), and the exports and the import are
+-- all in it. `proofs/RoundTripLaws.antt` and `proofs/SameExportsLaws.antt` have what holds of them.
 -- Assumes nothing.
 use mathlib.Core.Path.{_≡_}
-use mathlib.Core.Bool.{Bool, cond}
+use mathlib.Core.Bool.{Bool, false, cond}
 use Prim.Native.Nat.{ℕ}
 use lib.Dec.{eqb}
 use lib.ListN.{length, replicate}
 use Rattle.sheets.specs.Bytes.{Bytes, same}
-use Rattle.sheets.specs.Outcome.{Outcome, success, importOutcome, exportOutcome, plainOutcome}
+use Rattle.sheets.specs.Outcome.{Outcome, success, importOutcomeIn, exportOutcomeIn, plainOutcome}
 use Rattle.sheets.specs.Demand3.{IsShort, HasRoom, written, Exportable, exportOf, plainFormOf}
 
 -- four outcomes, in the order of the steps
@@ -72,13 +73,13 @@ roundTripNumber importDiffers = 0
 roundTripNumber againDiffers = 0
 
 -- the export of the sheet, the import of what that wrote, the plain form of the sheet, the export of what that wrote
-abbrev pub tripSteps : Bytes → Buffers → Steps
-tripSteps sheet out =
+abbrev pub tripSteps : Bool → Bytes → Buffers → Steps
+tripSteps big sheet out =
     record {
-      first = exportOutcome sheet (out .first);
-      second = importOutcome (written (exportOutcome sheet (out .first))) (out .second);
+      first = exportOutcomeIn big sheet (out .first);
+      second = importOutcomeIn big (written (exportOutcomeIn big sheet (out .first))) (out .second);
       third = plainOutcome sheet (out .third);
-      fourth = exportOutcome (written (plainOutcome sheet (out .third))) (out .fourth);
+      fourth = exportOutcomeIn big (written (plainOutcome sheet (out .third))) (out .fourth);
     }
 
 -- the first refusal; else whether the second is the third, and the fourth the first
@@ -94,10 +95,14 @@ pub record RoundTripOutcome : Type 0 where
   pub answer : RoundTrip
   pub buffers : Buffers
 
--- a field sheet, then what the four lent buffers held
+-- the order, a field sheet, then what the four lent buffers held
+abbrev pub roundTripOutcomeIn : Bool → Bytes → Buffers → RoundTripOutcome
+roundTripOutcomeIn big sheet out =
+    record { answer = tripAnswer (tripSteps big sheet out); buffers = buffersAfter (roundTripNumber (tripAnswer (tripSteps big sheet out))) (tripSteps big sheet out) out }
+
+-- little-endian
 abbrev pub roundTripOutcome : Bytes → Buffers → RoundTripOutcome
-roundTripOutcome sheet out =
-    record { answer = tripAnswer (tripSteps sheet out); buffers = buffersAfter (roundTripNumber (tripAnswer (tripSteps sheet out))) (tripSteps sheet out) out }
+roundTripOutcome sheet out = roundTripOutcomeIn false sheet out
 
 -- ── `same_exports`
 
@@ -119,11 +124,11 @@ sameExportsNumber (onePlainRefused n) = n
 sameExportsNumber (otherPlainRefused n) = n
 
 -- the exports of the two sheets, then their plain forms
-abbrev pub pairSteps : Bytes → Bytes → Buffers → Steps
-pairSteps one other out =
+abbrev pub pairSteps : Bool → Bytes → Bytes → Buffers → Steps
+pairSteps big one other out =
     record {
-      first = exportOutcome one (out .first);
-      second = exportOutcome other (out .second);
+      first = exportOutcomeIn big one (out .first);
+      second = exportOutcomeIn big other (out .second);
       third = plainOutcome one (out .third);
       fourth = plainOutcome other (out .fourth);
     }
@@ -140,21 +145,21 @@ pub record SameExportsOutcome : Type 0 where
   pub answer : SameExports
   pub buffers : Buffers
 
--- two field sheets, then what the four lent buffers held
-abbrev pub sameExportsOutcome : Bytes → Bytes → Buffers → SameExportsOutcome
-sameExportsOutcome one other out =
-    record { answer = pairAnswer (pairSteps one other out); buffers = buffersAfter (sameExportsNumber (pairAnswer (pairSteps one other out))) (pairSteps one other out) out }
+-- the order, two field sheets, then what the four lent buffers held
+abbrev pub sameExportsOutcome : Bool → Bytes → Bytes → Buffers → SameExportsOutcome
+sameExportsOutcome big one other out =
+    record { answer = pairAnswer (pairSteps big one other out); buffers = buffersAfter (sameExportsNumber (pairAnswer (pairSteps big one other out))) (pairSteps big one other out) out }
 
--- ── demand 3 through these calls; `proofs/SameExportsLaws.antt` proves it (`demand3-called : Demand3Called`)
+-- ── demand 3 through these calls; `proofs/SameExportsLaws.antt` proves it (`demand3-called : (big : Bool) → Demand3Called big`)
 
 -- "room in the buffers"
-pub record TripRoom (e : Exportable) (out : Buffers) : Type 0 where
+pub record TripRoom {big : Bool} (e : Exportable big) (out : Buffers) : Type 0 where
   pub first : HasRoom (out .first) (exportOf e)
   pub second : HasRoom (out .second) (plainFormOf e)
   pub third : HasRoom (out .third) (plainFormOf e)
   pub fourth : HasRoom (out .fourth) (exportOf e)
 
-pub record PairRoom (d e : Exportable) (out : Buffers) : Type 0 where
+pub record PairRoom {big : Bool} (d e : Exportable big) (out : Buffers) : Type 0 where
   pub first : HasRoom (out .first) (exportOf d)
   pub second : HasRoom (out .second) (exportOf e)
   pub third : HasRoom (out .third) (plainFormOf d)
@@ -164,12 +169,12 @@ pub record PairRoom (d e : Exportable) (out : Buffers) : Type 0 where
 abbrev pub fourSheets : Bytes → Bytes → Bytes → Bytes → Buffers → Steps
 fourSheets x y p z out = record { first = success x (out .first); second = success y (out .second); third = success p (out .third); fourth = success z (out .fourth) }
 
-pub record Demand3Called : Type 0 where
+pub record Demand3Called (big : Bool) : Type 0 where
   -- "importing its export answers 0 and gives its plain form, byte for byte; exporting the plain form gives the same bytes as exporting the
   -- field": all is the same, and the buffers have the export, the plain form twice, and the export
-  pub roundTrips : (e : Exportable) (out : Buffers) → TripRoom e out → IsShort (plainFormOf e)
-      → roundTripOutcome (e .sheet) out ≡ record { answer = allSame; buffers = stepBuffers (fourSheets (exportOf e) (plainFormOf e) (plainFormOf e) (exportOf e) out) }
+  pub roundTrips : (e : Exportable big) (out : Buffers) → TripRoom e out → IsShort (plainFormOf e)
+      → roundTripOutcomeIn big (e .sheet) out ≡ record { answer = allSame; buffers = stepBuffers (fourSheets (exportOf e) (plainFormOf e) (plainFormOf e) (exportOf e) out) }
   -- "two such fields export to the same bytes exactly when their plain forms are equal": one truth value, twice
-  pub comparesAlike : (d e : Exportable) (out : Buffers) → PairRoom d e out
-      → sameExportsOutcome (d .sheet) (e .sheet) out
+  pub comparesAlike : (d e : Exportable big) (out : Buffers) → PairRoom d e out
+      → sameExportsOutcome big (d .sheet) (e .sheet) out
       ≡ record { answer = compared (same (exportOf d) (exportOf e)) (same (exportOf d) (exportOf e)); buffers = stepBuffers (fourSheets (exportOf d) (exportOf e) (plainFormOf d) (plainFormOf e) out) }

@@ -1,6 +1,6 @@
--- Import with nullable as the source reads it, by division: ours was so before document 02, #102. All else is Import's. No call gives it; laws say where
--- it is import still. Assumes nothing.
-use mathlib.Core.Bool.{Bool, true}
+-- Import with nullable as the source reads it, by division: ours was so before document 02, #102. All else is Import's; the metadata is little-endian, as the
+-- source's is on the machines of the differential runs. No call gives it; laws say where it is import still. Assumes nothing.
+use mathlib.Core.Bool.{Bool, true, false}
 use mathlib.Core.List.{List, [], _∷_}
 use mathlib.Core.Option.{Option, none, some}
 use lib.IntN.{ℤ, pos, negsuc}
@@ -16,7 +16,7 @@ withNullable b f = record { info = record { name = f .info .name; nullable = b; 
 
 abbrev mutual
   pub sourceField : Schema → Answer Field
-  sourceField (schema n cs d) = toFieldNode n (sourceFields cs) (sourceValues d) >>= λ f. given (withNullable (nullableByDivision (n .flags)) f)
+  sourceField (schema n cs d) = toFieldNode false n (sourceFields cs) (sourceValues d) >>= λ f. given (withNullable (nullableByDivision (n .flags)) f)
 
   pub sourceFields : Schemas → List (Answer Field)
   sourceFields end = []

@@ -234,6 +234,11 @@ hasFlag f z = odd (stored z / f)
 pub data ByteOrder : Type 0 where
   littleEndian bigEndian : ByteOrder
 
+-- document 02, #104: "the order as a yes (big-endian) or no"
+abbrev pub orderOf : Bool → ByteOrder
+orderOf true = bigEndian
+orderOf false = littleEndian
+
 -- "int32", here of numbers that are not negative
 abbrev pub int32 : ByteOrder → ℕ → Bytes
 int32 littleEndian n = (n % 256) ∷ (n / 256 % 256) ∷ (n / 65536 % 256) ∷ (n / 16777216 % 256) ∷ []

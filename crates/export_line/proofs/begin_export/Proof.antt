@@ -31,7 +31,7 @@ line-numbers-requires c κs =
     let (i, t, es, f) = st .pre in
     let k = c .before .before .before .before .before .before .field-line-at .ensures in
     let g = c .before .before .before .before .before .storage-line .ensures i t es f in
-    index-fits (st .args .tree) f _ k g _ (c .before .before .before .is-alone .ensures)
+    index-fits (st .args .big) (st .args .tree) f _ k g _ (c .before .before .before .is-alone .ensures)
 
 put-schema-line-requires : tie.Need-put-schema-line-requires
 put-schema-line-requires c κs =
@@ -39,7 +39,7 @@ put-schema-line-requires c κs =
     let (i, t, es, f) = st .pre in
     let k = c .before .before .before .before .before .before .before .before .field-line-at .ensures in
     let g = c .before .before .before .before .before .before .before .storage-line .ensures i t es f in
-    can-put (st .args .tree) f _ k g _ (c .before .before .before .before .before .is-alone .ensures) _ _ (c .before .before .before .line-columns .ensures) (c .before .line-numbers .ensures)
+    can-put (st .args .big) (st .args .tree) f _ k g _ (c .before .before .before .before .before .is-alone .ensures) _ _ (c .before .before .before .line-columns .ensures) (c .before .line-numbers .ensures)
 
 line-begun-requires : tie.Need-line-begun-requires
 line-begun-requires c κs = search needs
@@ -53,7 +53,7 @@ returns c =
     let a = c .before .before .before .before .before .before .before .before .before .before .before .before .before .before .before .args in
     let k = c .before .before .before .before .before .before .before .before .before .before .before .before .field-line-at .ensures in
     let g = c .before .before .before .before .before .before .before .before .before .before .before .storage-line .ensures i t es f in
-    begins (a .tree) f _ k g _ (c .before .before .before .before .before .before .before .before .before .is-alone .ensures) _ (c .before .before .before .before .before .before .before .before .row-below .ensures) _ _ _ _ (c .before .before .before .before .before .before .before .line-columns .ensures) (c .before .before .before .before .before .line-numbers .ensures) (c .before .before .before .put-schema-line .result) (c .before .before .before .put-schema-line .ensures) (c .line-begun .result) (c .line-begun .ensures)
+    begins (a .big) (a .tree) f _ k g _ (c .before .before .before .before .before .before .before .before .before .is-alone .ensures) _ (c .before .before .before .before .before .before .before .before .row-below .ensures) _ _ _ _ (c .before .before .before .before .before .before .before .line-columns .ensures) (c .before .before .before .before .before .line-numbers .ensures) (c .before .before .before .put-schema-line .result) (c .before .before .before .put-schema-line .ensures) (c .line-begun .result) (c .line-begun .ensures)
 
 pub begin-export-spec : {M : Type 1} → statement M
 begin-export-spec =

@@ -20,7 +20,7 @@ returns : tie.Need-returns
 returns c =
     let a = c .before .before .before .args in
     let l = a .l in
-    let f : Bool → LineNumbers = λ b. numbersOf (a .nullable) b (l .kind) (l .p) (l .q) (l .children) in
+    let f : Bool → LineNumbers = λ b. numbersOf (a .nullable) b (l .kind) (l .p) (l .q) (l .children) (a .big) in
     c .numbers-with .ensures ∙ ap f (sym (c .before .before .if1 .taken))
 
 numbers-with-requires-2 : tie.Need-numbers-with-requires-2
@@ -30,8 +30,8 @@ returns-2 : tie.Need-returns-2
 returns-2 c =
     let a = c .before .before .before .before .args in
     let l = a .l in
-    let f : Bool → LineNumbers = λ b. numbersOf (a .nullable) b (l .kind) (l .p) (l .q) (l .children) in
-    let g : Bool → LineNumbers = λ b. cond b (numbersWith (a .nullable) (l .kind) (l .p) (l .q) 0 1) (numbersWith (a .nullable) (l .kind) (l .p) (l .q) (l .children) 0) in
+    let f : Bool → LineNumbers = λ b. numbersOf (a .nullable) b (l .kind) (l .p) (l .q) (l .children) (a .big) in
+    let g : Bool → LineNumbers = λ b. cond b (numbersWith (a .nullable) (l .kind) (l .p) (l .q) 0 1 (a .big)) (numbersWith (a .nullable) (l .kind) (l .p) (l .q) (l .children) 0 (a .big)) in
     c .numbers-with2 .ensures ∙ ap g (sym (eq-eqb (l .kind) Kind.Dictionary (c .before .if2 .taken))) ∙ ap f (sym (c .before .before .before .if1 .left))
 
 numbers-with-requires-3 : tie.Need-numbers-with-requires-3
@@ -41,8 +41,8 @@ returns-3 : tie.Need-returns-3
 returns-3 c =
     let a = c .before .before .before .before .args in
     let l = a .l in
-    let f : Bool → LineNumbers = λ b. numbersOf (a .nullable) b (l .kind) (l .p) (l .q) (l .children) in
-    let g : Bool → LineNumbers = λ b. cond b (numbersWith (a .nullable) (l .kind) (l .p) (l .q) 0 1) (numbersWith (a .nullable) (l .kind) (l .p) (l .q) (l .children) 0) in
+    let f : Bool → LineNumbers = λ b. numbersOf (a .nullable) b (l .kind) (l .p) (l .q) (l .children) (a .big) in
+    let g : Bool → LineNumbers = λ b. cond b (numbersWith (a .nullable) (l .kind) (l .p) (l .q) 0 1 (a .big)) (numbersWith (a .nullable) (l .kind) (l .p) (l .q) (l .children) 0 (a .big)) in
     c .numbers-with3 .ensures ∙ ap g (sym (ne-eqb (l .kind) Kind.Dictionary (c .before .if2 .left))) ∙ ap f (sym (c .before .before .before .if1 .left))
 
 pub line-numbers-spec : {M : Type 1} → statement M

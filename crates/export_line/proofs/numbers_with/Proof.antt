@@ -12,7 +12,7 @@ line-flags-requires c κs = search needs
 returns : tie.Need-returns
 returns c =
     let a = c .before .args in
-    let f : ℕ → LineNumbers = λ x. record { kind = a .kind; p = a .p; q = a .q; flags = x; children = a .children; dictionary = a .dictionary } in
+    let f : ℕ → LineNumbers = λ x. record { kind = a .kind; p = a .p; q = a .q; flags = x; children = a .children; dictionary = a .dictionary; big = a .big } in
     ap f (c .line-flags .ensures)
 
 pub numbers-with-spec : {M : Type 1} → statement M

@@ -149,7 +149,7 @@ own : (t : ℕ) (c : to-dtype-lts.After-known-told2 (to-dtype-calls t) (to-dtype
     let p = c .before .before .before .before .before .before .before .before .before .before .before .before .pre .1 .0 in
     let r = c .before .before .before .before .before .begin-type in
     let u = c .before .from .given .0 in
-    LineBegins (now (a .s)) (a .line) (a .levels) (typeWritten (p .info) (schema (nodeOf (p .line)) (p .children) (p .dictionary))) (typeLength (now (a .s)) (a .line) (a .shown) (now (a .entries))) (p .after)
+    LineBegins (a .shown .big) (now (a .s)) (a .line) (a .levels) (typeWritten (a .shown .big) (p .info) (schema (nodeOf (p .line)) (p .children) (p .dictionary))) (typeLength (now (a .s)) (a .line) (a .shown) (now (a .entries))) (p .after)
     (now (a .out)) (r .last .1 .1 .1 .1 .0) (u .0) (u .1 .0) (u .1 .1 .0)
 own t c = let p = c .before .before .before .before .before .before .before .before .before .before .before .before .pre .1 .0 in begun t c (p .line) (p .children) (p .dictionary) (p .after) (p .info) (p .there) (p .shows)
 
@@ -270,7 +270,7 @@ to-field-to-dtype-requires t c κs =
     let p = start .pre .1 in
     let r = c .before .before .before .before .before .before .before .before .before .before .before .before .begin-field in (
       omega (arith, start .pre .0, some-level _ (start .args .tree) (p .0)),
-      (type-there (line-told _ _ (c .before .before .before .before .before .before .before .before .before .before .before .before .before .before .before .before .line-at .ensures)) (p .0 .2) (r .ensures), room-kept (p .1) (r .kept .1 .1 .1 .1 .0) (r .kept .1 .1 .1 .1 .1 .0)),
+      (type-there (line-told _ _ (c .before .before .before .before .before .before .before .before .before .before .before .before .before .before .before .before .line-at .ensures)) (p .0 .2) (r .ensures), room-kept (p .1) (r .kept .1 .1 .1 .1 .1 .0) (r .kept .1 .1 .1 .1 .1 .1 .0)),
     )
 
 to-field-enum-known-r : (t : ℕ) → to-field-lts.Need-enum-known-r (to-field-calls t) (to-field-at t) to-field.Post
@@ -295,13 +295,13 @@ to-field-same-length : (t : ℕ) → to-field-lts.Need-same-length (to-field-cal
 to-field-same-length t c =
     let r = c .before .before .before .before .before .before .before .before .before .before .before .before .before .before .before .before .before .before .before .before .before .before .begin-field in
     let called = c .before .before .before .before .before .before .before .before .before .to-dtype in
-    length-lent (c .before .before .before .before .before .before .before .before .before .before .before .before .before .before .within .result) (r .last .1 .1 .1 .0) (called .last .1 .1 .1 .1 .0) (called .kept .1 .1 .1 .1 .0) ∙ r .kept .1 .1 .1 .0
+    length-lent (c .before .before .before .before .before .before .before .before .before .before .before .before .before .before .within .result) (r .last .1 .1 .1 .1 .0) (called .last .1 .1 .1 .1 .0) (called .kept .1 .1 .1 .1 .0) ∙ r .kept .1 .1 .1 .1 .0
 
 to-field-same-length-2 : (t : ℕ) → to-field-lts.Need-same-length-2 (to-field-calls t) (to-field-at t) to-field.Post
-to-field-same-length-2 t c = c .before .before .before .before .before .before .before .before .before .to-dtype .kept .1 .1 .1 .1 .1 .0 ∙ c .before .before .before .before .before .before .before .before .before .before .before .before .before .before .before .before .before .before .before .before .before .before .begin-field .kept .1 .1 .1 .1 .0
+to-field-same-length-2 t c = c .before .before .before .before .before .before .before .before .before .to-dtype .kept .1 .1 .1 .1 .1 .0 ∙ c .before .before .before .before .before .before .before .before .before .before .before .before .before .before .before .before .before .before .before .before .before .before .begin-field .kept .1 .1 .1 .1 .1 .0
 
 to-field-same-length-3 : (t : ℕ) → to-field-lts.Need-same-length-3 (to-field-calls t) (to-field-at t) to-field.Post
-to-field-same-length-3 t c = c .before .before .before .before .before .before .before .before .before .to-dtype .kept .1 .1 .1 .1 .1 .1 .0 ∙ c .before .before .before .before .before .before .before .before .before .before .before .before .before .before .before .before .before .before .before .before .before .before .begin-field .kept .1 .1 .1 .1 .1 .0
+to-field-same-length-3 t c = c .before .before .before .before .before .before .before .before .before .to-dtype .kept .1 .1 .1 .1 .1 .1 .0 ∙ c .before .before .before .before .before .before .before .before .before .before .before .before .before .before .before .before .before .before .before .before .before .before .begin-field .kept .1 .1 .1 .1 .1 .1 .0
 
 to-field-returns : (t : ℕ) → to-field-lts.Need-returns (to-field-calls t) (to-field-at t) to-field.Post
 to-field-returns t c =
@@ -312,13 +312,13 @@ to-field-same-length-4 : (t : ℕ) → to-field-lts.Need-same-length-4 (to-field
 to-field-same-length-4 t c =
     let r = c .before .before .before .before .before .before .before .before .before .before .before .before .before .before .before .before .before .before .before .before .before .before .before .before .begin-field in
     let called = c .before .before .before .before .before .before .before .before .before .before .before .to-dtype in
-    length-lent (c .before .before .before .before .before .before .before .before .before .before .before .before .before .before .before .before .within .result) (r .last .1 .1 .1 .0) (called .last .1 .1 .1 .1 .0) (called .kept .1 .1 .1 .1 .0) ∙ r .kept .1 .1 .1 .0
+    length-lent (c .before .before .before .before .before .before .before .before .before .before .before .before .before .before .before .before .within .result) (r .last .1 .1 .1 .1 .0) (called .last .1 .1 .1 .1 .0) (called .kept .1 .1 .1 .1 .0) ∙ r .kept .1 .1 .1 .1 .0
 
 to-field-same-length-5 : (t : ℕ) → to-field-lts.Need-same-length-5 (to-field-calls t) (to-field-at t) to-field.Post
-to-field-same-length-5 t c = c .before .before .before .before .before .before .before .before .before .before .before .to-dtype .kept .1 .1 .1 .1 .1 .0 ∙ c .before .before .before .before .before .before .before .before .before .before .before .before .before .before .before .before .before .before .before .before .before .before .before .before .begin-field .kept .1 .1 .1 .1 .0
+to-field-same-length-5 t c = c .before .before .before .before .before .before .before .before .before .before .before .to-dtype .kept .1 .1 .1 .1 .1 .0 ∙ c .before .before .before .before .before .before .before .before .before .before .before .before .before .before .before .before .before .before .before .before .before .before .before .before .begin-field .kept .1 .1 .1 .1 .1 .0
 
 to-field-same-length-6 : (t : ℕ) → to-field-lts.Need-same-length-6 (to-field-calls t) (to-field-at t) to-field.Post
-to-field-same-length-6 t c = c .before .before .before .before .before .before .before .before .before .before .before .to-dtype .kept .1 .1 .1 .1 .1 .1 .0 ∙ c .before .before .before .before .before .before .before .before .before .before .before .before .before .before .before .before .before .before .before .before .before .before .before .before .begin-field .kept .1 .1 .1 .1 .1 .0
+to-field-same-length-6 t c = c .before .before .before .before .before .before .before .before .before .before .before .to-dtype .kept .1 .1 .1 .1 .1 .1 .0 ∙ c .before .before .before .before .before .before .before .before .before .before .before .before .before .before .before .before .before .before .before .before .before .before .before .before .begin-field .kept .1 .1 .1 .1 .1 .1 .0
 
 to-field-returns-2 : (t : ℕ) → to-field-lts.Need-returns-2 (to-field-calls t) (to-field-at t) to-field.Post
 to-field-returns-2 t c =
@@ -334,7 +334,7 @@ to-fields-Inv-loop s row out₀ entries₀ spare₀ here₀ sum₀ i₀ out entr
     × (length entries ≡ length entries₀)
     × (length spare ≡ length spare₀)
     × ((us : Schemas) (ts : List Schema) → FieldsAt s (row .at) (row .count) (row .levels) us ts
-    → Going s (row .at) (row .count) (row .levels) (row .bare) out₀ out here sum i us ts)
+    → Going s (row .at) (row .count) (row .levels) (row .bare) (row .big) out₀ out here sum i us ts)
 
 abbrev to-fields-μ-loop : to-fields-lts.MeasureT-loop
 to-fields-μ-loop s row out₀ entries₀ spare₀ here₀ sum₀ i₀ out entries spare here sum i = row .count - i
@@ -344,7 +344,7 @@ going : (t : ℕ) (c : to-fields-lts.Then1 (to-fields-calls t) (to-fields-at t) 
     → let a = c .before .before .before .before .before .before .before .args in
     let p = c .before .before .before .before .before .before .before .pre .1 .0 in
     let l = c .before .before .loop in
-    Going (now (a .s)) (a .row .at) (a .row .count) (a .row .levels) (a .row .bare) (now (a .out)) (l .out) (l .here) (l .sum) (l .i) (p .0) (p .1)
+    Going (now (a .s)) (a .row .at) (a .row .count) (a .row .levels) (a .row .bare) (a .row .big) (now (a .out)) (l .out) (l .here) (l .sum) (l .i) (p .0) (p .1)
 going t c = let p = c .before .before .before .before .before .before .before .pre .1 .0 in c .before .before .loop .inv .4 (p .0) (p .1) (p .2)
 
 -- and after it, of any trees that stood there
@@ -355,16 +355,16 @@ gone : (t : ℕ) (c : to-fields-lts.After-known-told2 (to-fields-calls t) (to-fi
     let r = c .before .before .before .before .before .before .before .before .before .next-field in
     let u = c .before .next .given .0 in
     (us : Schemas) (ts : List Schema) → FieldsAt (now (a .s)) (a .row .at) (a .row .count) (a .row .levels) us ts
-    → Going (now (a .s)) (a .row .at) (a .row .count) (a .row .levels) (a .row .bare) (now (a .out))
+    → Going (now (a .s)) (a .row .at) (a .row .count) (a .row .levels) (a .row .bare) (a .row .big) (now (a .out))
     (take w (l .out) ++ (r .last .1 .1 .0 ++ drop (length (l .out) - w) (drop w (l .out)))) (u .0) (l .sum + u .1 .0) (l .i + 1) us ts
 gone t c us ts h =
     let w = c .before .before .before .before .before .before .before .before .before .before .before .before .before .within in
     let r = c .before .before .before .before .before .before .before .before .before .next-field in
-    going-more _ _ _ _ _ _ _ _ _ _ _ _ (c .before .before .before .before .before .before .before .before .before .before .before .before .before .before .before .before .loop .inv .4 us ts h) (c .before .before .before .before .before .before .before .before .before .before .before .before .before .before .if1 .taken)
+    going-more _ _ _ _ _ _ _ _ _ _ _ _ _ (c .before .before .before .before .before .before .before .before .before .before .before .before .before .before .before .before .loop .inv .4 us ts h) (c .before .before .before .before .before .before .before .before .before .before .before .before .before .before .if1 .taken)
     (w .result) (w .ensures) (r .last .1 .1 .0) _ _ _ (c .before .next .given .1) (r .ensures)
 
 to-fields-loop-holds : (t : ℕ) → to-fields-lts.Need-loop-holds (to-fields-calls t) (to-fields-at t) to-fields.Post to-fields-Inv-loop to-fields-μ-loop
-to-fields-loop-holds t c = (search needs, refl, refl, refl, λ us ts h. going-none _ _ _ _ _ _ _ _ h)
+to-fields-loop-holds t c = (search needs, refl, refl, refl, λ us ts h. going-none _ _ _ _ _ _ _ _ _ h)
 
 to-fields-within-requires : (t : ℕ) → to-fields-lts.Need-within-requires (to-fields-calls t) (to-fields-at t) to-fields.Post to-fields-Inv-loop to-fields-μ-loop
 to-fields-within-requires t c κs = search needs
@@ -383,7 +383,7 @@ to-fields-next-field-requires t c κs =
     let start = c .before .before .before .before .before .before .before .before .before .before .before in
     let inv = c .before .before .before .before .before .before .loop .inv in (
       omega (arith, start .pre .0),
-      (going-field _ _ _ _ _ _ _ _ _ _ _ _ (going t (c .before .before .before .before)) (c .before .before .before .before .if1 .taken), room-kept (start .pre .1 .1) (inv .2) (inv .3)),
+      (going-field _ _ _ _ _ _ _ _ _ _ _ _ _ (going t (c .before .before .before .before)) (c .before .before .before .before .if1 .taken), room-kept (start .pre .1 .1) (inv .2) (inv .3)),
     )
 
 to-fields-enum-known-r : (t : ℕ) → to-fields-lts.Need-enum-known-r (to-fields-calls t) (to-fields-at t) to-fields.Post to-fields-Inv-loop to-fields-μ-loop
@@ -404,7 +404,7 @@ to-fields-same-length-3 t c = c .before .before .before .before .before .before 
 to-fields-returns : (t : ℕ) → to-fields-lts.Need-returns (to-fields-calls t) (to-fields-at t) to-fields.Post to-fields-Inv-loop to-fields-μ-loop
 to-fields-returns t c =
     let r = c .before .before .before .before .before .before .before .before .before .next-field in
-    λ us ts h. going-refused _ _ _ _ _ _ _ _ _ _ _ _ (c .before .before .before .before .before .before .before .before .before .before .before .before .before .before .before .before .loop .inv .4 us ts h) (c .before .before .before .before .before .before .before .before .before .before .before .before .before .before .if1 .taken) _ (r .last .1 .1 .0) _ _ (c .before .r .given .1) (r .ensures)
+    λ us ts h. going-refused _ _ _ _ _ _ _ _ _ _ _ _ _ (c .before .before .before .before .before .before .before .before .before .before .before .before .before .before .before .before .loop .inv .4 us ts h) (c .before .before .before .before .before .before .before .before .before .before .before .before .before .before .if1 .taken) _ (r .last .1 .1 .0) _ _ (c .before .r .given .1) (r .ensures)
 
 to-fields-enum-known-next : (t : ℕ) → to-fields-lts.Need-enum-known-next (to-fields-calls t) (to-fields-at t) to-fields.Post to-fields-Inv-loop to-fields-μ-loop
 to-fields-enum-known-next t c = search needs
@@ -442,7 +442,7 @@ to-fields-same-length-6 : (t : ℕ) → to-fields-lts.Need-same-length-6 (to-fie
 to-fields-same-length-6 t c = c .before .before .loop .inv .3
 
 to-fields-returns-2 : (t : ℕ) → to-fields-lts.Need-returns-2 (to-fields-calls t) (to-fields-at t) to-fields.Post to-fields-Inv-loop to-fields-μ-loop
-to-fields-returns-2 t c = λ us ts h. going-all _ _ _ _ _ _ _ _ _ _ _ _ (c .before .before .loop .inv .4 us ts h) (c .if1 .left)
+to-fields-returns-2 t c = λ us ts h. going-all _ _ _ _ _ _ _ _ _ _ _ _ _ (c .before .before .loop .inv .4 us ts h) (c .if1 .left)
 
 pub +next-field+to-dtype+to-field+to-fields-spec : {M : Type 1} → statement M
 +next-field+to-dtype+to-field+to-fields-spec =

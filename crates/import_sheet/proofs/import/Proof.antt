@@ -21,7 +21,7 @@ put-by-length-requires : tie.Need-put-by-length-requires
 put-by-length-requires c κs =
     let a = c .before .before .before .before .before .before .before .args in
     let r = c .before .before .before .before .read-sheet in
-    field-there (now (a .s)) (now (a .out)) (r .result) _ (c .before .before .at .given .1) (r .ensures)
+    field-there (now (a .s)) (a .big) (now (a .out)) (r .result) _ (c .before .before .at .given .1) (r .ensures)
 
 enum-known-r-2 : tie.Need-enum-known-r-2
 enum-known-r-2 c = search needs
@@ -42,7 +42,7 @@ returns : tie.Need-returns
 returns c =
     let a = c .before .before .before .before .before .before .before .before .before .before .args in
     let r = c .before .before .before .before .before .before .before .read-sheet in
-    import-unread (now (a .s)) (now (a .out)) (r .result) _ (c .before .before .before .before .before .r .given .1) (r .ensures) _ (c .before .before .refuse .ensures)
+    import-unread (now (a .s)) (a .big) (now (a .out)) (r .result) _ (c .before .before .before .before .before .r .given .1) (r .ensures) _ (c .before .before .refuse .ensures)
 
 same-length-2 : tie.Need-same-length-2
 same-length-2 c = search needs
@@ -55,7 +55,7 @@ returns-2 c =
     let r = c .before .before .before .before .before .before .before .before .before .before .before .before .before .before .read-sheet in
     let e = c .before .before .before .before .before .before .before .before .before .before .before .before .at .given .1 in
     let p = c .before .before .before .before .before .before .before .before .before .put-by-length in
-    import-refused s out (r .result) _ e (r .ensures) _ (p .result) (p .ensures) _ (c .before .before .before .before .before .r2 .given .1) (p .kept .1 .1 .0) _ (c .before .before .refuse2 .ensures)
+    import-refused s (a .big) out (r .result) _ e (r .ensures) _ (p .result) (p .ensures) _ (c .before .before .before .before .before .r2 .given .1) (p .kept .1 .1 .1 .0) _ (c .before .before .refuse2 .ensures)
 
 same-length-3 : tie.Need-same-length-3
 same-length-3 c = search needs
@@ -68,7 +68,7 @@ returns-3 c =
     let r = c .before .before .before .before .before .before .before .before .before .before .before .before .before .before .read-sheet in
     let e = c .before .before .before .before .before .before .before .before .before .before .before .before .at .given .1 in
     let p = c .before .before .before .before .before .before .before .before .before .put-by-length in
-    import-done s out (r .result) _ e (r .ensures) _ (p .result) (p .ensures) _ _ (c .before .before .before .before .before .len .given .1) _ _ (c .before .before .written .ensures)
+    import-done s (a .big) out (r .result) _ e (r .ensures) _ (p .result) (p .ensures) _ _ (c .before .before .before .before .before .len .given .1) _ _ (c .before .before .written .ensures)
 
 pub import-spec : {M : Type 1} → statement M
 import-spec =

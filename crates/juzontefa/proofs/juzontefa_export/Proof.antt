@@ -16,7 +16,7 @@ same-length : tie.Need-same-length
 same-length c = search needs
 
 returns : tie.Need-returns
-returns c = let r = c .before .before .before .export in ap (λ (a : Answer). outcomeOf (a .number) (a .length) (r .last .1 .0)) (c .answer-of .ensures) ∙ r .ensures
+returns c = let r = c .before .before .before .export in ap (λ (a : Answer). outcomeOf (a .number) (a .length) (r .last .1 .1 .0)) (c .answer-of .ensures) ∙ r .ensures
 
 pub juzontefa-export-spec : {M : Type 1} → statement M
 juzontefa-export-spec = tie.close (tie.spec export-requires answer-of-requires same-length returns)

@@ -16,7 +16,7 @@ same-length : tie.Need-same-length
 same-length c = search needs
 
 returns : tie.Need-returns
-returns c = let r = c .before .before .before .import in ap (λ (a : Answer). outcomeOf (a .number) (a .length) (r .last .1 .0)) (c .answer-of .ensures) ∙ r .ensures
+returns c = let r = c .before .before .before .import in ap (λ (a : Answer). outcomeOf (a .number) (a .length) (r .last .1 .1 .0)) (c .answer-of .ensures) ∙ r .ensures
 
 pub juzontefa-import-spec : {M : Type 1} → statement M
 juzontefa-import-spec = tie.close (tie.spec import-requires answer-of-requires same-length returns)

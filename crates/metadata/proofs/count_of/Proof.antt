@@ -9,10 +9,10 @@ word-at-requires : tie.Need-word-at-requires
 word-at-requires c κs = search needs
 
 returns : tie.Need-returns
-returns c = some-pairs (c .before .before .before .args .m .now) (c .before .word-at .result) (c .before .word-at .ensures) (omega (arith, c .if1 .taken))
+returns c = some-pairs (c .before .before .before .args .big) (c .before .before .before .args .m .now) (c .before .word-at .result) (c .before .word-at .ensures) (omega (arith, c .if1 .taken))
 
 returns-2 : tie.Need-returns-2
-returns-2 c = no-pairs (c .before .before .before .args .m .now) (c .before .word-at .result) (c .before .word-at .ensures) (omega (arith, c .if1 .left))
+returns-2 c = no-pairs (c .before .before .before .args .big) (c .before .before .before .args .m .now) (c .before .word-at .result) (c .before .word-at .ensures) (omega (arith, c .if1 .left))
 
 pub count-of-spec : {M : Type 1} → statement M
 count-of-spec = tie.close (tie.spec word-at-requires returns returns-2)

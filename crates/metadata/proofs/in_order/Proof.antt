@@ -16,12 +16,12 @@ same-length-2 c = search needs
 
 returns : tie.Need-returns
 returns c =
+    λ big h.
     let a = c .before .before .before .before .before .before .before .before .before .before .args in
-    let h = c .before .before .before .before .before .before .before .before .before .before .pre in
     let s = c .before .before .before .before .sort-keys in
     let few = s .ensures .0 in (
-      order-means (a .m .now) (h .isText) (a .entries .now) (a .f) (h .standing) (s .result) (s .last .1 .0) (few .1) (h .free),
-      order-stands (a .m .now) (h .isText) (a .entries .now) (a .f) (h .standing) (s .result) (s .last .1 .0) (few .1) (omega (arith, few .0, s .ensures .1 .0, h .standing .entries .count)),
+      order-means big (a .m .now) (h .isText) (a .entries .now) (a .f) (h .standing) (s .result) (s .last .1 .0) (few .1) (h .free),
+      order-stands big (a .m .now) (h .isText) (a .entries .now) (a .f) (h .standing) (s .result) (s .last .1 .0) (few .1) (omega (arith, few .0, s .ensures .1 .0, h .standing .entries .count)),
     )
 
 pub in-order-spec : {M : Type 1} → statement M

@@ -15,29 +15,29 @@ key-of-requires c κs = search needs
 is-name-requires : tie.Need-is-name-requires
 is-name-requires c κs =
     let a = c .before .before .before .args in
-    let h = c .before .before .before .pre in
-    key-hex (a .m .now) (h .block .isText) (a .e) (h .entry) (c .key-of .result .now) (c .key-of .ensures)
+    let h = c .before .before .before .pre .1 in
+    key-hex _ (a .m .now) (h .block .isText) (a .e) (h .entry) (c .key-of .result .now) (c .key-of .ensures)
 
 returns : tie.Need-returns
 returns c =
+    λ big h.
     let a = c .before .before .before .before .before .args in
-    let h = c .before .before .before .before .before .pre in
-    adds-name (bytesOf (a .m .now)) (a .entries .now) (a .f) (a .e) (h .entry) (h .standing)
-    (ap (λ (k : Bytes). same k nameKey) (sym (key-bytes (a .m .now) (h .block .isText) (a .e) (h .entry) (c .before .before .key-of .result .now) (c .before .before .key-of .ensures))) ∙ sym (c .before .is-name .ensures) ∙ c .if1 .taken)
+    adds-name big (bytesOf (a .m .now)) (a .entries .now) (a .f) (a .e) (h .entry) (h .standing)
+    (ap (λ (k : Bytes). same k nameKey) (sym (key-bytes big (a .m .now) (h .block .isText) (a .e) (h .entry) (c .before .before .key-of .result .now) (c .before .before .key-of .ensures))) ∙ sym (c .before .is-name .ensures) ∙ c .if1 .taken)
 
 is-more-requires : tie.Need-is-more-requires
 is-more-requires c κs =
     let a = c .before .before .before .before .before .args in
-    let h = c .before .before .before .before .before .pre in
-    key-hex (a .m .now) (h .block .isText) (a .e) (h .entry) (c .before .before .key-of .result .now) (c .before .before .key-of .ensures)
+    let h = c .before .before .before .before .before .pre .1 in
+    key-hex _ (a .m .now) (h .block .isText) (a .e) (h .entry) (c .before .before .key-of .result .now) (c .before .before .key-of .ensures)
 
 returns-2 : tie.Need-returns-2
 returns-2 c =
+    λ big h.
     let a = c .before .before .before .before .before .before .before .args in
-    let h = c .before .before .before .before .before .before .before .pre in
-    adds-more (bytesOf (a .m .now)) (a .entries .now) (a .f) (a .e) (h .entry) (h .standing)
-    (ap (λ (k : Bytes). same k nameKey) (sym (key-bytes (a .m .now) (h .block .isText) (a .e) (h .entry) (c .before .before .before .before .key-of .result .now) (c .before .before .before .before .key-of .ensures))) ∙ sym (c .before .before .before .is-name .ensures) ∙ c .before .before .if1 .left)
-    (ap (λ (k : Bytes). same k metadataKey) (sym (key-bytes (a .m .now) (h .block .isText) (a .e) (h .entry) (c .before .before .before .before .key-of .result .now) (c .before .before .before .before .key-of .ensures))) ∙ sym (c .before .is-more .ensures) ∙ c .if2 .taken)
+    adds-more big (bytesOf (a .m .now)) (a .entries .now) (a .f) (a .e) (h .entry) (h .standing)
+    (ap (λ (k : Bytes). same k nameKey) (sym (key-bytes big (a .m .now) (h .block .isText) (a .e) (h .entry) (c .before .before .before .before .key-of .result .now) (c .before .before .before .before .key-of .ensures))) ∙ sym (c .before .before .before .is-name .ensures) ∙ c .before .before .if1 .left)
+    (ap (λ (k : Bytes). same k metadataKey) (sym (key-bytes big (a .m .now) (h .block .isText) (a .e) (h .entry) (c .before .before .before .before .key-of .result .now) (c .before .before .before .before .key-of .ensures))) ∙ sym (c .before .is-more .ensures) ∙ c .if2 .taken)
 
 mul-entries : tie.Need-mul-entries
 mul-entries c = search needs
@@ -53,11 +53,11 @@ same-length c = search needs
 
 returns-3 : tie.Need-returns-3
 returns-3 c =
+    λ big h.
     let a = c .before .before .before .before .before .before .before .args in
-    let h = c .before .before .before .before .before .before .before .pre in
-    adds-pair (bytesOf (a .m .now)) (a .entries .now) (a .f) (a .e) (h .entry) (h .standing)
-    (ap (λ (k : Bytes). same k nameKey) (sym (key-bytes (a .m .now) (h .block .isText) (a .e) (h .entry) (c .before .before .before .before .key-of .result .now) (c .before .before .before .before .key-of .ensures))) ∙ sym (c .before .before .before .is-name .ensures) ∙ c .before .before .if1 .left)
-    (ap (λ (k : Bytes). same k metadataKey) (sym (key-bytes (a .m .now) (h .block .isText) (a .e) (h .entry) (c .before .before .before .before .key-of .result .now) (c .before .before .before .before .key-of .ensures))) ∙ sym (c .before .is-more .ensures) ∙ c .if2 .left) (h .room)
+    adds-pair big (bytesOf (a .m .now)) (a .entries .now) (a .f) (a .e) (h .entry) (h .standing)
+    (ap (λ (k : Bytes). same k nameKey) (sym (key-bytes big (a .m .now) (h .block .isText) (a .e) (h .entry) (c .before .before .before .before .key-of .result .now) (c .before .before .before .before .key-of .ensures))) ∙ sym (c .before .before .before .is-name .ensures) ∙ c .before .before .if1 .left)
+    (ap (λ (k : Bytes). same k metadataKey) (sym (key-bytes big (a .m .now) (h .block .isText) (a .e) (h .entry) (c .before .before .before .before .key-of .result .now) (c .before .before .before .before .key-of .ensures))) ∙ sym (c .before .is-more .ensures) ∙ c .if2 .left) (h .room)
 
 pub keep-spec : {M : Type 1} → statement M
 keep-spec =

@@ -1,26 +1,24 @@
 -- `walk` meets its contract: the laws of the walk at each place. Assumes nothing.
-use mathlib.Core.Path.{sym, ap, subst, _∙_}
-use Prim.Native.Nat.{ℕ, _-_}
+use mathlib.Core.Path.{sym, ap, _∙_}
+use Prim.Native.Nat.{_-_}
 use native.Mathlib.Omega.{arith}
 use lib.ListN.{length}
 use borrow.Author.Needs.{needs}
 use Rattle.hex.specs.Hex.{bytesOf}
-use Rattle.metadata.specs.Entry.{EntryStands}
 use Rattle.metadata.specs.PairReading.{pairAnswer}
-use Rattle.metadata.specs.Reading.{Adds}
 use Rattle.metadata.proofs.TextLaws.{pair-between}
-use Rattle.metadata.proofs.WalkLaws.{Walking, walk-start, walk-refused, walk-end, walk-next, is-entry, stands, room-left}
+use Rattle.metadata.proofs.WalkLaws.{Walking, walk-start, walk-refused, walk-end, walk-next, is-entry, room-for}
 use Rattle.metadata.proofs.walk.Statement.{statement}
 use Rattle.metadata.proofs.walk.Tie as tie
 
 abbrev Inv-loop : tie.InvT-loop
-Inv-loop m n entries₀ f₀ k₀ i₀ entries f k i = Walking m n (length entries₀) entries f k i
+Inv-loop m n big entries₀ f₀ k₀ i₀ entries f k i = Walking big m n (length entries₀) entries f k i
 
 abbrev μ-loop : tie.MeasureT-loop
-μ-loop m n entries₀ f₀ k₀ i₀ entries f k i = n - i
+μ-loop m n big entries₀ f₀ k₀ i₀ entries f k i = n - i
 
 loop-holds : tie.Need-loop-holds Inv-loop μ-loop
-loop-holds c = walk-start (c .before .before .args .m .now) (c .before .before .args .n) (c .before .before .args .entries .now) (c .before .before .pre .1)
+loop-holds c = walk-start (c .before .before .args .big) (c .before .before .args .m .now) (c .before .before .args .n) (c .before .before .args .entries .now) (c .before .before .pre .1)
 
 read-pair-requires : tie.Need-read-pair-requires Inv-loop μ-loop
 read-pair-requires c κs = record { block = c .before .before .before .before .pre .0; within = c .before .loop .inv .place }
@@ -35,7 +33,7 @@ returns : tie.Need-returns Inv-loop μ-loop
 returns c =
     let l = c .before .before .before .before .before .loop in
     let a = c .before .before .before .before .before .before .before .before .args in
-    (walk-refused (a .m .now) (a .n) _ (l .entries) (l .f) (l .k) (l .i) (l .inv) (c .before .before .before .before .loop-test .taken) _ (sym (c .before .before .before .read-pair .ensures) ∙ ap pairAnswer (c .before .q .given .1)), tt)
+    (walk-refused (a .big) (a .m .now) (a .n) _ (l .entries) (l .f) (l .k) (l .i) (l .inv) (c .before .before .before .before .loop-test .taken) _ (sym (c .before .before .before .read-pair .ensures) ∙ ap pairAnswer (c .before .q .given .1)), tt)
 
 enum-known-size : tie.Need-enum-known-size Inv-loop μ-loop
 enum-known-size c = search needs
@@ -50,28 +48,23 @@ mul-entry-of-2 : tie.Need-mul-entry-of-2 Inv-loop μ-loop
 mul-entry-of-2 c =
     let l = c .before .before .before .before .before .before .loop in
     let a = c .before .before .before .before .before .before .before .before .before .args in
-    let p = pair-between (bytesOf (a .m .now)) (l .k) _ _ (sym (c .before .before .before .before .read-pair .ensures) ∙ ap pairAnswer (c .before .before .size .given .1)) in
-    omega (arith, is-entry (a .m .now) (a .n) _ (l .entries) (l .f) (l .k) (l .i) (l .inv) (c .before .before .before .before .before .loop-test .taken) (c .before .before .before .before .before .before .before .before .before .pre .0) _ _ p)
+    let p = pair-between (a .big) (bytesOf (a .m .now)) (l .k) _ _ (sym (c .before .before .before .before .read-pair .ensures) ∙ ap pairAnswer (c .before .before .size .given .1)) in
+    omega (arith, is-entry (a .big) (a .m .now) (a .n) _ (l .entries) (l .f) (l .k) (l .i) (l .inv) (c .before .before .before .before .before .loop-test .taken) (c .before .before .before .before .before .before .before .before .before .pre .0) _ _ p)
 
 entry-of-requires : tie.Need-entry-of-requires Inv-loop μ-loop
 entry-of-requires c κs =
     let l = c .before .before .before .before .before .before .loop in
     let a = c .before .before .before .before .before .before .before .before .before .args in
-    let p = pair-between (bytesOf (a .m .now)) (l .k) _ _ (sym (c .before .before .before .before .read-pair .ensures) ∙ ap pairAnswer (c .before .before .size .given .1)) in
-    is-entry (a .m .now) (a .n) _ (l .entries) (l .f) (l .k) (l .i) (l .inv) (c .before .before .before .before .before .loop-test .taken) (c .before .before .before .before .before .before .before .before .before .pre .0) _ _ p
+    let p = pair-between (a .big) (bytesOf (a .m .now)) (l .k) _ _ (sym (c .before .before .before .before .read-pair .ensures) ∙ ap pairAnswer (c .before .before .size .given .1)) in
+    is-entry (a .big) (a .m .now) (a .n) _ (l .entries) (l .f) (l .k) (l .i) (l .inv) (c .before .before .before .before .before .loop-test .taken) (c .before .before .before .before .before .before .before .before .before .pre .0) _ _ p
 
 keep-requires : tie.Need-keep-requires Inv-loop μ-loop
 keep-requires c κs =
     let l = c .before .before .before .before .before .before .before .loop in
     let a = c .before .before .before .before .before .before .before .before .before .before .args in
     let h = c .before .before .before .before .before .before .before .before .before .before .pre in
-    let p = pair-between (bytesOf (a .m .now)) (l .k) _ _ (sym (c .before .before .before .before .before .read-pair .ensures) ∙ ap pairAnswer (c .before .before .before .size .given .1)) in
-    record {
-      block = h .0;
-      room = room-left (a .m .now) (a .n) _ (l .entries) (l .f) (l .k) (l .i) (l .inv) (c .before .before .before .before .before .before .loop-test .taken) (h .0) _ _ p (h .2);
-      standing = l .inv .standing;
-      entry = subst (EntryStands (bytesOf (a .m .now))) (sym (c .entry-of .ensures)) (stands (a .m .now) (a .n) _ (l .entries) (l .f) (l .k) (l .i) (l .inv) (c .before .before .before .before .before .before .loop-test .taken) (h .0) _ _ p);
-    }
+    let p = pair-between (a .big) (bytesOf (a .m .now)) (l .k) _ _ (sym (c .before .before .before .before .before .read-pair .ensures) ∙ ap pairAnswer (c .before .before .before .size .given .1)) in
+    (a .big, room-for (a .big) (a .m .now) (a .n) _ (l .entries) (l .f) (l .k) (l .i) (l .inv) (c .before .before .before .before .before .before .loop-test .taken) (h .0) _ _ p _ (c .entry-of .ensures) (h .2))
 
 add-i : tie.Need-add-i Inv-loop μ-loop
 add-i c = search needs
@@ -83,10 +76,9 @@ loop-again : tie.Need-loop-again Inv-loop μ-loop
 loop-again c =
     let l = c .before .before .before .before .before .before .before .before .before .before .loop in
     let a = c .before .before .before .before .before .before .before .before .before .before .before .before .before .args in
-    let p = pair-between (bytesOf (a .m .now)) (l .k) _ _ (sym (c .before .before .before .before .before .before .before .before .read-pair .ensures) ∙ ap pairAnswer (c .before .before .before .before .before .before .size .given .1)) in
+    let p = pair-between (a .big) (bytesOf (a .m .now)) (l .k) _ _ (sym (c .before .before .before .before .before .before .before .before .read-pair .ensures) ∙ ap pairAnswer (c .before .before .before .before .before .before .size .given .1)) in
     let k = c .before .before .keep in
-    let added = subst (λ (e : ℕ). Adds (bytesOf (a .m .now)) (l .entries) (l .f) e (k .last .1 .0) (k .result)) (c .before .before .before .entry-of .ensures) (k .ensures) in
-    walk-next (a .m .now) (a .n) _ (l .entries) (l .f) (l .k) (l .i) (l .inv) (c .before .before .before .before .before .before .before .before .before .loop-test .taken) (c .before .before .before .before .before .before .before .before .before .before .before .before .before .pre .0) _ _ p (k .last .1 .0) (k .result) (k .kept .1 .0) added
+    walk-next (a .big) (a .m .now) (a .n) _ (l .entries) (l .f) (l .k) (l .i) (l .inv) (c .before .before .before .before .before .before .before .before .before .loop-test .taken) (c .before .before .before .before .before .before .before .before .before .before .before .before .before .pre .0) _ _ p _ (c .before .before .before .entry-of .ensures) (c .before .before .before .before .before .before .before .before .before .before .before .before .before .pre .2) (k .last .1 .0) (k .result) (k .kept .1 .0) (k .ensures)
 
 same-length-2 : tie.Need-same-length-2 Inv-loop μ-loop
 same-length-2 c = c .before .loop .inv .room
@@ -95,7 +87,7 @@ returns-2 : tie.Need-returns-2 Inv-loop μ-loop
 returns-2 c =
     let l = c .before .loop in
     let a = c .before .before .before .before .args in
-    (walk-end (a .m .now) (a .n) _ (l .entries) (l .f) (l .k) (l .i) (l .inv) (c .loop-test .left), l .inv .standing)
+    (walk-end (a .big) (a .m .now) (a .n) _ (l .entries) (l .f) (l .k) (l .i) (l .inv) (c .loop-test .left), l .inv .standing)
 
 pub walk-spec : {M : Type 1} → statement M
 walk-spec =

@@ -44,8 +44,8 @@ returns c =
     let name = c .before .before .before .before .before .before .before .before .before .before .before .before .before .before .column-of in
     let block = c .before .before .before .before .before .before .before .before .before .before .before .before .before .column-of2 in
     let read = c .before .before .before .before .before .before .before .before .before .before .read-own in
-    let reads = reads-in (now (a .s)) (a .line) _ _ (name .ensures) (block .ensures) _ (read .result) (read .ensures) in
-    λ x w. begin-plain (p .0) x w (a .bare) _ (read .result) reads (now (a .out)) _ (c .before .before .before .before .d .given .1) _ (shown-made (c .before .before .nullable .ensures)) (c .if1 .taken) _ refl
+    let reads = reads-in (a .big) (now (a .s)) (a .line) _ _ (name .ensures) (block .ensures) _ (read .result) (read .ensures) in
+    λ x w. begin-plain (p .0) (a .big) x w (a .bare) _ (read .result) reads (now (a .out)) _ (c .before .before .before .before .d .given .1) _ (shown-made (c .before .before .nullable .ensures)) (c .if1 .taken) _ refl
 
 text-of-requires : tie.Need-text-of-requires
 text-of-requires c κs = search needs
@@ -57,13 +57,13 @@ put-extension-line-requires c κs =
     let name = c .before .before .before .before .before .before .before .before .before .before .before .before .before .before .before .before .before .column-of in
     let block = c .before .before .before .before .before .before .before .before .before .before .before .before .before .before .before .before .column-of2 in
     let read = c .before .before .before .before .before .before .before .before .before .before .before .before .before .read-own in
-    let reads = reads-in (now (a .s)) (a .line) _ _ (name .ensures) (block .ensures) _ (read .result) (read .ensures) in
+    let reads = reads-in (a .big) (now (a .s)) (a .line) _ _ (name .ensures) (block .ensures) _ (read .result) (read .ensures) in
     let x = p .0 .line in
     let w = p .0 .shows in
     let known = c .before .before .before .before .before .before .before .d .given .1 in
     let made = shown-made (c .before .before .before .before .before .nullable .ensures) in
     ready-in (now (a .s)) (a .line) _ _ _ (name .ensures) (block .ensures) (c .before .before .text-of .ensures) _ _ _
-    (can-show (p .0) x w (a .bare) _ (read .result) reads (now (a .out)) _ known _ made, can-extend (p .0) x w (a .bare) _ (read .result) reads (now (a .out)) _ known _ made)
+    (can-show (p .0) (a .big) x w (a .bare) _ (read .result) reads (now (a .out)) _ known _ made, can-extend (p .0) (a .big) x w (a .bare) _ (read .result) reads (now (a .out)) _ known _ made)
 
 nothing-shown-requires : tie.Need-nothing-shown-requires
 nothing-shown-requires c κs = search needs
@@ -81,8 +81,8 @@ returns-2 c =
     let name = c .before .before .before .before .before .before .before .before .before .before .before .before .column-of in
     let block = c .before .before .before .before .before .before .before .before .before .before .before .column-of2 in
     let read = c .before .before .before .before .before .before .before .before .read-own in
-    let reads = reads-in (now (a .s)) (a .line) _ _ (name .ensures) (block .ensures) _ (read .result) (read .ensures) in
-    λ x w. begin-refused (p .0) x w (a .bare) _ (read .result) reads (now (a .out)) _ (c .before .before .r .given .1) _ (c .refused-later .ensures)
+    let reads = reads-in (a .big) (now (a .s)) (a .line) _ _ (name .ensures) (block .ensures) _ (read .result) (read .ensures) in
+    λ x w. begin-refused (p .0) (a .big) x w (a .bare) _ (read .result) reads (now (a .out)) _ (c .before .before .r .given .1) _ (c .refused-later .ensures)
 
 same-length-5 : tie.Need-same-length-5
 same-length-5 c = search needs
@@ -100,10 +100,10 @@ returns-3 c =
     let name = c .before .before .before .before .before .before .before .before .before .before .before .before .before .before .before .before .before .before .before .before .before .column-of in
     let block = c .before .before .before .before .before .before .before .before .before .before .before .before .before .before .before .before .before .before .before .before .column-of2 in
     let read = c .before .before .before .before .before .before .before .before .before .before .before .before .before .before .before .before .before .read-own in
-    let reads = reads-in (now (a .s)) (a .line) _ _ (name .ensures) (block .ensures) _ (read .result) (read .ensures) in
+    let reads = reads-in (a .big) (now (a .s)) (a .line) _ _ (name .ensures) (block .ensures) _ (read .result) (read .ensures) in
     let put = c .before .before .before .put-extension-line in
     let laid = put-in (now (a .s)) (a .line) _ _ _ (name .ensures) (block .ensures) (c .before .before .before .before .before .before .text-of .ensures) _ _ _ (put .result) (now (a .out)) _ (put .ensures) in
-    λ x w. begin-extended (p .0) x w (a .bare) _ (read .result) reads (now (a .out)) _ (c .before .before .before .before .before .before .before .before .before .before .before .d .given .1) _ (shown-made (c .before .before .before .before .before .before .before .before .before .nullable .ensures)) (c .before .before .before .before .before .before .before .if1 .left) _ _ laid _ (ap (λ (y : Shown). record { len = put .result; shown = y; pending = Pending.Nothing }) (c .nothing-shown .ensures))
+    λ x w. begin-extended (p .0) (a .big) x w (a .bare) _ (read .result) reads (now (a .out)) _ (c .before .before .before .before .before .before .before .before .before .before .before .d .given .1) _ (shown-made (c .before .before .before .before .before .before .before .before .before .nullable .ensures)) (c .before .before .before .before .before .before .before .if1 .left) _ _ laid _ (ap (λ (y : Shown). record { len = put .result; shown = y; pending = Pending.Nothing }) (c .nothing-shown .ensures))
 
 pub begin-field-spec : {M : Type 1} → statement M
 begin-field-spec =

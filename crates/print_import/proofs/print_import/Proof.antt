@@ -24,7 +24,7 @@ returns : tie.Need-returns
 returns c =
     let start = c .before .before .before .before .before .before .before in
     let r = c .before .before .before .import in
-    c .print-answer .ensures ∙ printed (start .args .sheet .now) (c .before .before .before .before .before .large-buffer .result) _ (r .result) (c .before .before .before .before .before .large-buffer .ensures) (r .ensures)
+    c .print-answer .ensures ∙ printed (start .args .big) (start .args .sheet .now) (c .before .before .before .before .before .large-buffer .result) _ (r .result) (c .before .before .before .before .before .large-buffer .ensures) (r .ensures)
 
 pub print-import-spec : {M : Type 1} → statement M
 print-import-spec =

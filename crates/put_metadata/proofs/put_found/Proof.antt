@@ -28,8 +28,8 @@ part-put-pair-end-2 c = search needs
 put-pair-requires : tie.Need-put-pair-requires
 put-pair-requires c κs = search needs
 
-add-t13 : tie.Need-add-t13
-add-t13 c = search needs
+add-t14 : tie.Need-add-t14
+add-t14 c = search needs
 
 same-length : tie.Need-same-length
 same-length c = search needs
@@ -37,7 +37,7 @@ same-length c = search needs
 returns : tie.Need-returns
 returns c =
     let a = c .before .before .before .before .before .before .before .before .before .args in
-    found (a .pairs .now) (a .w) (a .p) (c .before .before .before .before .before .before .before .before .before .pre .0) (c .before .before .before .before .before .before .before .before .before .pre .1) (c .before .before .before .put-pair .result) (a .out .now) (c .before .before .before .put-pair .last .0) (c .before .before .before .put-pair .ensures)
+    found (a .big) (a .pairs .now) (a .w) (a .p) (c .before .before .before .before .before .before .before .before .before .pre .0) (c .before .before .before .before .before .before .before .before .before .pre .1) (c .before .before .before .put-pair .result) (a .out .now) (c .before .before .before .put-pair .last .0) (c .before .before .before .put-pair .ensures)
 
 pub put-found-spec : {M : Type 1} → statement M
 put-found-spec =
@@ -51,6 +51,6 @@ put-found-spec =
     part-put-pair-start-2
     part-put-pair-end-2
     put-pair-requires
-    add-t13
+    add-t14
     same-length
     returns)

@@ -1,6 +1,6 @@
 -- `put_left` meets its contract: every key stands before `~`; the count is that of all pairs. Assumes nothing.
 use Rattle.put_metadata.proofs.ColumnLaws.{left-put}
-use Rattle.little_endian.proofs.WordLaws.{length-word-text}
+use Rattle.endian.proofs.WordLaws.{length-word-text}
 use native.Mathlib.Omega.{arith}
 use borrow.Author.Needs.{needs}
 use Rattle.put_metadata.proofs.put_left.Statement.{statement}
@@ -16,7 +16,7 @@ cast-count : tie.Need-cast-count
 cast-count c = search needs
 
 put-word-requires : tie.Need-put-word-requires
-put-word-requires c κs = omega (arith, c .before .before .before .before .before .before .before .before .before .pre .room, length-word-text (c .before .before .before .before .put-until .result .count))
+put-word-requires c κs = omega (arith, c .before .before .before .before .before .before .before .before .before .pre .room, length-word-text (c .before .before .before .before .before .before .before .before .before .args .big) (c .before .before .before .before .put-until .result .count))
 
 same-length : tie.Need-same-length
 same-length c = search needs
@@ -24,7 +24,7 @@ same-length c = search needs
 returns : tie.Need-returns
 returns c =
     let a = c .before .before .before .before .before .before .before .before .before .before .before .before .args in
-    left-put (a .pairs .now) (a .w) (c .before .before .before .before .before .before .before .put-until .result) (c .before .before .before .before .before .before .before .before .before .before .before .before .pre .walk) (a .out .now) (c .before .before .before .before .before .before .before .put-until .last .0) (c .before .before .before .before .before .before .before .put-until .ensures) (a .at) (c .before .before .put-word .last .0) (c .before .before .put-word .ensures .1)
+    left-put (a .big) (a .pairs .now) (a .w) (c .before .before .before .before .before .before .before .put-until .result) (c .before .before .before .before .before .before .before .before .before .before .before .before .pre .walk) (a .out .now) (c .before .before .before .before .before .before .before .put-until .last .0) (c .before .before .before .before .before .before .before .put-until .ensures) (a .at) (c .before .before .put-word .last .0) (c .before .before .put-word .ensures .1)
 
 pub put-left-spec : {M : Type 1} → statement M
 put-left-spec =

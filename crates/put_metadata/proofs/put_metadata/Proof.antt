@@ -9,8 +9,8 @@ use Rattle.put_metadata.proofs.put_metadata.Tie as tie
 first-place-requires : tie.Need-first-place-requires
 first-place-requires c κs = search needs
 
-add-t13 : tie.Need-add-t13
-add-t13 c = search needs
+add-t14 : tie.Need-add-t14
+add-t14 c = search needs
 
 slice-aggregate-same : tie.Need-slice-aggregate-same
 slice-aggregate-same c = search needs
@@ -27,7 +27,7 @@ same-length c = search needs
 returns : tie.Need-returns
 returns c =
     let a = c .before .before .before .before .before .before .before .before .before .before .before .before .before .args in
-    none-put (a .pairs .now) (a .name .now) (a .more .now) (a .at) (c .before .before .before .before .before .before .before .before .before .before .before .before .before .pre) (c .before .before .before .before .before .before .before .before .first-place .result) (c .before .before .before .before .before .before .before .before .first-place .ensures) (sym (c .before .before .before .before .before .before .same .ensures) ∙ c .before .before .before .before .before .if1 .taken) (c .before .before .before .before .if2 .taken) (c .before .before .put-byte .result) (a .out .now) (c .before .before .put-byte .last .0) (c .before .before .put-byte .ensures)
+    none-put (a .big) (a .pairs .now) (a .name .now) (a .more .now) (a .at) (c .before .before .before .before .before .before .before .before .before .before .before .before .before .pre) (c .before .before .before .before .before .before .before .before .first-place .result) (c .before .before .before .before .before .before .before .before .first-place .ensures) (sym (c .before .before .before .before .before .before .same .ensures) ∙ c .before .before .before .before .before .if1 .taken) (c .before .before .before .before .if2 .taken) (c .before .before .put-byte .result) (a .out .now) (c .before .before .put-byte .last .0) (c .before .before .put-byte .ensures)
 
 put-left-requires : tie.Need-put-left-requires
 put-left-requires c κs =
@@ -36,7 +36,7 @@ put-left-requires c κs =
     record {
       walk =
           record {
-            stands = start-stands (a .pairs .now) (a .name .now) (a .more .now) (a .at) h (c .before .before .before .before .before .first-place .result) (c .before .before .before .before .before .first-place .ensures);
+            stands = start-stands (a .big) (a .pairs .now) (a .name .now) (a .more .now) (a .at) h (c .before .before .before .before .before .first-place .result) (c .before .before .before .before .before .first-place .ensures);
             room = omega (arith, h .low, h .short);
             few = omega (arith, h .short);
           };
@@ -49,12 +49,12 @@ same-length-2 c = search needs
 returns-2 : tie.Need-returns-2
 returns-2 c =
     let a = c .before .before .before .before .before .before .before .before .before .before .before .before .before .args in
-    plain-put (a .pairs .now) (a .name .now) (a .more .now) (a .at) (c .before .before .before .before .before .before .before .before .before .before .before .before .before .pre) (c .before .before .before .before .before .before .before .before .first-place .result) (c .before .before .before .before .before .before .before .before .first-place .ensures) (sym (c .before .before .before .before .before .before .same .ensures) ∙ c .before .before .before .before .before .if1 .taken) (c .before .before .before .before .if2 .left) (c .before .before .put-left .result) (a .out .now) (c .before .before .put-left .last .0) (c .before .before .put-left .ensures)
+    plain-put (a .big) (a .pairs .now) (a .name .now) (a .more .now) (a .at) (c .before .before .before .before .before .before .before .before .before .before .before .before .before .pre) (c .before .before .before .before .before .before .before .before .first-place .result) (c .before .before .before .before .before .before .before .before .first-place .ensures) (sym (c .before .before .before .before .before .before .same .ensures) ∙ c .before .before .before .before .before .if1 .taken) (c .before .before .before .before .if2 .left) (c .before .before .put-left .result) (a .out .now) (c .before .before .put-left .last .0) (c .before .before .put-left .ensures)
 
 put-more-requires : tie.Need-put-more-requires
 put-more-requires c κs =
     let a = c .before .before .before .before .before .before .before .before .before .args in
-    can-more (a .pairs .now) (a .name .now) (a .more .now) (a .at) (c .before .before .before .before .before .before .before .before .before .pre) (c .before .before .before .before .first-place .result) (c .before .before .before .before .first-place .ensures) (sym (c .before .before .same .ensures) ∙ c .before .if1 .left)
+    can-more (a .big) (a .pairs .now) (a .name .now) (a .more .now) (a .at) (c .before .before .before .before .before .before .before .before .before .pre) (c .before .before .before .before .first-place .result) (c .before .before .before .before .first-place .ensures) (sym (c .before .before .same .ensures) ∙ c .before .if1 .left)
 
 text-of-requires : tie.Need-text-of-requires
 text-of-requires c κs = search needs
@@ -65,13 +65,13 @@ slice-aggregate-put-reserved c = search needs
 put-reserved-requires : tie.Need-put-reserved-requires
 put-reserved-requires c κs =
     let a = c .before .before .before .before .before .before .before .before .before .before .before .before .before .before .before .args in
-    can-name (a .pairs .now) (a .name .now) (a .more .now) (a .at) (c .before .before .before .before .before .before .before .before .before .before .before .before .before .before .before .pre) (c .before .before .before .before .before .before .before .before .before .before .first-place .result) (c .before .before .before .before .before .before .before .before .before .before .first-place .ensures) (sym (c .before .before .before .before .before .before .before .before .same .ensures) ∙ c .before .before .before .before .before .before .before .if1 .left) (c .before .before .before .before .before .put-more .result) (a .out .now) (c .before .before .before .before .before .put-more .last .0) (c .before .before .before .before .before .put-more .ensures) (c .before .before .text-of .result .now) (c .before .before .text-of .ensures)
+    can-name (a .big) (a .pairs .now) (a .name .now) (a .more .now) (a .at) (c .before .before .before .before .before .before .before .before .before .before .before .before .before .before .before .pre) (c .before .before .before .before .before .before .before .before .before .before .first-place .result) (c .before .before .before .before .before .before .before .before .before .before .first-place .ensures) (sym (c .before .before .before .before .before .before .before .before .same .ensures) ∙ c .before .before .before .before .before .before .before .if1 .left) (c .before .before .before .before .before .put-more .result) (a .out .now) (c .before .before .before .before .before .put-more .last .0) (c .before .before .before .before .before .put-more .ensures) (c .before .before .text-of .result .now) (c .before .before .text-of .ensures)
 
 put-left-requires-2 : tie.Need-put-left-requires-2
 put-left-requires-2 c κs =
     let a = c .before .before .before .before .before .before .before .before .before .before .before .before .before .before .before .before .before .before .before .args in
     record {
-      walk = can-left (a .pairs .now) (a .name .now) (a .more .now) (a .at) (c .before .before .before .before .before .before .before .before .before .before .before .before .before .before .before .before .before .before .before .pre) (c .before .before .before .before .before .before .before .before .before .before .before .before .before .before .first-place .result) (c .before .before .before .before .before .before .before .before .before .before .before .before .before .before .first-place .ensures) (sym (c .before .before .before .before .before .before .before .before .before .before .before .before .same .ensures) ∙ c .before .before .before .before .before .before .before .before .before .before .before .if1 .left) (c .before .before .before .before .before .before .before .before .before .put-more .result) (a .out .now) (c .before .before .before .before .before .before .before .before .before .put-more .last .0) (c .before .before .before .before .before .before .before .before .before .put-more .ensures) (c .before .before .before .before .before .before .text-of .result .now) (c .before .before .before .before .before .before .text-of .ensures) (c .before .before .before .put-reserved .result) (c .before .before .before .put-reserved .last .0) (c .before .before .before .put-reserved .ensures);
+      walk = can-left (a .big) (a .pairs .now) (a .name .now) (a .more .now) (a .at) (c .before .before .before .before .before .before .before .before .before .before .before .before .before .before .before .before .before .before .before .pre) (c .before .before .before .before .before .before .before .before .before .before .before .before .before .before .first-place .result) (c .before .before .before .before .before .before .before .before .before .before .before .before .before .before .first-place .ensures) (sym (c .before .before .before .before .before .before .before .before .before .before .before .before .same .ensures) ∙ c .before .before .before .before .before .before .before .before .before .before .before .if1 .left) (c .before .before .before .before .before .before .before .before .before .put-more .result) (a .out .now) (c .before .before .before .before .before .before .before .before .before .put-more .last .0) (c .before .before .before .before .before .before .before .before .before .put-more .ensures) (c .before .before .before .before .before .before .text-of .result .now) (c .before .before .before .before .before .before .text-of .ensures) (c .before .before .before .put-reserved .result) (c .before .before .before .put-reserved .last .0) (c .before .before .before .put-reserved .ensures);
       room = omega (arith, c .before .before .before .before .before .before .before .before .before .before .before .before .before .before .before .before .before .before .before .pre .low);
     }
 
@@ -81,14 +81,14 @@ same-length-3 c = search needs
 returns-3 : tie.Need-returns-3
 returns-3 c =
     let a = c .before .before .before .before .before .before .before .before .before .before .before .before .before .before .before .before .before .before .before .before .before .before .args in
-    extended-put (a .pairs .now) (a .name .now) (a .more .now) (a .at) (c .before .before .before .before .before .before .before .before .before .before .before .before .before .before .before .before .before .before .before .before .before .before .pre) (c .before .before .before .before .before .before .before .before .before .before .before .before .before .before .before .before .before .first-place .result) (c .before .before .before .before .before .before .before .before .before .before .before .before .before .before .before .before .before .first-place .ensures) (sym (c .before .before .before .before .before .before .before .before .before .before .before .before .before .before .before .same .ensures) ∙ c .before .before .before .before .before .before .before .before .before .before .before .before .before .before .if1 .left) (c .before .before .before .before .before .before .before .before .before .before .before .before .put-more .result) (a .out .now) (c .before .before .before .before .before .before .before .before .before .before .before .before .put-more .last .0) (c .before .before .before .before .before .before .before .before .before .before .before .before .put-more .ensures) (c .before .before .before .before .before .before .before .before .before .text-of .result .now) (c .before .before .before .before .before .before .before .before .before .text-of .ensures) (c .before .before .before .before .before .before .put-reserved .result) (c .before .before .before .before .before .before .put-reserved .last .0) (c .before .before .before .before .before .before .put-reserved .ensures) (c .before .before .put-left2 .result) (c .before .before .put-left2 .last .0) (c .before .before .put-left2 .ensures)
+    extended-put (a .big) (a .pairs .now) (a .name .now) (a .more .now) (a .at) (c .before .before .before .before .before .before .before .before .before .before .before .before .before .before .before .before .before .before .before .before .before .before .pre) (c .before .before .before .before .before .before .before .before .before .before .before .before .before .before .before .before .before .first-place .result) (c .before .before .before .before .before .before .before .before .before .before .before .before .before .before .before .before .before .first-place .ensures) (sym (c .before .before .before .before .before .before .before .before .before .before .before .before .before .before .before .same .ensures) ∙ c .before .before .before .before .before .before .before .before .before .before .before .before .before .before .if1 .left) (c .before .before .before .before .before .before .before .before .before .before .before .before .put-more .result) (a .out .now) (c .before .before .before .before .before .before .before .before .before .before .before .before .put-more .last .0) (c .before .before .before .before .before .before .before .before .before .before .before .before .put-more .ensures) (c .before .before .before .before .before .before .before .before .before .text-of .result .now) (c .before .before .before .before .before .before .before .before .before .text-of .ensures) (c .before .before .before .before .before .before .put-reserved .result) (c .before .before .before .before .before .before .put-reserved .last .0) (c .before .before .before .before .before .before .put-reserved .ensures) (c .before .before .put-left2 .result) (c .before .before .put-left2 .last .0) (c .before .before .put-left2 .ensures)
 
 pub put-metadata-spec : {M : Type 1} → statement M
 put-metadata-spec =
     tie.close
     (tie.spec
     first-place-requires
-    add-t13
+    add-t14
     slice-aggregate-same
     same-requires
     put-byte-requires

@@ -14,7 +14,7 @@ same-requires c κs = search needs
 returns : tie.Need-returns
 returns c =
     let a = c .before .before .before .before .before .before .args in
-    more-none (a .pairs .now) (a .more .now) (a .w) (c .before .before .before .before .before .before .pre) (sym (c .before .same .ensures) ∙ c .if1 .taken) (a .out .now)
+    more-none (a .big) (a .pairs .now) (a .more .now) (a .w) (c .before .before .before .before .before .before .pre) (sym (c .before .same .ensures) ∙ c .if1 .taken) (a .out .now)
 
 text-of-requires : tie.Need-text-of-requires
 text-of-requires c κs = search needs
@@ -25,7 +25,7 @@ slice-aggregate-put-reserved c = search needs
 put-reserved-requires : tie.Need-put-reserved-requires
 put-reserved-requires c κs =
     let a = c .before .before .before .before .before .before .before .before .before .args in
-    can-put-more (a .pairs .now) (a .more .now) (a .w) (c .before .before .before .before .before .before .before .before .before .pre) (c .before .before .text-of .result .now) (c .before .before .text-of .ensures)
+    can-put-more (a .big) (a .pairs .now) (a .more .now) (a .w) (c .before .before .before .before .before .before .before .before .before .pre) (c .before .before .text-of .result .now) (c .before .before .text-of .ensures)
 
 same-length : tie.Need-same-length
 same-length c = search needs
@@ -33,7 +33,7 @@ same-length c = search needs
 returns-2 : tie.Need-returns-2
 returns-2 c =
     let a = c .before .before .before .before .before .before .before .before .before .before .before .before .args in
-    more-some (a .pairs .now) (a .more .now) (a .w) (c .before .before .before .before .before .before .before .before .before .before .before .before .pre) (sym (c .before .before .before .before .before .before .before .same .ensures) ∙ c .before .before .before .before .before .before .if1 .left) (c .before .before .before .before .before .text-of .result .now) (c .before .before .before .before .before .text-of .ensures) (c .before .before .put-reserved .result) (a .out .now) (c .before .before .put-reserved .last .0) (c .before .before .put-reserved .ensures)
+    more-some (a .big) (a .pairs .now) (a .more .now) (a .w) (c .before .before .before .before .before .before .before .before .before .before .before .before .pre) (sym (c .before .before .before .before .before .before .before .same .ensures) ∙ c .before .before .before .before .before .before .if1 .left) (c .before .before .before .before .before .text-of .result .now) (c .before .before .before .before .before .text-of .ensures) (c .before .before .put-reserved .result) (a .out .now) (c .before .before .put-reserved .last .0) (c .before .before .put-reserved .ensures)
 
 pub put-more-spec : {M : Type 1} → statement M
 put-more-spec =

@@ -11,7 +11,7 @@ put-text-requires : tie.Need-put-text-requires
 put-text-requires c κs = search needs
 
 put-text-requires-2 : tie.Need-put-text-requires-2
-put-text-requires-2 c κs = record { short = c .before .before .before .before .before .before .before .before .pre .shortValue; room = omega (arith, c .before .before .before .before .before .before .before .before .pre .room, c .before .before .before .put-text .ensures .0, sized-length (c .before .before .before .before .before .before .before .before .args .key .now)) }
+put-text-requires-2 c κs = record { short = c .before .before .before .before .before .before .before .before .pre .shortValue; room = omega (arith, c .before .before .before .before .before .before .before .before .pre .room, c .before .before .before .put-text .ensures .0, sized-length (c .before .before .before .before .before .before .before .before .args .big) (c .before .before .before .before .before .before .before .before .args .key .now)) }
 
 same-length : tie.Need-same-length
 same-length c = search needs
@@ -20,7 +20,7 @@ returns : tie.Need-returns
 unfolding pairPieces
 returns c =
     let a = c .before .before .before .before .before .before .before .before .before .before .before .args in
-    let w = and-then (sizedText (a .value .now)) (and-then (sizedText (a .key .now)) (none-yet (a .at) (a .out .now)) (c .before .before .before .before .before .before .put-text .ensures)) (c .before .before .put-text2 .ensures) in
+    let w = and-then (sizedText (a .big) (a .value .now)) (and-then (sizedText (a .big) (a .key .now)) (none-yet (a .at) (a .out .now)) (c .before .before .before .before .before .before .put-text .ensures)) (c .before .before .put-text2 .ensures) in
     (w .place, w .holds)
 
 pub put-pair-spec : {M : Type 1} → statement M

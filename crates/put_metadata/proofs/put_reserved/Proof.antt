@@ -13,8 +13,8 @@ put-pair-requires c κs = search needs
 after-same-requires : tie.Need-after-same-requires
 after-same-requires c κs = search needs
 
-add-t13 : tie.Need-add-t13
-add-t13 c = search needs
+add-t14 : tie.Need-add-t14
+add-t14 c = search needs
 
 same-length : tie.Need-same-length
 same-length c = search needs
@@ -22,9 +22,9 @@ same-length c = search needs
 returns : tie.Need-returns
 returns c =
     let a = c .before .before .before .before .before .before .before .before .before .before .before .before .before .before .args in
-    reserved-move (a .pairs .now) (a .key .now) (a .value .now) (a .w) (c .before .before .before .before .before .before .before .before .put-until .result) (a .out .now) (c .before .before .before .before .before .before .before .before .put-until .last .0) (c .before .before .before .before .before .before .before .before .put-until .ensures) (c .before .before .before .before .put-pair .result) (c .before .after-same .result) (c .before .before .before .before .put-pair .last .0) (c .before .before .before .before .put-pair .ensures) (c .before .after-same .ensures)
+    reserved-move (a .big) (a .pairs .now) (a .key .now) (a .value .now) (a .w) (c .before .before .before .before .before .before .before .before .put-until .result) (a .out .now) (c .before .before .before .before .before .before .before .before .put-until .last .0) (c .before .before .before .before .before .before .before .before .put-until .ensures) (c .before .before .before .before .put-pair .result) (c .before .after-same .result) (c .before .before .before .before .put-pair .last .0) (c .before .before .before .before .put-pair .ensures) (c .before .after-same .ensures)
 
 pub put-reserved-spec : {M : Type 1} → statement M
 put-reserved-spec =
     tie.close
-    (tie.spec put-until-requires put-pair-requires after-same-requires add-t13 same-length returns)
+    (tie.spec put-until-requires put-pair-requires after-same-requires add-t14 same-length returns)

@@ -9,15 +9,15 @@ use Rattle.put_metadata.proofs.put_until.Statement.{statement}
 use Rattle.put_metadata.proofs.put_until.Tie as tie
 
 abbrev Inv-loop : tie.InvT-loop
-Inv-loop out₀ pairs key walk₀ out walk = (length out ≡ length out₀) × Until pairs key walk₀ out₀ out walk
+Inv-loop out₀ pairs key big walk₀ out walk = (length out ≡ length out₀) × Until big pairs key walk₀ out₀ out walk
 
 abbrev μ-loop : tie.MeasureT-loop
-μ-loop out₀ pairs key walk₀ out walk = length pairs - walk .place
+μ-loop out₀ pairs key big walk₀ out walk = length pairs - walk .place
 
 loop-holds : tie.Need-loop-holds Inv-loop μ-loop
 loop-holds c =
     let a = c .before .before .before .args in
-    (refl, until-start (a .pairs .now) (a .key .now) (a .w) (a .out .now) (c .before .before .before .pre .0 .stands))
+    (refl, until-start (a .big) (a .pairs .now) (a .key .now) (a .w) (a .out .now) (c .before .before .before .pre .0 .stands))
 
 comes-later-requires : tie.Need-comes-later-requires Inv-loop μ-loop
 comes-later-requires c κs = ((c .before .before .loop .inv .1 .moves .stands, c .if1 .taken), c .before .before .before .before .before .before .pre .1)
@@ -29,7 +29,7 @@ returns : tie.Need-returns Inv-loop μ-loop
 returns c =
     let a = c .before .before .before .before .before .before .before .before .args in
     let l = c .before .before .before .before .loop in
-    until-later (a .pairs .now) (a .key .now) (a .w) (a .out .now) (l .out) (l .walk) (l .inv .1) (sym (c .before .comes-later .ensures) ∙ c .if2 .taken)
+    until-later (a .big) (a .pairs .now) (a .key .now) (a .w) (a .out .now) (l .out) (l .walk) (l .inv .1) (sym (c .before .comes-later .ensures) ∙ c .if2 .taken)
 
 pair-at-requires : tie.Need-pair-at-requires Inv-loop μ-loop
 pair-at-requires c κs = (c .before .before .before .before .loop .inv .1 .moves .stands, c .before .before .if1 .taken)
@@ -53,7 +53,7 @@ returns-2 : tie.Need-returns-2 Inv-loop μ-loop
 returns-2 c =
     let a = c .before .before .before .before .before .before .before .before .before .before .before .before .args in
     let l = c .before .before .before .before .before .before .before .before .loop in
-    until-stop (a .pairs .now) (a .key .now) (a .w) (a .out .now) (l .out) (l .walk) (l .inv .1) (c .before .before .before .pair-at .result) (c .before .before .before .pair-at .ensures) (sym (c .before .is-before .ensures) ∙ not-true (c .before .is-before .result) (c .if3 .taken))
+    until-stop (a .big) (a .pairs .now) (a .key .now) (a .w) (a .out .now) (l .out) (l .walk) (l .inv .1) (c .before .before .before .pair-at .result) (c .before .before .before .pair-at .ensures) (sym (c .before .is-before .ensures) ∙ not-true (c .before .is-before .result) (c .if3 .taken))
 
 put-found-requires : tie.Need-put-found-requires Inv-loop μ-loop
 put-found-requires c κs =
@@ -68,7 +68,7 @@ loop-again : tie.Need-loop-again Inv-loop μ-loop
 loop-again c =
     let a = c .before .before .before .before .before .before .before .before .before .before .before .before .before .before .before .before .args in
     let l = c .before .before .before .before .before .before .before .before .before .before .before .before .loop in
-    (search needs, until-more (a .pairs .now) (a .key .now) (a .w) (a .out .now) (l .out) (l .walk) (l .inv .1) (c .before .before .before .before .before .before .before .pair-at .result) (c .before .before .before .before .before .before .before .pair-at .ensures) (sym (c .before .before .before .before .before .is-before .ensures) ∙ not-false (c .before .before .before .before .before .is-before .result) (c .before .before .before .before .if3 .left)) (c .before .before .put-found .result) (c .before .before .put-found .last .0) (c .before .before .put-found .ensures))
+    (search needs, until-more (a .big) (a .pairs .now) (a .key .now) (a .w) (a .out .now) (l .out) (l .walk) (l .inv .1) (c .before .before .before .before .before .before .before .pair-at .result) (c .before .before .before .before .before .before .before .pair-at .ensures) (sym (c .before .before .before .before .before .is-before .ensures) ∙ not-false (c .before .before .before .before .before .is-before .result) (c .before .before .before .before .if3 .left)) (c .before .before .put-found .result) (c .before .before .put-found .last .0) (c .before .before .put-found .ensures))
 
 same-length-3 : tie.Need-same-length-3 Inv-loop μ-loop
 same-length-3 c = search needs
@@ -77,7 +77,7 @@ returns-3 : tie.Need-returns-3 Inv-loop μ-loop
 returns-3 c =
     let a = c .before .before .before .before .before .before .args in
     let l = c .before .before .loop in
-    until-end (a .pairs .now) (a .key .now) (a .w) (a .out .now) (l .out) (l .walk) (l .inv .1) (c .if1 .left)
+    until-end (a .big) (a .pairs .now) (a .key .now) (a .w) (a .out .now) (l .out) (l .walk) (l .inv .1) (c .if1 .left)
 
 pub put-until-spec : {M : Type 1} → statement M
 put-until-spec =

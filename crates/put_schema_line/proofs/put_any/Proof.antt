@@ -34,19 +34,19 @@ put-byte-requires-2 : tie.Need-put-byte-requires-2
 put-byte-requires-2 c κs =
     let st = c .before .before .before .before .before .before .before .before .before .before .before .before .before .before .before .before .before in
     let h = st .pre in
-    omega (arith, h .low, h .short, h .extended .short, h .metadata .short, metadata-size (st .args .pairs .now) (st .args .extension .now) (st .args .more .now) (h .column) (h .extended) (h .metadata), number-short (st .args .n .flags) (omega arith), number-short (st .args .n .children) (omega arith), c .before .before .before .before .before .before .before .before .before .before .before .put-byte .ensures .0, c .before .before .before .before .before .before .before .put-number .ensures .0, c .before .before .before .put-metadata .ensures .0)
+    omega (arith, h .low, h .short, h .extended .short, h .metadata .short, metadata-size (st .args .n .big) (st .args .pairs .now) (st .args .extension .now) (st .args .more .now) (h .column) (h .extended) (h .metadata), number-short (st .args .n .flags) (omega arith), number-short (st .args .n .children) (omega arith), c .before .before .before .before .before .before .before .before .before .before .before .put-byte .ensures .0, c .before .before .before .before .before .before .before .put-number .ensures .0, c .before .before .before .put-metadata .ensures .0)
 
 put-number-requires-2 : tie.Need-put-number-requires-2
 put-number-requires-2 c κs =
     let st = c .before .before .before .before .before .before .before .before .before .before .before .before .before .before .before .before .before .before .before .before .before in
     let h = st .pre in
-    omega (arith, h .low, h .short, h .extended .short, h .metadata .short, metadata-size (st .args .pairs .now) (st .args .extension .now) (st .args .more .now) (h .column) (h .extended) (h .metadata), number-short (st .args .n .flags) (omega arith), number-short (st .args .n .children) (omega arith), c .before .before .before .before .before .before .before .before .before .before .before .before .before .before .before .put-byte .ensures .0, c .before .before .before .before .before .before .before .before .before .before .before .put-number .ensures .0, c .before .before .before .before .before .before .before .put-metadata .ensures .0, c .before .before .before .put-byte2 .ensures .0)
+    omega (arith, h .low, h .short, h .extended .short, h .metadata .short, metadata-size (st .args .n .big) (st .args .pairs .now) (st .args .extension .now) (st .args .more .now) (h .column) (h .extended) (h .metadata), number-short (st .args .n .flags) (omega arith), number-short (st .args .n .children) (omega arith), c .before .before .before .before .before .before .before .before .before .before .before .before .before .before .before .put-byte .ensures .0, c .before .before .before .before .before .before .before .before .before .before .before .put-number .ensures .0, c .before .before .before .before .before .before .before .put-metadata .ensures .0, c .before .before .before .put-byte2 .ensures .0)
 
 put-end-requires : tie.Need-put-end-requires
 put-end-requires c κs =
     let st = c .before .before .before .before .before .before .before .before .before .before .before .before .before .before .before .before .before .before .before .before .before .before .before .before .before in
     let h = st .pre in
-    omega (arith, h .low, h .short, h .extended .short, h .metadata .short, metadata-size (st .args .pairs .now) (st .args .extension .now) (st .args .more .now) (h .column) (h .extended) (h .metadata), number-short (st .args .n .flags) (omega arith), number-short (st .args .n .children) (omega arith), c .before .before .before .before .before .before .before .before .before .before .before .before .before .before .before .before .before .before .before .put-byte .ensures .0, c .before .before .before .before .before .before .before .before .before .before .before .before .before .before .before .put-number .ensures .0, c .before .before .before .before .before .before .before .before .before .before .before .put-metadata .ensures .0, c .before .before .before .before .before .before .before .put-byte2 .ensures .0, c .before .before .before .put-number2 .ensures .0)
+    omega (arith, h .low, h .short, h .extended .short, h .metadata .short, metadata-size (st .args .n .big) (st .args .pairs .now) (st .args .extension .now) (st .args .more .now) (h .column) (h .extended) (h .metadata), number-short (st .args .n .flags) (omega arith), number-short (st .args .n .children) (omega arith), c .before .before .before .before .before .before .before .before .before .before .before .before .before .before .before .before .before .before .before .put-byte .ensures .0, c .before .before .before .before .before .before .before .before .before .before .before .before .before .before .before .put-number .ensures .0, c .before .before .before .before .before .before .before .before .before .before .before .put-metadata .ensures .0, c .before .before .before .before .before .before .before .put-byte2 .ensures .0, c .before .before .before .put-number2 .ensures .0)
 
 same-length : tie.Need-same-length
 same-length c = search needs
@@ -57,7 +57,7 @@ returns c =
     let a = c .before .before .before .before .before .before .before .before .before .before .before .before .before .before .before .before .before .before .before .before .before .before .before .before .before .before .before .before .args in
     let v1 = and-then (32 ∷ []) (none-yet (a .at) (a .out .now)) (c .before .before .before .before .before .before .before .before .before .before .before .before .before .before .before .before .before .before .before .before .before .before .put-byte .ensures) in
     let v2 = and-then (column (decimal (a .n .flags))) v1 (c .before .before .before .before .before .before .before .before .before .before .before .before .before .before .before .before .before .before .put-number .ensures) in
-    let v3 = and-then (metadataColumn (a .pairs .now) (a .extension .now) (a .more .now)) v2 (c .before .before .before .before .before .before .before .before .before .before .before .before .before .before .put-metadata .ensures) in
+    let v3 = and-then (metadataColumn (a .n .big) (a .pairs .now) (a .extension .now) (a .more .now)) v2 (c .before .before .before .before .before .before .before .before .before .before .before .before .before .before .put-metadata .ensures) in
     let v4 = and-then (32 ∷ []) v3 (c .before .before .before .before .before .before .before .before .before .before .put-byte2 .ensures) in
     let v5 = and-then (column (decimal (a .n .children))) v4 (c .before .before .before .before .before .before .put-number2 .ensures) in
     let v6 = and-then (endPiece (a .n .dictionary)) v5 (c .before .before .put-end .ensures) in

@@ -31,7 +31,7 @@ unfolding restPiece
 returns c =
     let a = c .before .before .before .before .before .before .before .before .before .before .before .before .before .args in
     let v1 = and-then (namePiece (a .name .now)) (none-yet (a .at) (a .out .now)) (c .before .before .before .before .before .before .put-name .ensures) in
-    let v2 = and-then (tailPiece (a .n) (metadataColumn (a .pairs .now) (a .extension .now) (a .more .now))) v1 (c .before .before .put-tail .ensures) in
+    let v2 = and-then (tailPiece (a .n) (metadataColumn (a .n .big) (a .pairs .now) (a .extension .now) (a .more .now))) v1 (c .before .before .put-tail .ensures) in
     (v2 .place, v2 .holds)
 
 pub put-rest-spec : {M : Type 1} → statement M

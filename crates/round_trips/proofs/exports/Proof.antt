@@ -22,7 +22,7 @@ returns : tie.Need-returns
 returns c =
     let a = c .before .before .before .before .before .before .before .before .before .before .before .before .before .before .args in
     let x = c .before .before .before .before .before .before .before .before .export in
-    first-out (exported (now (a .one))) (exported (now (a .other))) (now (a .first)) (now (a .second)) (x .last .1 .0) (x .result) (x .ensures) (c .before .before .before .before .if1 .taken) (c .before .before .clear .last .0) (c .before .before .clear .ensures)
+    first-out (exported (a .big) (now (a .one))) (exported (a .big) (now (a .other))) (now (a .first)) (now (a .second)) (x .last .1 .1 .0) (x .result) (x .ensures) (c .before .before .before .before .if1 .taken) (c .before .before .clear .last .0) (c .before .before .clear .ensures)
 
 export-requires-2 : tie.Need-export-requires-2
 export-requires-2 c κs = search needs
@@ -41,7 +41,7 @@ returns-2 c =
     let a = c .before .before .before .before .before .before .before .before .before .before .before .before .before .before .before .before .before .before .before .before .args in
     let x = c .before .before .before .before .before .before .before .before .before .before .before .before .before .before .export in
     let y = c .before .before .before .before .before .before .before .before .export2 in
-    second-out (exported (now (a .one))) (exported (now (a .other))) (now (a .first)) (now (a .second)) (x .last .1 .0) (x .result) (x .ensures) (c .before .before .before .before .before .before .before .before .before .before .if1 .left) (y .last .1 .0) (y .result) (y .ensures) (c .before .before .before .before .if2 .taken) (c .before .before .clear2 .last .0) (c .before .before .clear2 .ensures)
+    second-out (exported (a .big) (now (a .one))) (exported (a .big) (now (a .other))) (now (a .first)) (now (a .second)) (x .last .1 .1 .0) (x .result) (x .ensures) (c .before .before .before .before .before .before .before .before .before .before .if1 .left) (y .last .1 .1 .0) (y .result) (y .ensures) (c .before .before .before .before .if2 .taken) (c .before .before .clear2 .last .0) (c .before .before .clear2 .ensures)
 
 same-length-5 : tie.Need-same-length-5
 same-length-5 c = search needs
@@ -54,7 +54,7 @@ returns-3 c =
     let a = c .before .before .before .before .before .before .before .before .before .before .before .before .before .before .before .before .args in
     let x = c .before .before .before .before .before .before .before .before .before .before .export in
     let y = c .before .before .before .before .export2 in
-    both-out (exported (now (a .one))) (exported (now (a .other))) (now (a .first)) (now (a .second)) (x .last .1 .0) (x .result) (x .ensures) (c .before .before .before .before .before .before .if1 .left) (y .last .1 .0) (y .result) (y .ensures) (c .if2 .left)
+    both-out (exported (a .big) (now (a .one))) (exported (a .big) (now (a .other))) (now (a .first)) (now (a .second)) (x .last .1 .1 .0) (x .result) (x .ensures) (c .before .before .before .before .before .before .if1 .left) (y .last .1 .1 .0) (y .result) (y .ensures) (c .if2 .left)
 
 pub exports-spec : {M : Type 1} → statement M
 exports-spec =

@@ -1,6 +1,6 @@
 -- `out_and_back` meets its contract: a law for each way out. Assumes nothing.
 use denote.Ref.{now}
-use Rattle.sheets.specs.Outcome.{exportOutcome, exported, imported}
+use Rattle.sheets.specs.Outcome.{exportOutcomeIn, exported, imported}
 use Rattle.sheets.specs.Demand3.{written}
 use Rattle.round_trips.proofs.TripLaws.{part-length, first-out, second-out, both-out, handed}
 use borrow.Author.Needs.{needs}
@@ -23,7 +23,7 @@ returns : tie.Need-returns
 returns c =
     let a = c .before .before .before .before .before .before .before .before .before .before .before .before .before .args in
     let x = c .before .before .before .before .before .before .before .before .export in
-    first-out (exported (now (a .sheet))) (imported (written (exportOutcome (now (a .sheet)) (now (a .first))))) (now (a .first)) (now (a .second)) (x .last .1 .0) (x .result) (x .ensures) (c .before .before .before .before .if1 .taken) (c .before .before .clear .last .0) (c .before .before .clear .ensures)
+    first-out (exported (a .big) (now (a .sheet))) (imported (a .big) (written (exportOutcomeIn (a .big) (now (a .sheet)) (now (a .first))))) (now (a .first)) (now (a .second)) (x .last .1 .1 .0) (x .result) (x .ensures) (c .before .before .before .before .if1 .taken) (c .before .before .clear .last .0) (c .before .before .clear .ensures)
 
 within-requires : tie.Need-within-requires
 within-requires c κs = search needs
@@ -52,7 +52,7 @@ returns-2 c =
     let a = c .before .before .before .before .before .before .before .before .before .before .before .before .before .before .before .before .before .before .before .before .before .args in
     let x = c .before .before .before .before .before .before .before .before .before .before .before .before .before .before .before .before .export in
     let y = c .before .before .before .before .before .before .before .before .import in
-    second-out (exported (now (a .sheet))) (imported (written (exportOutcome (now (a .sheet)) (now (a .first))))) (now (a .first)) (now (a .second)) (x .last .1 .0) (x .result) (x .ensures) (c .before .before .before .before .before .before .before .before .before .before .before .before .if1 .left) (y .last .1 .0) (y .result) (handed imported (c .before .before .before .before .before .before .before .before .before .before .before .within .result) (x .last .1 .0) (now (a .second)) (y .last .1 .0) (x .result) (y .result) _ (x .ensures) (c .before .before .before .before .before .before .before .before .before .before .before .within .ensures) (y .ensures)) (c .before .before .before .before .if2 .taken) (c .before .before .clear2 .last .0) (c .before .before .clear2 .ensures)
+    second-out (exported (a .big) (now (a .sheet))) (imported (a .big) (written (exportOutcomeIn (a .big) (now (a .sheet)) (now (a .first))))) (now (a .first)) (now (a .second)) (x .last .1 .1 .0) (x .result) (x .ensures) (c .before .before .before .before .before .before .before .before .before .before .before .before .if1 .left) (y .last .1 .1 .0) (y .result) (handed (imported (a .big)) (c .before .before .before .before .before .before .before .before .before .before .before .within .result) (x .last .1 .1 .0) (now (a .second)) (y .last .1 .1 .0) (x .result) (y .result) _ (x .ensures) (c .before .before .before .before .before .before .before .before .before .before .before .within .ensures) (y .ensures)) (c .before .before .before .before .if2 .taken) (c .before .before .clear2 .last .0) (c .before .before .clear2 .ensures)
 
 same-length-5 : tie.Need-same-length-5
 same-length-5 c = search needs
@@ -65,7 +65,7 @@ returns-3 c =
     let a = c .before .before .before .before .before .before .before .before .before .before .before .before .before .before .before .before .before .args in
     let x = c .before .before .before .before .before .before .before .before .before .before .before .before .export in
     let y = c .before .before .before .before .import in
-    both-out (exported (now (a .sheet))) (imported (written (exportOutcome (now (a .sheet)) (now (a .first))))) (now (a .first)) (now (a .second)) (x .last .1 .0) (x .result) (x .ensures) (c .before .before .before .before .before .before .before .before .if1 .left) (y .last .1 .0) (y .result) (handed imported (c .before .before .before .before .before .before .before .within .result) (x .last .1 .0) (now (a .second)) (y .last .1 .0) (x .result) (y .result) _ (x .ensures) (c .before .before .before .before .before .before .before .within .ensures) (y .ensures)) (c .if2 .left)
+    both-out (exported (a .big) (now (a .sheet))) (imported (a .big) (written (exportOutcomeIn (a .big) (now (a .sheet)) (now (a .first))))) (now (a .first)) (now (a .second)) (x .last .1 .1 .0) (x .result) (x .ensures) (c .before .before .before .before .before .before .before .before .if1 .left) (y .last .1 .1 .0) (y .result) (handed (imported (a .big)) (c .before .before .before .before .before .before .before .within .result) (x .last .1 .1 .0) (now (a .second)) (y .last .1 .1 .0) (x .result) (y .result) _ (x .ensures) (c .before .before .before .before .before .before .before .within .ensures) (y .ensures)) (c .if2 .left)
 
 pub out-and-back-spec : {M : Type 1} → statement M
 out-and-back-spec =

@@ -23,7 +23,7 @@ returns : tie.Need-returns
 returns c =
     let a = c .before .before .before .before .before .before .before .before .before .before .before .before .before .args in
     let x = c .before .before .before .before .before .before .before .before .plain-form in
-    first-out (plained (now (a .sheet))) (exported (written (plainOutcome (now (a .sheet)) (now (a .third))))) (now (a .third)) (now (a .fourth)) (x .last .1 .0) (x .result) (x .ensures) (c .before .before .before .before .if1 .taken) (c .before .before .clear .last .0) (c .before .before .clear .ensures)
+    first-out (plained (now (a .sheet))) (exported (a .big) (written (plainOutcome (now (a .sheet)) (now (a .third))))) (now (a .third)) (now (a .fourth)) (x .last .1 .0) (x .result) (x .ensures) (c .before .before .before .before .if1 .taken) (c .before .before .clear .last .0) (c .before .before .clear .ensures)
 
 within-requires : tie.Need-within-requires
 within-requires c κs = search needs
@@ -52,7 +52,7 @@ returns-2 c =
     let a = c .before .before .before .before .before .before .before .before .before .before .before .before .before .before .before .before .before .before .before .before .before .args in
     let x = c .before .before .before .before .before .before .before .before .before .before .before .before .before .before .before .before .plain-form in
     let y = c .before .before .before .before .before .before .before .before .export in
-    second-out (plained (now (a .sheet))) (exported (written (plainOutcome (now (a .sheet)) (now (a .third))))) (now (a .third)) (now (a .fourth)) (x .last .1 .0) (x .result) (x .ensures) (c .before .before .before .before .before .before .before .before .before .before .before .before .if1 .left) (y .last .1 .0) (y .result) (handed exported (c .before .before .before .before .before .before .before .before .before .before .before .within .result) (x .last .1 .0) (now (a .fourth)) (y .last .1 .0) (x .result) (y .result) _ (x .ensures) (c .before .before .before .before .before .before .before .before .before .before .before .within .ensures) (y .ensures)) (c .before .before .before .before .if2 .taken) (c .before .before .clear2 .last .0) (c .before .before .clear2 .ensures)
+    second-out (plained (now (a .sheet))) (exported (a .big) (written (plainOutcome (now (a .sheet)) (now (a .third))))) (now (a .third)) (now (a .fourth)) (x .last .1 .0) (x .result) (x .ensures) (c .before .before .before .before .before .before .before .before .before .before .before .before .if1 .left) (y .last .1 .1 .0) (y .result) (handed (exported (a .big)) (c .before .before .before .before .before .before .before .before .before .before .before .within .result) (x .last .1 .0) (now (a .fourth)) (y .last .1 .1 .0) (x .result) (y .result) _ (x .ensures) (c .before .before .before .before .before .before .before .before .before .before .before .within .ensures) (y .ensures)) (c .before .before .before .before .if2 .taken) (c .before .before .clear2 .last .0) (c .before .before .clear2 .ensures)
 
 same-length-5 : tie.Need-same-length-5
 same-length-5 c = search needs
@@ -65,7 +65,7 @@ returns-3 c =
     let a = c .before .before .before .before .before .before .before .before .before .before .before .before .before .before .before .before .before .args in
     let x = c .before .before .before .before .before .before .before .before .before .before .before .before .plain-form in
     let y = c .before .before .before .before .export in
-    both-out (plained (now (a .sheet))) (exported (written (plainOutcome (now (a .sheet)) (now (a .third))))) (now (a .third)) (now (a .fourth)) (x .last .1 .0) (x .result) (x .ensures) (c .before .before .before .before .before .before .before .before .if1 .left) (y .last .1 .0) (y .result) (handed exported (c .before .before .before .before .before .before .before .within .result) (x .last .1 .0) (now (a .fourth)) (y .last .1 .0) (x .result) (y .result) _ (x .ensures) (c .before .before .before .before .before .before .before .within .ensures) (y .ensures)) (c .if2 .left)
+    both-out (plained (now (a .sheet))) (exported (a .big) (written (plainOutcome (now (a .sheet)) (now (a .third))))) (now (a .third)) (now (a .fourth)) (x .last .1 .0) (x .result) (x .ensures) (c .before .before .before .before .before .before .before .before .if1 .left) (y .last .1 .1 .0) (y .result) (handed (exported (a .big)) (c .before .before .before .before .before .before .before .within .result) (x .last .1 .0) (now (a .fourth)) (y .last .1 .1 .0) (x .result) (y .result) _ (x .ensures) (c .before .before .before .before .before .before .before .within .ensures) (y .ensures)) (c .if2 .left)
 
 pub plain-and-out-spec : {M : Type 1} → statement M
 plain-and-out-spec =

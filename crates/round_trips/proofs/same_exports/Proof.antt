@@ -64,7 +64,7 @@ returns c =
     let a = c .before .before .before .before .before .before .before .before .before .before .before .before .before .before .before .before .before .before .before .before .before .before .before .args in
     let x = c .before .before .before .before .before .before .before .before .before .before .before .before .before .before .exports in
     let z = c .before .before .before .before .clear-both in
-    one-export-out (now (a .one)) (now (a .other)) (now (a .first)) (now (a .second)) (now (a .third)) (now (a .fourth)) (x .last .1 .1 .0) (x .last .1 .1 .1 .0) (x .result) (x .ensures) _ (c .before .before .before .before .before .before .before .before .number .given .1) (z .last .0) (z .last .1 .0) (z .ensures .0) (z .ensures .1)
+    one-export-out (a .big) (now (a .one)) (now (a .other)) (now (a .first)) (now (a .second)) (now (a .third)) (now (a .fourth)) (x .last .1 .1 .1 .0) (x .last .1 .1 .1 .1 .0) (x .result) (x .ensures) _ (c .before .before .before .before .before .before .before .before .number .given .1) (z .last .0) (z .last .1 .0) (z .ensures .0) (z .ensures .1)
 
 same-length-5 : tie.Need-same-length-5
 same-length-5 c = search needs
@@ -83,7 +83,7 @@ returns-2 c =
     let a = c .before .before .before .before .before .before .before .before .before .before .before .before .before .before .before .before .before .before .before .before .before .before .before .args in
     let x = c .before .before .before .before .before .before .before .before .before .before .before .before .before .before .exports in
     let z = c .before .before .before .before .clear-both2 in
-    other-export-out (now (a .one)) (now (a .other)) (now (a .first)) (now (a .second)) (now (a .third)) (now (a .fourth)) (x .last .1 .1 .0) (x .last .1 .1 .1 .0) (x .result) (x .ensures) _ (c .before .before .before .before .before .before .before .before .number2 .given .1) (z .last .0) (z .last .1 .0) (z .ensures .0) (z .ensures .1)
+    other-export-out (a .big) (now (a .one)) (now (a .other)) (now (a .first)) (now (a .second)) (now (a .third)) (now (a .fourth)) (x .last .1 .1 .1 .0) (x .last .1 .1 .1 .1 .0) (x .result) (x .ensures) _ (c .before .before .before .before .before .before .before .before .number2 .given .1) (z .last .0) (z .last .1 .0) (z .ensures .0) (z .ensures .1)
 
 same-length-9 : tie.Need-same-length-9
 same-length-9 c = search needs
@@ -103,7 +103,7 @@ returns-3 c =
     let x = c .before .before .before .before .before .before .before .before .before .before .before .before .before .before .before .before .before .before .before .before .before .before .before .before .exports in
     let y = c .before .before .before .before .before .before .before .before .before .before .before .before .before .before .plains in
     let z = c .before .before .before .before .clear-both3 in
-    one-plain-out (now (a .one)) (now (a .other)) (now (a .first)) (now (a .second)) (now (a .third)) (now (a .fourth)) (x .last .1 .1 .0) (x .last .1 .1 .1 .0) (x .result) (x .ensures) _ _ (c .before .before .before .before .before .before .before .before .before .before .before .before .before .before .before .before .before .before .x .given .1) (y .last .1 .1 .0) (y .last .1 .1 .1 .0) (z .last .0) (z .last .1 .0) (z .ensures .0) (z .ensures .1) (y .result) (y .ensures) _ (c .before .before .before .before .before .before .before .before .number3 .given .1)
+    one-plain-out (a .big) (now (a .one)) (now (a .other)) (now (a .first)) (now (a .second)) (now (a .third)) (now (a .fourth)) (x .last .1 .1 .1 .0) (x .last .1 .1 .1 .1 .0) (x .result) (x .ensures) _ _ (c .before .before .before .before .before .before .before .before .before .before .before .before .before .before .before .before .before .before .x .given .1) (y .last .1 .1 .0) (y .last .1 .1 .1 .0) (z .last .0) (z .last .1 .0) (z .ensures .0) (z .ensures .1) (y .result) (y .ensures) _ (c .before .before .before .before .before .before .before .before .number3 .given .1)
 
 same-length-13 : tie.Need-same-length-13
 same-length-13 c = search needs
@@ -123,7 +123,7 @@ returns-4 c =
     let x = c .before .before .before .before .before .before .before .before .before .before .before .before .before .before .before .before .before .before .before .before .before .before .before .before .exports in
     let y = c .before .before .before .before .before .before .before .before .before .before .before .before .before .before .plains in
     let z = c .before .before .before .before .clear-both4 in
-    other-plain-out (now (a .one)) (now (a .other)) (now (a .first)) (now (a .second)) (now (a .third)) (now (a .fourth)) (x .last .1 .1 .0) (x .last .1 .1 .1 .0) (x .result) (x .ensures) _ _ (c .before .before .before .before .before .before .before .before .before .before .before .before .before .before .before .before .before .before .x .given .1) (y .last .1 .1 .0) (y .last .1 .1 .1 .0) (z .last .0) (z .last .1 .0) (z .ensures .0) (z .ensures .1) (y .result) (y .ensures) _ (c .before .before .before .before .before .before .before .before .number4 .given .1)
+    other-plain-out (a .big) (now (a .one)) (now (a .other)) (now (a .first)) (now (a .second)) (now (a .third)) (now (a .fourth)) (x .last .1 .1 .1 .0) (x .last .1 .1 .1 .1 .0) (x .result) (x .ensures) _ _ (c .before .before .before .before .before .before .before .before .before .before .before .before .before .before .before .before .before .before .x .given .1) (y .last .1 .1 .0) (y .last .1 .1 .1 .0) (z .last .0) (z .last .1 .0) (z .ensures .0) (z .ensures .1) (y .result) (y .ensures) _ (c .before .before .before .before .before .before .before .before .number4 .given .1)
 
 same-length-17 : tie.Need-same-length-17
 same-length-17 c = search needs
@@ -142,7 +142,7 @@ returns-5 c =
     let a = c .before .before .before .before .before .before .before .before .before .before .before .before .before .before .before .before .before .before .before .before .before .before .before .before .before .before .before .before .before .before .before .before .args in
     let x = c .before .before .before .before .before .before .before .before .before .before .before .before .before .before .before .before .before .before .before .before .before .before .before .exports in
     let y = c .before .before .before .before .before .before .before .before .before .before .before .before .before .plains in
-    compared-out (now (a .one)) (now (a .other)) (now (a .first)) (now (a .second)) (now (a .third)) (now (a .fourth)) (x .last .1 .1 .0) (x .last .1 .1 .1 .0) (x .result) (x .ensures) _ _ (c .before .before .before .before .before .before .before .before .before .before .before .before .before .before .before .before .before .x .given .1) (y .last .1 .1 .0) (y .last .1 .1 .1 .0) (y .result) (y .ensures) _ _ (c .before .before .before .before .before .before .before .p .given .1) (c .before .before .before .same-within .result) (c .same-within2 .result) (c .before .before .before .same-within .ensures) (c .same-within2 .ensures)
+    compared-out (a .big) (now (a .one)) (now (a .other)) (now (a .first)) (now (a .second)) (now (a .third)) (now (a .fourth)) (x .last .1 .1 .1 .0) (x .last .1 .1 .1 .1 .0) (x .result) (x .ensures) _ _ (c .before .before .before .before .before .before .before .before .before .before .before .before .before .before .before .before .before .x .given .1) (y .last .1 .1 .0) (y .last .1 .1 .1 .0) (y .result) (y .ensures) _ _ (c .before .before .before .before .before .before .before .p .given .1) (c .before .before .before .same-within .result) (c .same-within2 .result) (c .before .before .before .same-within .ensures) (c .same-within2 .ensures)
 
 pub same-exports-spec : {M : Type 1} → statement M
 same-exports-spec =

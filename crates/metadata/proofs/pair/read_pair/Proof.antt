@@ -24,7 +24,7 @@ read-value-requires c κs = (c .before .before .before .before .before .pre .blo
 returns : tie.Need-returns
 returns c =
     let a = c .before .before .before .before .before .args in
-    ap (λ (x : Answer ℕ). x >>= afterKey (bytesOf (a .m .now)) (a .k)) (ap textAnswer (sym (c .before .q .given .1)) ∙ c .before .before .before .read-text .ensures)
+    ap (λ (x : Answer ℕ). x >>= afterKey (a .big) (bytesOf (a .m .now)) (a .k)) (ap textAnswer (sym (c .before .q .given .1)) ∙ c .before .before .before .read-text .ensures)
 
 returns-2 : tie.Need-returns-2
 returns-2 c = search needs

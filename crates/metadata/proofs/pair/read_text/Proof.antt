@@ -15,7 +15,7 @@ sub-room : tie.Need-sub-room
 sub-room c = search needs
 
 returns : tie.Need-returns
-returns c = read-none (c .before .before .args .m .now) (c .before .before .args .k) (c .before .before .pre .block) (omega (arith, c .before .before .pre .within))
+returns c = read-none (c .before .before .args .big) (c .before .before .args .m .now) (c .before .before .args .k) (c .before .before .pre .block) (omega (arith, c .before .before .pre .within))
 
 word-at-requires : tie.Need-word-at-requires
 word-at-requires c κs = search needs
@@ -26,7 +26,7 @@ cast-n c = search needs
 returns-2 : tie.Need-returns-2
 returns-2 c =
     let a = c .before .before .before .before .args in
-    read-short (a .m .now) (a .k) (c .before .before .before .before .pre .block) (c .before .word-at .result) (c .before .word-at .ensures) (omega (arith, c .before .before .before .before .pre .within)) (omega (arith, c .before .before .before .before .pre .within))
+    read-short (a .big) (a .m .now) (a .k) (c .before .before .before .before .pre .block) (c .before .word-at .result) (c .before .word-at .ensures) (omega (arith, c .before .before .before .before .pre .within)) (omega (arith, c .before .before .before .before .pre .within))
 
 mul-start : tie.Need-mul-start
 mul-start c = search needs
@@ -61,14 +61,14 @@ returns-3 c =
     let a = c .before .before .before .before .before .before .before .args in
     let n = c .before .before .before .before .word-at .result in
     let x : 2 * a .k + 8 + 2 * n - (2 * a .k + 8) ≡ 2 * n = omega arith in
-    read-text (a .m .now) (a .k) (c .before .before .before .before .before .before .before .pre .block) n (c .before .before .before .before .word-at .ensures) (search needs) (search needs) _ (2 * a .k + 8) x refl (sym (c .before .is-utf8-hex .ensures) ∙ c .if3 .taken)
+    read-text (a .big) (a .m .now) (a .k) (c .before .before .before .before .before .before .before .pre .block) n (c .before .before .before .before .word-at .ensures) (search needs) (search needs) _ (2 * a .k + 8) x refl (sym (c .before .is-utf8-hex .ensures) ∙ c .if3 .taken)
 
 returns-4 : tie.Need-returns-4
 returns-4 c =
     let a = c .before .before .before .before .before .before .before .args in
     let n = c .before .before .before .before .word-at .result in
     let x : 2 * a .k + 8 + 2 * n - (2 * a .k + 8) ≡ 2 * n = omega arith in
-    read-bad (a .m .now) (a .k) (c .before .before .before .before .before .before .before .pre .block) n (c .before .before .before .before .word-at .ensures) (search needs) (search needs) _ (2 * a .k + 8) x refl (sym (c .before .is-utf8-hex .ensures) ∙ c .if3 .left)
+    read-bad (a .big) (a .m .now) (a .k) (c .before .before .before .before .before .before .before .pre .block) n (c .before .before .before .before .word-at .ensures) (search needs) (search needs) _ (2 * a .k + 8) x refl (sym (c .before .is-utf8-hex .ensures) ∙ c .if3 .left)
 
 pub read-text-spec : {M : Type 1} → statement M
 read-text-spec =

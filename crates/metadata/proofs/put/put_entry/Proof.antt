@@ -18,7 +18,7 @@ put-pair-requires : tie.Need-put-pair-requires
 put-pair-requires c κs =
     let a = c .before .before .before .before .before .args in
     let h = c .before .before .before .before .before .pre in
-    subst (λ (n : ℕ). IsUsize (a .at + n)) (pair-size (a .m .now) (h .0 .0) (a .e) (h .0 .1) _ _ (c .before .key-of .ensures) (c .value-of .ensures)) (h .1)
+    subst (λ (n : ℕ). IsUsize (a .at + n)) (pair-size (a .big) (a .m .now) (h .0 .0) (a .e) (h .0 .1) _ _ (c .before .key-of .ensures) (c .value-of .ensures)) (h .1)
 
 same-length : tie.Need-same-length
 same-length c = search needs
@@ -28,7 +28,7 @@ returns c =
     let a = c .before .before .before .before .before .before .before .before .args in
     let h = c .before .before .before .before .before .before .before .before .pre in
     let p = c .before .before .put-pair in
-    let e = pair-written (a .m .now) (h .0 .0) (a .e) (h .0 .1) _ _ (c .before .before .before .before .key-of .ensures) (c .before .before .before .value-of .ensures) in
+    let e = pair-written (a .big) (a .m .now) (h .0 .0) (a .e) (h .0 .1) _ _ (c .before .before .before .before .key-of .ensures) (c .before .before .before .value-of .ensures) in
     subst (λ (t : Bytes). PutAt (a .at) t (p .result) (a .out .now) (p .last .0)) e (p .ensures)
 
 pub put-entry-spec : {M : Type 1} → statement M

@@ -12,15 +12,15 @@ use Rattle.metadata.proofs.put.put_pairs.Statement.{statement}
 use Rattle.metadata.proofs.put.put_pairs.Tie as tie
 
 abbrev Inv-loop : tie.InvT-loop
-Inv-loop out₀ at m entries count end₀ i₀ out end i = (0 < i) × (length out ≡ length out₀) × Putting (bytesOf m) entries count end₀ out₀ out end i
+Inv-loop out₀ at m entries count big end₀ i₀ out end i = (0 < i) × (length out ≡ length out₀) × Putting big (bytesOf m) entries count end₀ out₀ out end i
 
 abbrev μ-loop : tie.MeasureT-loop
-μ-loop out₀ at m entries count end₀ i₀ out end i = count - i
+μ-loop out₀ at m entries count big end₀ i₀ out end i = count - i
 
 put-byte-requires : tie.Need-put-byte-requires Inv-loop μ-loop
 put-byte-requires c κs =
     let a = c .before .before .before .before .before .args in
-    omega (arith, c .before .before .before .before .before .pre .fits, ap length (column-none (bytesOf (a .m .now)) (a .entries .now) (a .count) (c .before .if1 .taken)))
+    omega (arith, c .before .before .before .before .before .pre .fits, ap length (column-none (a .big) (bytesOf (a .m .now)) (a .entries .now) (a .count) (c .before .if1 .taken)))
 
 same-length : tie.Need-same-length Inv-loop μ-loop
 same-length c = search needs
@@ -28,7 +28,7 @@ same-length c = search needs
 returns : tie.Need-returns Inv-loop μ-loop
 returns c =
     let a = c .before .before .before .before .before .before .before .before .args in
-    let e = column-none (bytesOf (a .m .now)) (a .entries .now) (a .count) (c .before .before .before .before .if1 .taken) in
+    let e = column-none (a .big) (bytesOf (a .m .now)) (a .entries .now) (a .count) (c .before .before .before .before .if1 .taken) in
     let p = c .before .before .put-byte in
     subst (λ (t : Bytes). PutAt (a .at) t (p .result) (a .out .now) (p .last .0)) e (p .ensures)
 
@@ -40,14 +40,14 @@ put-entry-requires c κs =
     let a = c .before .before .before .before .before .before .args in
     let h = c .before .before .before .before .before .before .pre in
     let l : 0 < a .count = search needs in
-    ((h .isText, entry-at (a .m .now) (a .entries .now) (a .count) (a .at) h 0 l), first-fits (a .m .now) (a .entries .now) (a .count) (a .at) h l)
+    ((h .isText, entry-at (a .big) (a .m .now) (a .entries .now) (a .count) (a .at) h 0 l), first-fits (a .big) (a .m .now) (a .entries .now) (a .count) (a .at) h l)
 
 loop-holds : tie.Need-loop-holds Inv-loop μ-loop
 loop-holds c =
     let a = c .before .before .before .before .before .before .before .before .before .args in
     let z : 0 < a .count = search needs in
     let p = c .before .before .put-entry in
-    (search needs, refl, first-put (a .m .now) (a .entries .now) (a .count) (a .at) (c .before .before .before .before .before .before .before .before .before .pre) z (p .result) (a .out .now) (p .last .0) (p .ensures))
+    (search needs, refl, first-put (a .big) (a .m .now) (a .entries .now) (a .count) (a .at) (c .before .before .before .before .before .before .before .before .before .pre) z (p .result) (a .out .now) (p .last .0) (p .ensures))
 
 put-byte-requires-2 : tie.Need-put-byte-requires-2 Inv-loop μ-loop
 put-byte-requires-2 c κs =
@@ -56,7 +56,7 @@ put-byte-requires-2 c κs =
     let h = c .before .before .before .before .before .before .before .before .before .before .before .before .pre in
     let p = c .before .before .before .before .before .put-entry in
     let z : 0 < a .count = search needs in
-    omega (arith, next-fits (a .m .now) (a .entries .now) (a .count) (a .at) h z (p .result) (a .out .now) (p .last .0) (p .ensures) (l .out) (l .end) (l .i) (l .inv .2) (c .before .loop-test .taken))
+    omega (arith, next-fits (a .big) (a .m .now) (a .entries .now) (a .count) (a .at) h z (p .result) (a .out .now) (p .last .0) (p .ensures) (l .out) (l .end) (l .i) (l .inv .2) (c .before .loop-test .taken))
 
 mul-put-entry : tie.Need-mul-put-entry Inv-loop μ-loop
 mul-put-entry c = search needs
@@ -71,7 +71,7 @@ put-entry-requires-2 c κs =
     let h = c .before .before .before .before .before .before .before .before .before .before .before .before .before .before .before .before .before .pre in
     let p = c .before .before .before .before .before .before .before .before .before .before .put-entry in
     let z : 0 < a .count = search needs in
-    ((h .isText, entry-at (a .m .now) (a .entries .now) (a .count) (a .at) h (l .i) (c .before .before .before .before .before .before .loop-test .taken)), omega (arith, c .before .before .before .before .put-byte2 .ensures .0, next-fits (a .m .now) (a .entries .now) (a .count) (a .at) h z (p .result) (a .out .now) (p .last .0) (p .ensures) (l .out) (l .end) (l .i) (l .inv .2) (c .before .before .before .before .before .before .loop-test .taken)))
+    ((h .isText, entry-at (a .big) (a .m .now) (a .entries .now) (a .count) (a .at) h (l .i) (c .before .before .before .before .before .before .loop-test .taken)), omega (arith, c .before .before .before .before .put-byte2 .ensures .0, next-fits (a .big) (a .m .now) (a .entries .now) (a .count) (a .at) h z (p .result) (a .out .now) (p .last .0) (p .ensures) (l .out) (l .end) (l .i) (l .inv .2) (c .before .before .before .before .before .before .loop-test .taken)))
 
 add-i : tie.Need-add-i Inv-loop μ-loop
 add-i c = search needs
@@ -86,7 +86,7 @@ loop-again c =
     let h = c .before .before .before .before .before .before .before .before .before .before .before .before .before .before .before .before .before .before .before .before .pre in
     let p = c .before .before .before .before .before .before .before .before .before .before .before .before .before .put-entry in
     let z : 0 < a .count = search needs in
-    (search needs, search needs, next-put (a .m .now) (a .entries .now) (a .count) (a .at) h z (p .result) (a .out .now) (p .last .0) (p .ensures) (l .out) (l .end) (l .i) (l .inv .2) (c .before .before .before .before .before .before .before .before .before .loop-test .taken) (c .before .before .before .before .before .before .before .put-byte2 .result) (c .before .before .before .before .before .before .before .put-byte2 .last .0) (c .before .before .before .before .before .before .before .put-byte2 .ensures) (c .before .before .put-entry2 .result) (c .before .before .put-entry2 .last .0) (c .before .before .put-entry2 .ensures))
+    (search needs, search needs, next-put (a .big) (a .m .now) (a .entries .now) (a .count) (a .at) h z (p .result) (a .out .now) (p .last .0) (p .ensures) (l .out) (l .end) (l .i) (l .inv .2) (c .before .before .before .before .before .before .before .before .before .loop-test .taken) (c .before .before .before .before .before .before .before .put-byte2 .result) (c .before .before .before .before .before .before .before .put-byte2 .last .0) (c .before .before .before .before .before .before .before .put-byte2 .ensures) (c .before .before .put-entry2 .result) (c .before .before .put-entry2 .last .0) (c .before .before .put-entry2 .ensures))
 
 same-length-2 : tie.Need-same-length-2 Inv-loop μ-loop
 same-length-2 c = search needs
@@ -98,7 +98,7 @@ returns-2 c =
     let h = c .before .before .before .before .before .before .before .before .before .before .before .pre in
     let p = c .before .before .before .before .put-entry in
     let z : 0 < a .count = search needs in
-    put-finished (a .m .now) (a .entries .now) (a .count) (a .at) h z (p .result) (a .out .now) (p .last .0) (p .ensures) (l .out) (l .end) (l .i) (l .inv .2) (c .loop-test .left)
+    put-finished (a .big) (a .m .now) (a .entries .now) (a .count) (a .at) h z (p .result) (a .out .now) (p .last .0) (p .ensures) (l .out) (l .end) (l .i) (l .inv .2) (c .loop-test .left)
 
 pub put-pairs-spec : {M : Type 1} → statement M
 put-pairs-spec =

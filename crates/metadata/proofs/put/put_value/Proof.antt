@@ -15,7 +15,7 @@ put-byte-requires : tie.Need-put-byte-requires
 put-byte-requires c κs =
     let a = c .before .before .before .before .args in
     let b = bytesOf (a .m .now) in
-    let e = value-none b (a .e) (c .before .if1 .taken) in
+    let e = value-none (a .big) b (a .e) (c .before .if1 .taken) in
     omega (arith, c .before .before .before .before .pre .fits, ap length e)
 
 same-length : tie.Need-same-length
@@ -25,7 +25,7 @@ returns : tie.Need-returns
 returns c =
     let a = c .before .before .before .before .before .before .before .args in
     let b = bytesOf (a .m .now) in
-    let e = value-none b (a .e) (c .before .before .before .before .if1 .taken) in
+    let e = value-none (a .big) b (a .e) (c .before .before .before .before .if1 .taken) in
     let p = c .before .before .put-byte in
     subst (λ (t : Bytes). PutAt (a .at) t (p .result) (a .out .now) (p .last .0)) e (p .ensures)
 
@@ -36,7 +36,7 @@ put-byte-requires-2 : tie.Need-put-byte-requires-2
 put-byte-requires-2 c κs =
     let a = c .before .before .before .before .before .before .args in
     let b = bytesOf (a .m .now) in
-    let e = value-empty b (a .e) (c .before .before .before .if1 .left) (c .before .before .value-of .result .now) (c .before .before .value-of .ensures) (c .before .if2 .taken) in
+    let e = value-empty (a .big) b (a .e) (c .before .before .before .if1 .left) (c .before .before .value-of .result .now) (c .before .before .value-of .ensures) (c .before .if2 .taken) in
     omega (arith, c .before .before .before .before .before .before .pre .fits, ap length e)
 
 same-length-2 : tie.Need-same-length-2
@@ -46,7 +46,7 @@ returns-2 : tie.Need-returns-2
 returns-2 c =
     let a = c .before .before .before .before .before .before .before .before .before .args in
     let b = bytesOf (a .m .now) in
-    let e = value-empty b (a .e) (c .before .before .before .before .before .before .if1 .left) (c .before .before .before .before .before .value-of .result .now) (c .before .before .before .before .before .value-of .ensures) (c .before .before .before .before .if2 .taken) in
+    let e = value-empty (a .big) b (a .e) (c .before .before .before .before .before .before .if1 .left) (c .before .before .before .before .before .value-of .result .now) (c .before .before .before .before .before .value-of .ensures) (c .before .before .before .before .if2 .taken) in
     let p = c .before .before .put-byte2 in
     subst (λ (t : Bytes). PutAt (a .at) t (p .result) (a .out .now) (p .last .0)) e (p .ensures)
 
@@ -54,7 +54,7 @@ put-at-requires : tie.Need-put-at-requires
 put-at-requires c κs =
     let a = c .before .before .before .before .before .before .args in
     let b = bytesOf (a .m .now) in
-    let e = value-text b (a .e) (c .before .before .before .if1 .left) (c .before .before .value-of .result .now) (c .before .before .value-of .ensures) (c .before .if2 .left) in
+    let e = value-text (a .big) b (a .e) (c .before .before .before .if1 .left) (c .before .before .value-of .result .now) (c .before .before .value-of .ensures) (c .before .if2 .left) in
     omega (arith, c .before .before .before .before .before .before .pre .fits, ap length e)
 
 same-length-3 : tie.Need-same-length-3
@@ -64,7 +64,7 @@ returns-3 : tie.Need-returns-3
 returns-3 c =
     let a = c .before .before .before .before .before .before .before .before .before .args in
     let b = bytesOf (a .m .now) in
-    let e = value-text b (a .e) (c .before .before .before .before .before .before .if1 .left) (c .before .before .before .before .before .value-of .result .now) (c .before .before .before .before .before .value-of .ensures) (c .before .before .before .before .if2 .left) in
+    let e = value-text (a .big) b (a .e) (c .before .before .before .before .before .before .if1 .left) (c .before .before .before .before .before .value-of .result .now) (c .before .before .before .before .before .value-of .ensures) (c .before .before .before .before .if2 .left) in
     let p = c .before .before .put-at in
     subst (λ (t : Bytes). PutAt (a .at) t (p .result) (a .out .now) (p .last .0)) e (p .ensures)
 

@@ -11,7 +11,7 @@ end-of-requires : tie.Need-end-of-requires
 end-of-requires c κs = search needs
 
 word-at-requires : tie.Need-word-at-requires
-word-at-requires c κs = (c .before .before .pre .0, length-inside (c .before .before .args .m .now) (c .before .before .pre .0) (c .before .before .args .e) (c .before .before .pre .1) _ (ap (λ (n : ℕ). n / 2) (c .end-of .ensures)))
+word-at-requires c κs = (c .before .before .pre .0, length-inside (c .before .before .args .big) (c .before .before .args .m .now) (c .before .before .pre .0) (c .before .before .args .e) (c .before .before .pre .1) _ (ap (λ (n : ℕ). n / 2) (c .end-of .ensures)))
 
 cast-n : tie.Need-cast-n
 cast-n c = search needs
@@ -35,7 +35,7 @@ part-result-start : tie.Need-part-result-start
 part-result-start c = search needs
 
 part-result-end : tie.Need-part-result-end
-part-result-end c = omega (arith, value-inside (c .before .before .before .args .m .now) (c .before .before .before .pre .0) (c .before .before .before .args .e) (c .before .before .before .pre .1) _ (ap (λ (n : ℕ). n / 2) (c .before .end-of .ensures)) (c .word-at .result) (c .word-at .ensures))
+part-result-end c = omega (arith, value-inside (c .before .before .before .args .big) (c .before .before .before .args .m .now) (c .before .before .before .pre .0) (c .before .before .before .args .e) (c .before .before .before .pre .1) _ (ap (λ (n : ℕ). n / 2) (c .before .end-of .ensures)) (c .word-at .result) (c .word-at .ensures))
 
 returns : tie.Need-returns
 returns c =
@@ -44,7 +44,7 @@ returns c =
     let n = c .before .word-at .result in
     let y = 2 * k + 8 in
     let x : y + 2 * n - y ≡ 2 * n = omega arith in
-    value-part (a .m .now) (c .before .before .before .before .pre .0) (a .e) (c .before .before .before .before .pre .1) k (ap (λ (n : ℕ). n / 2) (c .before .before .end-of .ensures)) n (c .before .word-at .ensures) _ y x refl
+    value-part (a .big) (a .m .now) (c .before .before .before .before .pre .0) (a .e) (c .before .before .before .before .pre .1) k (ap (λ (n : ℕ). n / 2) (c .before .before .end-of .ensures)) n (c .before .word-at .ensures) _ y x refl
 
 pub value-of-spec : {M : Type 1} → statement M
 value-of-spec =

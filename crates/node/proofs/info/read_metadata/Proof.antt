@@ -10,42 +10,34 @@ use Rattle.buffer.proofs.same.Reads as same-reads
 use Rattle.metadata.proofs.metadata_from_bytes.Reads as metadata-from-bytes-reads
 use Rattle.schema_line.proofs.text_of.Reads as text-of-reads
 
--- src/info.rt:14:29
 slice-aggregate-same : tie.Need-slice-aggregate-same
 slice-aggregate-same c = search needs
 
--- src/info.rt:14:8
 same-requires : tie.Need-same-requires
 same-requires c κs = search needs
 
--- src/info.rt:15:9
 returns : tie.Need-returns
-returns c = column-null (c .before .before .before .before .before .before .args .column .now) _ (sym (c .before .same .ensures) ∙ c .if1 .taken)
+returns c = column-null (c .before .before .before .before .before .before .args .big) (c .before .before .before .before .before .before .args .column .now) _ (sym (c .before .same .ensures) ∙ c .if1 .taken)
 
--- src/info.rt:21:35
 text-of-requires : tie.Need-text-of-requires
 text-of-requires c κs = search needs
 
--- src/info.rt:21:5
 metadata-from-bytes-requires : tie.Need-metadata-from-bytes-requires
 metadata-from-bytes-requires c κs =
     let st = c .before .before .before .before .before .before .before .before .before in
     block-ready (st .args .column .now) _ (c .before .before .text-of .ensures) _ _ (st .pre)
 
--- src/info.rt:10:1
 same-length : tie.Need-same-length
 same-length c = search needs
 
--- src/info.rt:10:1
 same-length-2 : tie.Need-same-length-2
 same-length-2 c = search needs
 
--- src/info.rt:10:1
 returns-2 : tie.Need-returns-2
 returns-2 c =
     let st = c .before .before .before .before .before .before .before .before .before .before .before .before .before .before in
     let read = c .before .before .before .before .metadata-from-bytes in
-    column-block (st .args .column .now) (st .pre .isText) (sym (c .before .before .before .before .before .before .before .before .before .same .ensures) ∙ c .before .before .before .before .before .before .before .before .if1 .left) _ (c .before .before .before .before .before .before .before .text-of .ensures) _ (read .result) (read .ensures .0) (read .ensures .1)
+    column-block (st .args .big) (st .args .column .now) (st .pre .isText) (sym (c .before .before .before .before .before .before .before .before .before .same .ensures) ∙ c .before .before .before .before .before .before .before .before .if1 .left) _ (c .before .before .before .before .before .before .before .text-of .ensures) _ (read .result) (read .ensures .0) (read .ensures .1)
 
 pub read-metadata-spec : {M : Type 1} → statement M
 read-metadata-spec =

@@ -14,73 +14,59 @@ use Rattle.node.proofs.info.read_metadata.Reads as read-metadata-reads
 use Rattle.schema_line.proofs.text_of.Reads as text-of-reads
 use Rattle.utf8.proofs.is_utf8_hex.Reads as is-utf8-hex-reads
 
--- src/info.rt:29:11
 read-metadata-requires : tie.Need-read-metadata-requires
 read-metadata-requires c κs = search needs
 
--- src/info.rt:30:31
 enum-known-r : tie.Need-enum-known-r
 enum-known-r c = search needs
 
--- src/info.rt:31:29
 enum-known-d : tie.Need-enum-known-d
 enum-known-d c = search needs
 
--- src/info.rt:32:34
 text-of-requires : tie.Need-text-of-requires
 text-of-requires c κs = search needs
 
--- src/info.rt:32:16
 is-utf8-hex-requires : tie.Need-is-utf8-hex-requires
 is-utf8-hex-requires c κs =
     let st = c .before .before .before .before .before .before .before .before .before .before .before .before .before .before .before in
     let h = st .pre .0 in
     subst (λ (y : Bytes). isHex y ≡ true) (sym (c .text-of .ensures)) (text-bytes (st .args .name .now) (h .0) (h .1) .0)
 
--- src/info.rt:33:17
 same-length : tie.Need-same-length
 same-length c = search needs
 
--- src/info.rt:33:17
 same-length-2 : tie.Need-same-length-2
 same-length-2 c = search needs
 
--- src/info.rt:33:17
 returns : tie.Need-returns
 returns c =
     let st = c .before .before .before .before .before .before .before .before .before .before .before .before .before .before .before .before .before in
     let read = c .before .before .before .before .before .before .before .before .before .before .read-metadata in
-    own-found (st .args .name .now) (st .args .column .now) _ _ (read .result) (read .ensures) _ (c .before .before .before .before .d .given .1) (st .pre .0) _ (c .before .before .text-of .ensures) (sym (c .before .is-utf8-hex .ensures) ∙ c .if1 .taken)
+    own-found (st .args .big) (st .args .name .now) (st .args .column .now) _ _ (read .result) (read .ensures) _ (c .before .before .before .before .d .given .1) (st .pre .0) _ (c .before .before .text-of .ensures) (sym (c .before .is-utf8-hex .ensures) ∙ c .if1 .taken)
 
--- src/info.rt:25:1
 same-length-3 : tie.Need-same-length-3
 same-length-3 c = search needs
 
--- src/info.rt:25:1
 same-length-4 : tie.Need-same-length-4
 same-length-4 c = search needs
 
--- src/info.rt:25:1
 returns-2 : tie.Need-returns-2
 returns-2 c =
     let st = c .before .before .before .before .before .before .before .before .before .before .before .before .before .before in
     let read = c .before .before .before .before .before .before .before .read-metadata in
-    own-refused (st .args .name .now) (st .args .column .now) _ _ (read .result) (read .ensures) _ (c .before .r .given .1)
+    own-refused (st .args .big) (st .args .name .now) (st .args .column .now) _ _ (read .result) (read .ensures) _ (c .before .r .given .1)
 
--- src/info.rt:25:1
 same-length-5 : tie.Need-same-length-5
 same-length-5 c = search needs
 
--- src/info.rt:25:1
 same-length-6 : tie.Need-same-length-6
 same-length-6 c = search needs
 
--- src/info.rt:25:1
 returns-3 : tie.Need-returns-3
 returns-3 c =
     let st = c .before .before .before .before .before .before .before .before .before .before .before .before .before .before .before .before .before in
     let read = c .before .before .before .before .before .before .before .before .before .before .read-metadata in
-    own-unnamed (st .args .name .now) (st .args .column .now) _ _ (read .result) (read .ensures) _ (c .before .before .before .before .d .given .1) (st .pre .0) _ (c .before .before .text-of .ensures) (sym (c .before .is-utf8-hex .ensures) ∙ c .if1 .left)
+    own-unnamed (st .args .big) (st .args .name .now) (st .args .column .now) _ _ (read .result) (read .ensures) _ (c .before .before .before .before .d .given .1) (st .pre .0) _ (c .before .before .text-of .ensures) (sym (c .before .is-utf8-hex .ensures) ∙ c .if1 .left)
 
 pub read-own-spec : {M : Type 1} → statement M
 read-own-spec =

@@ -14,33 +14,28 @@ use Rattle.field_line.proofs.put_end.Reads as put-end-reads
 use Rattle.node.proofs.lines.put_extension.Reads as put-extension-reads
 use Rattle.node.proofs.lines.put_own.Reads as put-own-reads
 
--- src/lines.rt:60:9
 put-extension-requires : tie.Need-put-extension-requires
 put-extension-requires c κs = search needs
 
--- src/lines.rt:61:9
 put-own-requires : tie.Need-put-own-requires
 put-own-requires c κs =
     let st = c .before .before .before .before .before .before .before .before .before in
-    (omega (arith, c .before .before .before .put-extension .ensures .0, extension-short (st .args .m .now) (st .pre .1 .isText) (st .args .d), st .pre .1 .short), st .pre .0)
+    (omega (arith, c .before .before .before .put-extension .ensures .0, extension-short (st .args .shown .big) (st .args .m .now) (st .pre .1 .isText) (st .args .d), st .pre .1 .short), st .pre .0)
 
--- src/lines.rt:62:5
 put-end-requires : tie.Need-put-end-requires
 put-end-requires c κs =
     let st = c .before .before .before .before .before .before .before .before .before .before .before .before .before in
     let a = st .args in
-    omega (arith, c .before .before .before .before .before .before .before .put-extension .ensures .0, c .before .before .before .put-own .ensures .0, extension-short (a .m .now) (st .pre .1 .isText) (a .d), shown-short (a .name .now) (a .m .now) (a .entries .now) (a .shown) (st .pre .0), st .pre .0 .named, st .pre .1 .short)
+    omega (arith, c .before .before .before .before .before .before .before .put-extension .ensures .0, c .before .before .before .put-own .ensures .0, extension-short (a .shown .big) (a .m .now) (st .pre .1 .isText) (a .d), shown-short (a .name .now) (a .m .now) (a .entries .now) (a .shown) (st .pre .0), st .pre .0 .named, st .pre .1 .short)
 
--- src/lines.rt:49:1
 same-length : tie.Need-same-length
 same-length c = search needs
 
--- src/lines.rt:49:1
 returns : tie.Need-returns
 unfolding extensionText
 returns c =
     let a = c .before .before .before .before .before .before .before .before .before .before .before .before .before .before .before .before .args in
-    let extension = and-then (extensionPiece (bytesOf (a .m .now)) (a .d)) (none-yet 0 (a .out .now)) (c .before .before .before .before .before .before .before .before .before .before .put-extension .ensures) in
+    let extension = and-then (extensionPiece (a .shown .big) (bytesOf (a .m .now)) (a .d)) (none-yet 0 (a .out .now)) (c .before .before .before .before .before .before .before .before .before .before .put-extension .ensures) in
     let own = and-then (shownText (a .name .now) (a .m .now) (a .entries .now) (a .shown)) extension (c .before .before .before .before .before .before .put-own .ensures) in
     let w = and-then (endPiece 1) own (c .before .before .put-end .ensures) in
     (w .place, w .holds)

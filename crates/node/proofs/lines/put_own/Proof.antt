@@ -24,7 +24,7 @@ same-length c = search needs
 returns : tie.Need-returns
 returns c =
     let a = c .before .before .before .before .before .before .before .before .before .args in
-    put-same (a .at) (a .out .now) (ownPiece noText noText noText) (shownText (a .name .now) (a .m .now) (a .entries .now) (a .shown)) (own-bare (a .shown .bare) (a .name .now) (a .shown .nullable) (pairsColumn (bytesOf (a .m .now)) (a .entries .now) (a .shown .count)) (c .before .before .before .before .if1 .taken)) (c .before .before .put-bare .ensures)
+    put-same (a .at) (a .out .now) (ownPiece noText noText noText) (shownText (a .name .now) (a .m .now) (a .entries .now) (a .shown)) (own-bare (a .shown .bare) (a .name .now) (a .shown .nullable) (pairsColumn (a .shown .big) (bytesOf (a .m .now)) (a .entries .now) (a .shown .count)) (c .before .before .before .before .if1 .taken)) (c .before .before .put-bare .ensures)
 
 put-name-requires : tie.Need-put-name-requires
 put-name-requires c κs = search needs
@@ -48,10 +48,10 @@ returns-2 : tie.Need-returns-2
 returns-2 c =
     let a = c .before .before .before .before .before .before .before .before .before .before .before .before .before .before .before .before .before .args in
     let name = and-then (namePiece (a .name .now) (a .shown .nullable)) (none-yet (a .at) (a .out .now)) (c .before .before .before .before .before .before .before .before .before .before .put-name .ensures) in
-    let pairs = and-then (pairsColumn (bytesOf (a .m .now)) (a .entries .now) (a .shown .count)) name (c .before .before .before .before .before .before .put-pairs .ensures) in
+    let pairs = and-then (pairsColumn (a .shown .big) (bytesOf (a .m .now)) (a .entries .now) (a .shown .count)) name (c .before .before .before .before .before .before .put-pairs .ensures) in
     let w = and-then (32 ∷ []) pairs (c .before .before .put-byte .ensures) in
-    put-same (a .at) (a .out .now) ((namePiece (a .name .now) (a .shown .nullable) ++ pairsColumn (bytesOf (a .m .now)) (a .entries .now) (a .shown .count)) ++ (32 ∷ [])) (shownText (a .name .now) (a .m .now) (a .entries .now) (a .shown))
-    (own-named (a .shown .bare) (a .name .now) (a .shown .nullable) (pairsColumn (bytesOf (a .m .now)) (a .entries .now) (a .shown .count)) (c .before .before .before .before .before .before .before .before .before .before .before .before .if1 .left)) (w .place, w .holds)
+    put-same (a .at) (a .out .now) ((namePiece (a .name .now) (a .shown .nullable) ++ pairsColumn (a .shown .big) (bytesOf (a .m .now)) (a .entries .now) (a .shown .count)) ++ (32 ∷ [])) (shownText (a .name .now) (a .m .now) (a .entries .now) (a .shown))
+    (own-named (a .shown .bare) (a .name .now) (a .shown .nullable) (pairsColumn (a .shown .big) (bytesOf (a .m .now)) (a .entries .now) (a .shown .count)) (c .before .before .before .before .before .before .before .before .before .before .before .before .if1 .left)) (w .place, w .holds)
 
 pub put-own-spec : {M : Type 1} → statement M
 put-own-spec =

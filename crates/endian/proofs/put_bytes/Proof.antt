@@ -7,8 +7,8 @@ use denote.Ref.{now}
 use Rattle.sheets.specs.Text.{hex}
 use Rattle.buffer.specs.Over.{overAt, IsUsize}
 use borrow.Author.Needs.{needs}
-use Rattle.little_endian.proofs.put_bytes.Statement.{statement}
-use Rattle.little_endian.proofs.put_bytes.Tie as tie
+use Rattle.endian.proofs.put_bytes.Statement.{statement}
+use Rattle.endian.proofs.put_bytes.Tie as tie
 
 word-bytes-requires : tie.Need-word-bytes-requires
 word-bytes-requires c κs = search needs
