@@ -1,6 +1,6 @@
-/* A fuzzer's entry: any bytes are put to `juzontefa_import` or, compiled with READS_field, to the calls that read a field sheet. The sheet ends and
- * each buffer ends where a page that cannot be touched begins, so that a read or a write past either ends the run; the promises of the header are
- * tested. `host/fuzz` links it with libFuzzer's main and the library's code with coverage counters. */
+/* A fuzzer's entry: any bytes are put to import or, compiled with READS_field, to the calls that read a field sheet; but for the last byte, which says the
+ * order to those that take one. The sheet ends and each buffer ends where a page that cannot be touched begins, so that a read or a write past either ends
+ * the run; the promises of the header are tested. `host/fuzz` links it with libFuzzer's main and the library's code with coverage counters. */
 #define _GNU_SOURCE
 #include <stdint.h>
 #include <stdlib.h>
@@ -24,6 +24,13 @@ static uint8_t *fenced(size_t size) {
     uint8_t *area = mmap(NULL, size + PAGE, PROT_READ | PROT_WRITE, MAP_PRIVATE | MAP_ANONYMOUS, -1, 0);
     if (area == MAP_FAILED || mprotect(area + size, PAGE, PROT_NONE) != 0) abort();
     return area + size;
+}
+
+/* The byte order that a call with one is asked for. */
+static uint64_t big;
+
+static struct juzontefa_answer import(const uint8_t *sheet, size_t size, uint8_t *out, size_t room) {
+    return juzontefa_import_with_order(sheet, size, big, out, room);
 }
 
 static void require(int holds) {
@@ -57,10 +64,23 @@ static struct juzontefa_answer ask_all(call *call, uint32_t numbers, const uint8
     return answer;
 }
 
+/* The answer of a call with an order comes again: for order 0 from the call without one, for every other number from order 1. */
+static void comes_again(call *with, call *without, const uint8_t *sheet, size_t size, struct juzontefa_answer answer) {
+    uint64_t asked = big;
+    ask(with, UINT32_MAX, sheet, size, answer.length);
+    memcpy(end[3] - answer.length, end[4] - answer.length, answer.length);
+    big = asked != 0;
+    struct juzontefa_answer again = ask(big ? with : without, UINT32_MAX, sheet, size, answer.length);
+    big = asked;
+    require(again.number == answer.number && again.length == answer.length);
+    require(memcmp(end[3] - answer.length, end[4] - answer.length, answer.length) == 0);
+}
+
 #ifndef READS_field
 
 static void calls(const uint8_t *sheet, size_t size) {
-    ask_all(juzontefa_import, 0x10fff, sheet, size, JUZONTEFA_IMPORT_ROOM(size));
+    struct juzontefa_answer imported = ask_all(import, 0x10fff, sheet, size, JUZONTEFA_IMPORT_ROOM(size));
+    comes_again(import, juzontefa_import, sheet, size, imported);
 }
 
 #else
@@ -72,11 +92,22 @@ static uint64_t place;
 #define PLAINS 0x1000f
 #define LINE 73u
 
+static struct juzontefa_answer export(const uint8_t *sheet, size_t size, uint8_t *out, size_t room) {
+    return juzontefa_export_with_order(sheet, size, big, out, room);
+}
+
+/* By the call without an order for half of the sheets with order 0. */
+static struct juzontefa_trip round_trip(const uint8_t *sheet, size_t size, uint8_t *const out[4], const size_t room[4]) {
+    if (big == 0 && size % 2 == 0)
+        return juzontefa_round_trip(sheet, size, out[0], room[0], out[1], room[1], out[2], room[2], out[3], room[3]);
+    return juzontefa_round_trip_with_order(sheet, size, big, out[0], room[0], out[1], room[1], out[2], room[2], out[3], room[3]);
+}
+
 /* A round trip with these rooms; on refusal all four buffers are zeros. */
 static struct juzontefa_trip travel(const uint8_t *sheet, size_t size, const size_t room[4]) {
     uint8_t *out[4];
     for (int i = 0; i < 4; i++) out[i] = memset(end[i] - room[i], UNTOUCHED, room[i]);
-    struct juzontefa_trip trip = juzontefa_round_trip(sheet, size, out[0], room[0], out[1], room[1], out[2], room[2], out[3], room[3]);
+    struct juzontefa_trip trip = round_trip(sheet, size, out, room);
     require(trip.answer <= JUZONTEFA_AGAIN_DIFFERS);
     int refused = trip.answer >= JUZONTEFA_EXPORT_REFUSED && trip.answer <= JUZONTEFA_AGAIN_REFUSED;
     require(refused ? trip.number >= 1 && trip.number <= 16 : trip.number == 0);
@@ -111,10 +142,10 @@ static void trips(const uint8_t *sheet, size_t size, struct juzontefa_answer exp
     }
     require(trip.answer != JUZONTEFA_EXPORT_REFUSED && trip.answer != JUZONTEFA_PLAIN_REFUSED);
     if (trip.answer == JUZONTEFA_IMPORT_REFUSED || trip.answer == JUZONTEFA_AGAIN_REFUSED) return;
-    require(holds(0, room[0], juzontefa_export, EXPORTS, sheet, size) == x);
-    size_t imported = holds(1, room[1], juzontefa_import, 1, end[0] - room[0], x);
+    require(holds(0, room[0], export, EXPORTS, sheet, size) == x);
+    size_t imported = holds(1, room[1], import, 1, end[0] - room[0], x);
     require(holds(2, room[2], juzontefa_plain_form, PLAINS, sheet, size) == p);
-    size_t again = holds(3, room[3], juzontefa_export, EXPORTS, end[2] - room[2], p);
+    size_t again = holds(3, room[3], export, EXPORTS, end[2] - room[2], p);
     int same = imported == p && memcmp(end[1] - room[1], end[2] - room[2], p) == 0;
     int same_again = again == x && memcmp(end[3] - room[3], end[0] - room[0], x) == 0;
     require(trip.answer == (!same ? JUZONTEFA_IMPORT_DIFFERS : !same_again ? JUZONTEFA_AGAIN_DIFFERS : JUZONTEFA_ALL_SAME));
@@ -209,8 +240,20 @@ static void mappings(const uint8_t *sheet, size_t size, uint64_t form) {
     require((ask_all(primitive, CONVERSIONS, sheet, size, JUZONTEFA_CONVERTED_ROOM).number == 0) == (place < 17));
 }
 
+/* An export has the same number and length in the other order. */
+static struct juzontefa_answer exports(const uint8_t *sheet, size_t size) {
+    struct juzontefa_answer exported = ask_all(export, EXPORTS, sheet, size, JUZONTEFA_EXPORT_ROOM(size));
+    comes_again(export, juzontefa_export, sheet, size, exported);
+    uint64_t asked = big;
+    big = asked == 0;
+    struct juzontefa_answer other = ask(export, EXPORTS, sheet, size, exported.length);
+    big = asked;
+    require(other.number == exported.number && other.length == exported.length);
+    return exported;
+}
+
 static void calls(const uint8_t *sheet, size_t size) {
-    struct juzontefa_answer exported = ask_all(juzontefa_export, EXPORTS, sheet, size, JUZONTEFA_EXPORT_ROOM(size));
+    struct juzontefa_answer exported = exports(sheet, size);
     struct juzontefa_answer plain = ask_all(juzontefa_plain_form, PLAINS, sheet, size, JUZONTEFA_PLAIN_FORM_ROOM(size));
     if (exported.number <= 3) require(exported.number == plain.number);
     else require(plain.number == 0);
@@ -225,6 +268,11 @@ int LLVMFuzzerTestOneInput(const uint8_t *data, size_t size) {
     if (sheet_end == NULL) {
         sheet_end = fenced(SHEET);
         for (int i = 0; i < 5; i++) end[i] = fenced(ROOM);
+    }
+    big = 0;
+    if (size > 0) {
+        size--;
+        big = (uint64_t)data[size] << 8 * (size % 8); /* at each of a number's places */
     }
     if (size > SHEET) return 0;
     uint8_t *sheet = sheet_end - size;

@@ -1,6 +1,6 @@
 /* A C host: walks ArrowSchema structs into schema sheets, imports them and exports what comes; makes field sheets plain, takes them out and back, and
- * into pages; tries pages and mappings on every kind; and tries broken, empty and oversized input on every call. Prints the field sheets and a count;
- * the status is 0 only if every answer was the expected one.
+ * into pages; tries pages and mappings on every kind, and metadata in both byte orders; and tries broken, empty and oversized input on every call.
+ * Prints the field sheets and a count; the status is 0 only if every answer was the expected one.
  *
  *   c KINDS    the table of kinds, host/kinds */
 #include <stdio.h>
@@ -9,6 +9,7 @@
 
 #include "arrow/juzontefa_arrow.h"
 #include "mappings.h"
+#include "orders.h"
 #include "tries.h"
 
 /* ── import, over real structs */
@@ -113,24 +114,10 @@ static const struct {
     { "byte 00 in a name", FIELD "4 0 0 ~ ~ 00 1 ~ 0\n", 14 },
 };
 
-/* A round trip of a sheet into buffers of these rooms: the answer, the number, and the four sheets, or zeros where there are none. */
-static void expect_trip(const char *what, const char *in, const size_t room[4], uint64_t answer, uint64_t number, const char *const sheets[4])
+static struct juzontefa_trip round_trip(const uint8_t *in, size_t in_len, uint8_t *const out[4], const size_t room[4])
 {
-    static uint8_t buffer[4][ROOM], before[70000];
-    size_t length = in ? strlen(in) : 0;
-    uint8_t *lent[4];
-    for (int i = 0; i < 4; i++)
-        lent[i] = room[i] ? memset(buffer[i], 7, ROOM) : NULL;
-    memcpy(before, in ? in : "", length);
-    const uint8_t *from = (const uint8_t *)in;
-    struct juzontefa_trip t = juzontefa_round_trip(from, length, lent[0], room[0], lent[1], room[1], lent[2], room[2], lent[3], room[3]);
-    int ok = t.answer == answer && t.number == number && (length == 0 || memcmp(before, in, length) == 0);
-    for (int i = 0; ok && i < 4; i++)
-        ok = !lent[i] || holds(buffer[i], room[i], sheets ? sheets[i] : NULL);
-    count(ok, what, t.answer, t.number);
+    return juzontefa_round_trip(in, in_len, out[0], room[0], out[1], room[1], out[2], room[2], out[3], room[3]);
 }
-
-static const size_t wide[4] = { ROOM, ROOM, ROOM, ROOM }, none[4] = { 0, 0, 0, 0 };
 
 static void field_sheets(void)
 {
@@ -140,47 +127,36 @@ static void field_sheets(void)
         answered(juzontefa_plain_form, fields[i].what, (const uint8_t *)field, strlen(field), p);
 
         const char *const sheets[4] = { x, p, p, x };
-        const size_t exact[4] = { strlen(x), strlen(p), strlen(p), strlen(x) };
-        expect_trip(fields[i].what, field, wide, JUZONTEFA_ALL_SAME, 0, sheets);
-        expect_trip("the exact buffers", field, exact, JUZONTEFA_ALL_SAME, 0, sheets);
-        expect_trip("no buffers", field, none, JUZONTEFA_EXPORT_REFUSED, 16, NULL);
-        for (int step = 0; step < 4; step++) {
-            size_t room[4];
-            memcpy(room, exact, sizeof room);
-            room[step]--;
-            expect_trip("one buffer a byte short", field, room, JUZONTEFA_EXPORT_REFUSED + step, 16, NULL);
-            room[step] = 0;
-            expect_trip("one buffer missing", field, room, JUZONTEFA_EXPORT_REFUSED + step, 16, NULL);
-        }
+        comes_back(round_trip, fields[i].what, field, sheets);
     }
     for (size_t i = 0; i < sizeof owners / sizeof *owners; i++) {
         const char *field = owners[i].field;
         text(juzontefa_export, owners[i].what, field, owners[i].number);
         expect(juzontefa_export, owners[i].what, (const uint8_t *)field, strlen(field), 0, owners[i].number, NULL);
         answered(juzontefa_plain_form, owners[i].what, (const uint8_t *)field, strlen(field), field);
-        expect_trip(owners[i].what, field, wide, JUZONTEFA_EXPORT_REFUSED, owners[i].number, NULL);
+        expect_trip(round_trip, owners[i].what, field, wide, JUZONTEFA_EXPORT_REFUSED, owners[i].number, NULL);
     }
 }
 
 /* The other answers of a round trip. That the second export differs is not to be had: a plain form is exported as its field is. */
 static void other_trips(void)
 {
-    expect_trip("null and empty", NULL, wide, JUZONTEFA_EXPORT_REFUSED, 1, NULL);
-    expect_trip("null, empty and no buffers", NULL, none, JUZONTEFA_EXPORT_REFUSED, 1, NULL);
-    expect_trip("no line", FIELD, wide, JUZONTEFA_EXPORT_REFUSED, 2, NULL);
+    expect_trip(round_trip, "null and empty", NULL, wide, JUZONTEFA_EXPORT_REFUSED, 1, NULL);
+    expect_trip(round_trip, "null, empty and no buffers", NULL, none, JUZONTEFA_EXPORT_REFUSED, 1, NULL);
+    expect_trip(round_trip, "no line", FIELD, wide, JUZONTEFA_EXPORT_REFUSED, 2, NULL);
     many((char *)sheet, FIELD, 32, "27 0 0 ~ ~ 70 1 ~ 1\n");
     strcat((char *)sheet, "14 0 0 ~ ~ 69 0 ~ 0\n");
-    expect_trip("33 levels", (char *)sheet, wide, JUZONTEFA_EXPORT_REFUSED, 3, NULL);
-    expect_trip("an index of 128 bits", FIELD "32 4 0 ~ ~ 70 1 ~ 1\n25 0 0 ~ ~ ~ ~ ~ 0\n", wide, JUZONTEFA_IMPORT_REFUSED, 9, NULL);
+    expect_trip(round_trip, "33 levels", (char *)sheet, wide, JUZONTEFA_EXPORT_REFUSED, 3, NULL);
+    expect_trip(round_trip, "an index of 128 bits", FIELD "32 4 0 ~ ~ 70 1 ~ 1\n25 0 0 ~ ~ ~ ~ ~ 0\n", wide, JUZONTEFA_IMPORT_REFUSED, 9, NULL);
     many((char *)sheet, FIELD "30 0 0 ~ ~ - 0 ~ 700\n", 700, "37 0 0 - - - 0 ~ 1\n6 0 0 ~ ~ ~ ~ ~ 0\n");
-    expect_trip("an export too long to hand in", (char *)sheet, wide, JUZONTEFA_IMPORT_REFUSED, 1, NULL);
+    expect_trip(round_trip, "an export too long to hand in", (char *)sheet, wide, JUZONTEFA_IMPORT_REFUSED, 1, NULL);
     many((char *)sheet, FIELD "41 0 0 ~ ~ - 0 ~ 1000\n", 1000, "14 0 0 ~ ~ 61616161616161616161616161616161616161616161 0 ~ 0\n");
-    expect_trip("a plain form too long to hand in", (char *)sheet, wide, JUZONTEFA_AGAIN_REFUSED, 1, NULL);
+    expect_trip(round_trip, "a plain form too long to hand in", (char *)sheet, wide, JUZONTEFA_AGAIN_REFUSED, 1, NULL);
 
 #define KEY "4152524f573a657874656e73696f6e3a6e616d65=78" /* ARROW:extension:name=x as a pair of the field's own */
     static const char *const kept[4] = { SCHEMA "69 70 2 " NAMED " 0 0\n", FIELD "37 0 0 78 ~ 70 1 ~ 1\n4 0 0 ~ ~ ~ ~ ~ 0\n",
                                          FIELD "4 0 0 ~ ~ 70 1 " KEY " 0\n", SCHEMA "69 70 2 " NAMED " 0 0\n" };
-    expect_trip("a reserved key", FIELD "4 0 0 ~ ~ 70 1 " KEY " 0\n", wide, JUZONTEFA_IMPORT_DIFFERS, 0, kept);
+    expect_trip(round_trip, "a reserved key", FIELD "4 0 0 ~ ~ 70 1 " KEY " 0\n", wide, JUZONTEFA_IMPORT_DIFFERS, 0, kept);
 }
 
 /* ── pages */
@@ -318,6 +294,7 @@ int main(int count, char **words)
     other_trips();
     field_pages();
     longest_answers();
+    orders();
     mappings(count == 2 ? words[1] : "");
     printf("C host: %d tried, %d wrong\n", tried, wrong);
     return wrong == 0 ? EXIT_SUCCESS : EXIT_FAILURE;

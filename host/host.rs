@@ -1,9 +1,10 @@
 //! A Rust host: links the static library and calls it on valid, broken, empty and oversized sheets, takes fields out and back and into pages, and tries
-//! the mappings on every kind. The status is 0 only if every answer was the expected one.
+//! metadata in both byte orders and the mappings on every kind. The status is 0 only if every answer was the expected one.
 
 #[path = "rust/src/raw.rs"]
 mod juzontefa;
 mod mappings;
+mod orders;
 
 use std::process::ExitCode;
 
@@ -30,15 +31,21 @@ fn of(call: ToSheet) -> impl Fn(&[u8], &mut [u8]) -> Result<usize, u64> {
     move |sheet, out| told(unsafe { call(sheet.as_ptr(), sheet.len(), out.as_mut_ptr(), out.len()) })
 }
 
-/// The round trip of a field sheet; the buffers get its export, the import of that, its plain form, and the export of that.
-fn round_trip(sheet: &[u8], buffers: &mut [Vec<u8>; 4]) -> Trip {
+/// The round trip of a field sheet; the buffers get its export, the import of that, its plain form, and the export of that. Where there is an order, by the
+/// call that takes one.
+fn round_trip(sheet: &[u8], order: Option<u64>, buffers: &mut [Vec<u8>; 4]) -> Trip {
     let [a, b, c, d] = buffers;
     let (at, len) = (sheet.as_ptr(), sheet.len());
     // SAFETY: as above; the four buffers are different vectors.
     unsafe {
         let (first, second) = ((a.as_mut_ptr(), a.len()), (b.as_mut_ptr(), b.len()));
         let (third, fourth) = ((c.as_mut_ptr(), c.len()), (d.as_mut_ptr(), d.len()));
-        juzontefa_round_trip(at, len, first.0, first.1, second.0, second.1, third.0, third.1, fourth.0, fourth.1)
+        match order {
+            None => juzontefa_round_trip(at, len, first.0, first.1, second.0, second.1, third.0, third.1, fourth.0, fourth.1),
+            Some(big) => juzontefa_round_trip_with_order(
+                at, len, big, first.0, first.1, second.0, second.1, third.0, third.1, fourth.0, fourth.1,
+            ),
+        }
     }
 }
 
@@ -79,6 +86,14 @@ impl Tries {
         }
     }
 
+    /// An answer, with all kinds of buffers, or a refusal with room and without.
+    fn gives(&mut self, call: Call, what: &str, sheet: &str, expected: Result<String, u64>) {
+        match expected {
+            Ok(answer) => self.answered(call, what, sheet, &answer),
+            Err(number) => [ROOM, 0].iter().for_each(|room| self.expect(call, what, sheet.as_bytes(), *room, Err(number))),
+        }
+    }
+
     /// What every call refuses: `line` has one child, `leaf` none.
     fn broken(&mut self, call: Call, heading: &str, line: &str, leaf: &str) {
         let one = format!("{heading}{leaf}");
@@ -97,10 +112,10 @@ impl Tries {
     }
 
     /// The answer, and every byte of the four buffers: the sheets, or zeros in all four.
-    fn trip(&mut self, what: &str, sheet: &str, rooms: [usize; 4], expected: Trip, sheets: Option<[&str; 4]>) {
+    fn trip(&mut self, what: &str, sheet: &str, order: Option<u64>, rooms: [usize; 4], expected: Trip, sheets: Option<[&str; 4]>) {
         let before = sheet.to_string();
         let mut buffers = rooms.map(|room| vec![7u8; room]);
-        let told = round_trip(sheet.as_bytes(), &mut buffers);
+        let told = round_trip(sheet.as_bytes(), order, &mut buffers);
         let held = (0..4).all(|step| holds(&buffers[step], sheets.map(|sheets| sheets[step])));
         self.count(told == expected && held && sheet == before, what);
     }
@@ -109,14 +124,19 @@ impl Tries {
     fn field(&mut self, what: &str, field: &str, exported: &str, plain: &str) {
         self.answered(&of(juzontefa_export), what, field, exported);
         self.answered(&of(juzontefa_plain_form), what, field, plain);
+        self.comes_back(what, field, None, exported, plain);
+    }
+
+    /// A field that comes back as its plain form, with all kinds of buffers.
+    fn comes_back(&mut self, what: &str, field: &str, order: Option<u64>, exported: &str, plain: &str) {
         let sheets = [exported, plain, plain, exported];
         let exact = sheets.map(str::len);
-        self.trip(what, field, [ROOM; 4], Trip { answer: ALL_SAME, number: 0 }, Some(sheets));
-        self.trip(what, field, exact, Trip { answer: ALL_SAME, number: 0 }, Some(sheets));
+        self.trip(what, field, order, [ROOM; 4], Trip { answer: ALL_SAME, number: 0 }, Some(sheets));
+        self.trip(what, field, order, exact, Trip { answer: ALL_SAME, number: 0 }, Some(sheets));
         for step in 0..4 {
             let mut rooms = exact;
             rooms[step] -= 1;
-            self.trip(what, field, rooms, Trip { answer: EXPORT_REFUSED + step as u64, number: 16 }, None);
+            self.trip(what, field, order, rooms, Trip { answer: EXPORT_REFUSED + step as u64, number: 16 }, None);
         }
     }
 }
@@ -186,13 +206,14 @@ fn fields(tries: &mut Tries) {
         ("an index of 128 bits", "32 9 0 ~ ~ 70 1 ~ 1\n25 0 0 ~ ~ ~ ~ ~ 0\n", IMPORT_REFUSED, 9),
     ];
     for (what, field, answer, number) in refused {
-        tries.trip(what, &format!("{FIELD}{field}"), [ROOM; 4], Trip { answer, number }, None);
+        tries.trip(what, &format!("{FIELD}{field}"), None, [ROOM; 4], Trip { answer, number }, None);
     }
-    tries.trip("empty", "", [ROOM; 4], Trip { answer: EXPORT_REFUSED, number: 1 }, None);
+    tries.trip("empty", "", None, [ROOM; 4], Trip { answer: EXPORT_REFUSED, number: 1 }, None);
     let own = format!("{FIELD}4 0 0 ~ ~ 70 1 4152524f573a657874656e73696f6e3a6e616d65=78 0\n");
     let exported = format!("{SCHEMA}69 70 2 {named} 0 0\n");
     let imported = format!("{FIELD}37 0 0 78 ~ 70 1 ~ 1\n4 0 0 ~ ~ ~ ~ ~ 0\n");
-    tries.trip("a reserved key", &own, [ROOM; 4], Trip { answer: IMPORT_DIFFERS, number: 0 }, Some([&exported, &imported, &own, &exported]));
+    let differs = Trip { answer: IMPORT_DIFFERS, number: 0 };
+    tries.trip("a reserved key", &own, None, [ROOM; 4], differs, Some([&exported, &imported, &own, &exported]));
 }
 
 /// A line of a page, as the standard library justifies it.
@@ -225,6 +246,7 @@ fn main() -> ExitCode {
     imports(&mut tries);
     fields(&mut tries);
     pages(&mut tries);
+    orders::orders(&mut tries);
     mappings::mappings(&mut tries);
     for what in &tries.wrong {
         println!("wrong: {what}");

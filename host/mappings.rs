@@ -106,14 +106,6 @@ impl<'a> Kind<'a> {
 }
 
 impl Tries {
-    /// An answer, with all kinds of buffers, or a refusal with room and without.
-    fn gives(&mut self, call: Call, what: &str, sheet: &str, expected: Result<String, u64>) {
-        match expected {
-            Ok(answer) => self.answered(call, what, sheet, &answer),
-            Err(number) => [ROOM, 0].iter().for_each(|room| self.expect(call, what, sheet.as_bytes(), *room, Err(number))),
-        }
-    }
-
     fn gives_no_child(&mut self, what: &str, sheet: &str, from: u64) {
         for index in [from].into_iter().chain(PAST) {
             self.gives(&child(index), what, sheet, Err(15));

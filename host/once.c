@@ -1,20 +1,32 @@
 /* One call on the sheet in a file, for host/instructions. The status is 0 only if it is answered, or refused with 15.
  *
- *   once CALL FILE    a call from sheet to sheet, or the page, by the driver's name; get_child for the last child of the first line */
+ *   once CALL FILE    a call from sheet to sheet, or the page, by the driver's name; get_child for the last child of the first line; import_big and
+ *                     export_big are import and export of big-endian metadata, which import_big's sheet is turned to before the call */
 #include <stdio.h>
 #include <stdlib.h>
 #include <string.h>
 
-#include "../include/juzontefa.h"
+#include "arrow/juzontefa_arrow.h"
 
 typedef struct juzontefa_answer call(const uint8_t *sheet, size_t sheet_len, uint8_t *out, size_t out_len);
 
 static uint8_t sheet[65536], out[1u << 19];
+static size_t size;
 static uint64_t last;
 
-static struct juzontefa_answer child(const uint8_t *from, size_t size, uint8_t *to, size_t room)
+static struct juzontefa_answer child(const uint8_t *from, size_t length, uint8_t *to, size_t room)
 {
-    return juzontefa_get_child(from, size, last, to, room);
+    return juzontefa_get_child(from, length, last, to, room);
+}
+
+static struct juzontefa_answer import_big(const uint8_t *from, size_t length, uint8_t *to, size_t room)
+{
+    return juzontefa_import_with_order(from, length, JUZONTEFA_BIG_ENDIAN, to, room);
+}
+
+static struct juzontefa_answer export_big(const uint8_t *from, size_t length, uint8_t *to, size_t room)
+{
+    return juzontefa_export_with_order(from, length, JUZONTEFA_BIG_ENDIAN, to, room);
 }
 
 /* A mapping gets a buffer as long as its sheet: no answer is longer. */
@@ -25,6 +37,8 @@ static const struct {
 } calls[] = {
     { "import", juzontefa_import, 0 },
     { "export", juzontefa_export, 0 },
+    { "import_big", import_big, 0 },
+    { "export_big", export_big, 0 },
     { "plain", juzontefa_plain_form, 0 },
     { "page", juzontefa_page, 0 },
     { "underlying_physical_type", juzontefa_underlying_physical_type, 1 },
@@ -44,6 +58,18 @@ static uint64_t last_child(const char *text)
     return count ? count - 1 : 0;
 }
 
+/* Makes the metadata of the schema sheet at hand big-endian: both orders are counted on one sheet. Whether it could be. */
+static int turn(void)
+{
+    struct ArrowSchema schema;
+    if (juzontefa_sheet_to_schema(sheet, size, &schema) != 0)
+        return 0;
+    struct juzontefa_walked turned = juzontefa_schema_to_sheet_with_order(&schema, JUZONTEFA_BIG_ENDIAN, sheet, sizeof sheet - 1);
+    schema.release(&schema);
+    size = turned.length;
+    return turned.number == 0;
+}
+
 int main(int count, char **words)
 {
     FILE *file = count == 3 ? fopen(words[2], "rb") : NULL;
@@ -51,9 +77,13 @@ int main(int count, char **words)
         fprintf(stderr, "once: no sheet\n");
         return EXIT_FAILURE;
     }
-    size_t size = fread(sheet, 1, sizeof sheet - 1, file);
+    size = fread(sheet, 1, sizeof sheet - 1, file);
     fclose(file);
     last = last_child((const char *)sheet);
+    if (strcmp(words[1], "import_big") == 0 && !turn()) {
+        fprintf(stderr, "once: a sheet that cannot be turned\n");
+        return EXIT_FAILURE;
+    }
     for (size_t i = 0; i < sizeof calls / sizeof *calls; i++)
         if (strcmp(words[1], calls[i].name) == 0) {
             uint64_t number = calls[i].call(sheet, size, out, calls[i].is_mapping ? size : sizeof out).number;

@@ -15,14 +15,15 @@
 #define STACK (1u << 20)
 #define LONGEST 65535
 
-/* Import reads schema sheets; then come those that read field sheets, and the two conversions, which read none. */
+/* The imports read schema sheets; then come those that read field sheets, and the two conversions, which read none. */
 enum call {
-    IMPORT, EXPORT, PLAIN_FORM, PAGE, ROUND_TRIP, UNDERLYING_PHYSICAL_TYPE, TO_STORAGE, TO_STORAGE_RECURSIVE, INNER_DTYPE, GET_CHILD, TO_PHYSICAL_TYPE,
-    IS_NESTED, CONTAINS_DICTIONARY, FROM_INTEGER_TYPE, FROM_PRIMITIVE_TYPE, CALLS
+    IMPORT, IMPORT_WITH_ORDER, EXPORT, EXPORT_WITH_ORDER, PLAIN_FORM, PAGE, ROUND_TRIP, ROUND_TRIP_WITH_ORDER, UNDERLYING_PHYSICAL_TYPE, TO_STORAGE,
+    TO_STORAGE_RECURSIVE, INNER_DTYPE, GET_CHILD, TO_PHYSICAL_TYPE, IS_NESTED, CONTAINS_DICTIONARY, FROM_INTEGER_TYPE, FROM_PRIMITIVE_TYPE, CALLS
 };
 static const char *const names[CALLS] = {
-    "import", "export", "plain_form", "page", "round_trip", "underlying_physical_type", "to_storage", "to_storage_recursive", "inner_dtype", "get_child",
-    "to_physical_type", "is_nested", "contains_dictionary", "from_integer_type", "from_primitive_type"
+    "import", "import_with_order", "export", "export_with_order", "plain_form", "page", "round_trip", "round_trip_with_order", "underlying_physical_type",
+    "to_storage", "to_storage_recursive", "inner_dtype", "get_child", "to_physical_type", "is_nested", "contains_dictionary", "from_integer_type",
+    "from_primitive_type"
 };
 
 static uint8_t stack[STACK] __attribute__((aligned(4096)));
@@ -31,6 +32,8 @@ static uint8_t out[4][1u << 19];
 static size_t size, room;
 /* of get_child and the conversions */
 static uint64_t place;
+/* the byte order of the calls that take one, and of the metadata that the schema sheets below are built with */
+static uint64_t big;
 static enum call called;
 static uint8_t *frame;
 static uint64_t number;
@@ -42,10 +45,15 @@ static void call(void)
     frame = __builtin_frame_address(0);
     switch (called) {
     case IMPORT: number = juzontefa_import(sheet, size, out[0], room).number; break;
+    case IMPORT_WITH_ORDER: number = juzontefa_import_with_order(sheet, size, big, out[0], room).number; break;
     case EXPORT: number = juzontefa_export(sheet, size, out[0], room).number; break;
+    case EXPORT_WITH_ORDER: number = juzontefa_export_with_order(sheet, size, big, out[0], room).number; break;
     case PLAIN_FORM: number = juzontefa_plain_form(sheet, size, out[0], room).number; break;
     case PAGE: number = juzontefa_page(sheet, size, out[0], room).number; break;
     case ROUND_TRIP: number = juzontefa_round_trip(sheet, size, out[0], room, out[1], room, out[2], room, out[3], room).number; break;
+    case ROUND_TRIP_WITH_ORDER:
+        number = juzontefa_round_trip_with_order(sheet, size, big, out[0], room, out[1], room, out[2], room, out[3], room).number;
+        break;
     case UNDERLYING_PHYSICAL_TYPE: number = juzontefa_underlying_physical_type(sheet, size, out[0], room).number; break;
     case TO_STORAGE: number = juzontefa_to_storage(sheet, size, out[0], room).number; break;
     case TO_STORAGE_RECURSIVE: number = juzontefa_to_storage_recursive(sheet, size, out[0], room).number; break;
@@ -71,6 +79,12 @@ static size_t used_with(uint8_t paint)
     uint8_t *deepest = stack;
     while (*deepest == paint) deepest++;
     return (size_t)(frame - deepest);
+}
+
+/* The last order to put to a call: those that take none get little-endian sheets alone. */
+static uint64_t last_order(enum call which)
+{
+    return which == IMPORT_WITH_ORDER || which == EXPORT_WITH_ORDER || which == ROUND_TRIP_WITH_ORDER ? JUZONTEFA_BIG_ENDIAN : JUZONTEFA_LITTLE_ENDIAN;
 }
 
 /* The stack of a call for the sheet at hand, without room for the answer and with room; the number is that with room. */
@@ -113,10 +127,22 @@ static void fill(const char *line, size_t rest)
 
 static void one_leaf(void) { put(1, "67 7065616b 2 ~ 0 0\n"); }
 static void a_list(void) { put(1, LIST LEAF); }
+/* A count or length of metadata, in the order at hand. */
+static void put_word(uint32_t word)
+{
+    char text[9];
+    for (int i = 0; i < 4; i++)
+        snprintf(text + 2 * i, 3, "%02x", (unsigned)(word >> 8 * (big ? 3 - i : i) & 255));
+    put(1, text);
+}
 static void extension(void)
 {
-    /* ARROW:extension:name = x */
-    put(1, "69 7472616365 3 01000000140000004152524f573a657874656e73696f6e3a6e616d650100000078 0 1\n75 - 2 ~ 0 0\n");
+    put(1, "69 7472616365 3 ");
+    put_word(1);
+    put_word(20);
+    put(1, "4152524f573a657874656e73696f6e3a6e616d65"); /* ARROW:extension:name = x */
+    put_word(1);
+    put(1, "78 0 1\n75 - 2 ~ 0 0\n");
 }
 static void a_struct(void)
 {
@@ -143,10 +169,13 @@ static void pairs(void)
 {
     char text[32];
     put(31, LIST);
-    put(1, "67 69 0 1c0c0000"); /* 3,100 pairs: keys of two bytes, in descending order, no values */
+    put(1, "67 69 0 ");
+    put_word(3100); /* pairs: keys of two bytes, in descending order, no values */
     for (int i = 3099; i >= 0; i--) {
-        snprintf(text, sizeof text, "02000000%02x%02x00000000", 48 + i / 64, 48 + i % 64);
+        put_word(2);
+        snprintf(text, sizeof text, "%02x%02x", 48 + i / 64, 48 + i % 64);
         put(1, text);
+        put_word(0);
     }
     put(1, " 0 0\n");
 }
@@ -276,22 +305,33 @@ static const struct shape fields[] = {
     { "3,274 levels and no leaf, refused with 2", field_too_deep_and_broken, 2, 0 },
 };
 
+/* A shape put to a call, in each order that it takes; how often it got another number than it is to get. */
+static int measure_shape(const char *heading, const struct shape *shape, enum call which)
+{
+    int wrong = 0;
+    size_t most = 0;
+    for (big = 0; big <= last_order(which); big++) {
+        size = 0;
+        put(1, heading);
+        shape->build();
+        size_t bytes = used(which);
+        if (bytes > most) most = bytes;
+        if (number != (shape->undefined & NO(which) ? 15 : shape->number)) {
+            printf("wrong: %s of %s: number %llu\n", names[which], shape->what, (unsigned long long)number);
+            wrong++;
+        }
+    }
+    printf("%7zu  %-24s  %s\n", most, names[which], shape->what);
+    return wrong;
+}
+
 /* The shapes put to the calls from `first` to `last`; how many got another number than they are to get. */
 static int measure(const char *heading, const struct shape *shapes, size_t count, enum call first, enum call last)
 {
     int wrong = 0;
-    for (size_t i = 0; i < count; i++) {
-        size = 0;
-        put(1, heading);
-        shapes[i].build();
-        for (enum call which = first; which <= last; which++) {
-            printf("%7zu  %-24s  %s\n", used(which), names[which], shapes[i].what);
-            if (number != (shapes[i].undefined & NO(which) ? 15 : shapes[i].number)) {
-                printf("wrong: %s of %s: number %llu\n", names[which], shapes[i].what, (unsigned long long)number);
-                wrong++;
-            }
-        }
-    }
+    for (size_t i = 0; i < count; i++)
+        for (enum call which = first; which <= last; which++)
+            wrong += measure_shape(heading, &shapes[i], which);
     return wrong;
 }
 
@@ -312,28 +352,38 @@ static int conversions(void)
     return wrong;
 }
 
-int main(int count, char **files)
+/* The sheets in files: the greatest for each call, and how many it got. */
+static size_t recorded[CALLS];
+static int sheets[CALLS];
+
+/* The sheet in a file put to the calls that read its kind, in each order that they take; whether it could be read. */
+static int measure_file(const char *path)
 {
-    int wrong = measure("format name flags metadata children dictionary\n", schemas, sizeof schemas / sizeof *schemas, IMPORT, IMPORT);
-    wrong += measure("kind p q text more name nullable pairs children\n", fields, sizeof fields / sizeof *fields, EXPORT, CONTAINS_DICTIONARY);
-    wrong += conversions();
-    size_t recorded[CALLS] = { 0 };
-    int sheets[CALLS] = { 0 };
-    for (int i = 1; i < count; i++) {
-        FILE *file = fopen(files[i], "rb");
-        if (!file) {
-            fprintf(stderr, "stack: cannot read %s\n", files[i]);
-            return EXIT_FAILURE;
-        }
-        size = fread(sheet, 1, sizeof sheet, file);
-        fclose(file);
-        int is_field = size > 0 && sheet[0] == 'k';
-        for (enum call which = is_field ? EXPORT : IMPORT; which <= (is_field ? CONTAINS_DICTIONARY : IMPORT); which++) {
+    FILE *file = fopen(path, "rb");
+    if (!file) {
+        fprintf(stderr, "stack: cannot read %s\n", path);
+        return 0;
+    }
+    size = fread(sheet, 1, sizeof sheet, file);
+    fclose(file);
+    int is_field = size > 0 && sheet[0] == 'k';
+    for (enum call which = is_field ? EXPORT : IMPORT; which <= (is_field ? CONTAINS_DICTIONARY : IMPORT_WITH_ORDER); which++) {
+        for (big = 0; big <= last_order(which); big++) {
             size_t bytes = used(which);
             if (bytes > recorded[which]) recorded[which] = bytes;
-            sheets[which]++;
         }
+        sheets[which]++;
     }
+    return 1;
+}
+
+int main(int count, char **files)
+{
+    int wrong = measure("format name flags metadata children dictionary\n", schemas, sizeof schemas / sizeof *schemas, IMPORT, IMPORT_WITH_ORDER);
+    wrong += measure("kind p q text more name nullable pairs children\n", fields, sizeof fields / sizeof *fields, EXPORT, CONTAINS_DICTIONARY);
+    wrong += conversions();
+    for (int i = 1; i < count; i++)
+        if (!measure_file(files[i])) return EXIT_FAILURE;
     size_t most = 0;
     for (enum call which = IMPORT; which < CALLS; which++) {
         if (sheets[which] > 0) printf("%7zu  %-24s  the greatest of %d sheets in files\n", recorded[which], names[which], sheets[which]);

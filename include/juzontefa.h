@@ -9,7 +9,7 @@
  * A schema sheet goes to import; all other calls read a field sheet, but for the two conversions, which take a place in an enumeration.
  *
  * The answer's number is 0 for success, or says why there is none and who is turned back (enum juzontefa_refusal).
- * Import gives 1 to 11 and 16; export 1, 2, 3, 12, 13, 14 and 16; plain form, the page and `to_storage` 1, 2, 3 and 16;
+ * Import gives 1 to 11 and 16, export 1, 2, 3, 12, 13, 14 and 16, under either byte order; plain form, the page and `to_storage` 1, 2, 3 and 16;
  * `underlying_physical_type`, `to_storage_recursive`, `inner_dtype` and `get_child` 1, 2, 3, 15 and 16; `to_physical_type` 1, 2, 3 and 15;
  * `is_nested` and `contains_dictionary` 1, 2 and 3; the two conversions 15 and 16. 1, 2 and 3 are tried over the whole sheet, in that order, before
  * all others; 16 comes last, and only if there is an answer and it is longer than the buffer.
@@ -62,9 +62,17 @@ enum juzontefa_refusal {
 #define JUZONTEFA_MAPPING_ROOM(n) JUZONTEFA_SHEET(n) /* of the five mappings that answer a sheet */
 #define JUZONTEFA_CONVERTED_ROOM 69 /* of the two conversions: heading and line of Decimal256, `36 32 32 ~ ~ ~ ~ ~ 0` */
 
-/* Bytes of stack to reserve for a call: what the greatest call used, a round trip's 59,624 bytes (measured by host/stack, x86-64; not proved), with
- * a margin of a third. Import's greatest was 59,480; of the others none used more than 19,704. */
+/* Bytes of stack to reserve for a call: what the greatest call used, a round trip's 64,376 bytes (measured by host/stack, x86-64; not proved), with
+ * a margin of a quarter. Import's greatest was 64,104; of the others none used more than 19,704. */
 #define JUZONTEFA_STACK 81920
+
+/* The byte order of a metadata block's count and lengths, four bytes each: the least significant byte first, or the most significant. A struct in
+ * memory has that of its machine. Nothing else in a sheet has one; import, export and the round trip are the calls that meet it. A caller may hand over
+ * any number: every one but 0 is big-endian. */
+enum juzontefa_byte_order {
+    JUZONTEFA_LITTLE_ENDIAN = 0,
+    JUZONTEFA_BIG_ENDIAN = 1
+};
 
 /* By value, in two registers. */
 struct juzontefa_answer {
@@ -72,13 +80,23 @@ struct juzontefa_answer {
     uint64_t length;
 };
 
-/* The field sheet of a schema sheet. Ordered, nullable and sorted are the flags' bits 1, 2 and 4, of negative flags too; all other bits are free for the
- * producer, and dropped. The longest answer that was found has 95,756 bytes, for a struct of 5,036 leaves; the room for the longest sheet is 95,781. */
+/* The field sheet of a schema sheet whose metadata is little-endian. Ordered, nullable and sorted are the flags' bits 1, 2 and 4, of negative flags too;
+ * all other bits are free for the producer, and dropped. The longest answer that was found has 95,756 bytes, for a struct of 5,036 leaves; the room for
+ * the longest sheet is 95,781. */
 struct juzontefa_answer juzontefa_import(const uint8_t *sheet, size_t sheet_len, uint8_t *out, size_t out_len);
 
-/* The schema sheet of a field sheet. The longest answer that was found has 312,783 bytes, for a union without ids of 1,769 extensions; the room for the
- * longest sheet is 315,276. What is longer than 65,535 bytes import refuses with 1. */
+/* The same with the order of all metadata blocks as the caller says: little-endian if `big` is 0, else big-endian. With 0 it is `juzontefa_import`, whose
+ * numbers, room and stack it has under both. A sheet does not tell its order, so the caller must know it. For a block of the other order nothing is
+ * promised: mostly it gets 11, but 128 pairs written big-endian have, read little-endian, a negative count, which stands for no pairs. */
+struct juzontefa_answer juzontefa_import_with_order(const uint8_t *sheet, size_t sheet_len, uint64_t big, uint8_t *out, size_t out_len);
+
+/* The schema sheet of a field sheet, with little-endian metadata. The longest answer that was found has 312,783 bytes, for a union without ids of 1,769
+ * extensions; the room for the longest sheet is 315,276. What is longer than 65,535 bytes import refuses with 1. */
 struct juzontefa_answer juzontefa_export(const uint8_t *sheet, size_t sheet_len, uint8_t *out, size_t out_len);
+
+/* The same with metadata in the order that the caller says, `big` as above, which is to be its reader's. With 0 it is `juzontefa_export`. Under both a
+ * field gets the same number and length, and the same bytes but for those of counts and lengths. */
+struct juzontefa_answer juzontefa_export_with_order(const uint8_t *sheet, size_t sheet_len, uint64_t big, uint8_t *out, size_t out_len);
 
 /* The plain form of a field sheet, a field sheet again: what import of its export gives, where the field can be exported and has no reserved key
  * and no dictionary index of 128 bits. The longest answer that was found has 82,603 bytes, for a union without ids of 3,636 leaves; the room for the
@@ -172,6 +190,12 @@ struct juzontefa_trip {
  * A field without a reserved key and without a dictionary index of 128 bits in any of its lines never gets 5 or 6. */
 struct juzontefa_trip juzontefa_round_trip(const uint8_t *sheet, size_t sheet_len, uint8_t *exported, size_t exported_len, uint8_t *imported,
                                            size_t imported_len, uint8_t *plain, size_t plain_len, uint8_t *again, size_t again_len);
+
+/* The same with both exports and the import under the order that the caller says, `big` as above. With 0 it is `juzontefa_round_trip`. That the fields
+ * named above never get 5 or 6 holds under each order. */
+struct juzontefa_trip juzontefa_round_trip_with_order(const uint8_t *sheet, size_t sheet_len, uint64_t big, uint8_t *exported, size_t exported_len,
+                                                      uint8_t *imported, size_t imported_len, uint8_t *plain, size_t plain_len, uint8_t *again,
+                                                      size_t again_len);
 
 #ifdef __cplusplus
 }

@@ -9,7 +9,7 @@ use std::path::Path;
 use std::time::Duration;
 
 use crate::answer::Answer;
-use crate::call::{Call, Input, Request};
+use crate::call::{Call, Input, Order, Request};
 use crate::compare;
 use crate::failure::Failure;
 use crate::generator::{block, hex, hex_text, join_lines, Kind, Line};
@@ -74,8 +74,8 @@ fn list_levels(levels: usize) -> Vec<Line> {
 }
 
 fn dictionary() -> Vec<Line> {
-    let metadata =
-        block(&[(b"ARROW:extension:name".to_vec(), b"sweep.trace".to_vec()), (b"unit".to_vec(), b"dB".to_vec())]);
+    let pairs = [(b"ARROW:extension:name".to_vec(), b"sweep.trace".to_vec()), (b"unit".to_vec(), b"dB".to_vec())];
+    let metadata = block(&pairs, Order::Little);
     vec![line("i", b"trace", "3", Some(&metadata), 0, 1), line("u", b"", "2", None, 0, 0)]
 }
 
@@ -94,7 +94,7 @@ fn ids(size: usize) -> String {
 /// Pairs in a scattered order, with keys and values of so many bytes.
 fn pairs(size: usize, key: usize, value: usize) -> Vec<Line> {
     let pairs: Vec<(Vec<u8>, Vec<u8>)> = (0..size).map(|at| (text(at * 1_009 % size, key), text(at, value))).collect();
-    vec![line("g", b"peak", "2", Some(&block(&pairs)), 0, 0)]
+    vec![line("g", b"peak", "2", Some(&block(&pairs, Order::Little)), 0, 0)]
 }
 
 /// A text of so many bytes, different for each number below 64 squared.
@@ -133,11 +133,10 @@ struct Row {
 /// Prints a table of all workloads for a call, or for all that can be timed. Each is measured in so many rounds; a round
 /// goes through all of them, so that a busy time of the machine falls on all alike.
 pub fn bench(rust: &Rust, rounds: u64, only: Option<Call>, out: &mut dyn Write) -> Result<(), Failure> {
-    let can_be = |call: Call| call.is_in_rust() || (library::has(call) && library::has(Call::Export));
-    if let Some(call) = only.filter(|call| !can_be(*call)) {
+    if let Some(call) = only.filter(|call| !can_be_timed(*call)) {
         return Err(Failure::Wrong(format!("no library with {} and export is linked", call.name())));
     }
-    let calls = CALLS.into_iter().filter(|call| only.is_none_or(|only| only == *call) && can_be(*call));
+    let calls = CALLS.into_iter().filter(|call| only.is_none_or(|only| only == *call) && can_be_timed(*call));
     let mut rows = Vec::new();
     for call in calls {
         for workload in &WORKLOADS {
@@ -162,7 +161,7 @@ pub fn bench(rust: &Rust, rounds: u64, only: Option<Call>, out: &mut dyn Write) 
     if rows.iter().any(|row| row.whole.request.call == Call::GetChild) {
         writeln!(out, "get_child: the last child of the first line")?;
     }
-    for call in CALLS.into_iter().filter(|call| !call.is_in_rust()) {
+    for call in CALLS.into_iter().filter(|call| !is_in_rust(*call)) {
         if rows.iter().any(|row| row.whole.request.call == call) {
             writeln!(out, "{}: not in the Rust; ns/call, MB/s and growth are of our own export of the sheet", call.name())?;
         }
@@ -172,6 +171,17 @@ pub fn bench(rust: &Rust, rounds: u64, only: Option<Call>, out: &mut dyn Write) 
         writeln!(out, "greatest ratio: {}", ratios.join(", "))?;
     }
     Ok(())
+}
+
+/// Whether the Rust has the call, whose metadata is little-endian here.
+fn is_in_rust(call: Call) -> bool {
+    Request::new(call, 0).is_in_rust()
+}
+
+/// What the Rust has not needs our library's, and our export to stand beside it.
+fn can_be_timed(call: Call) -> bool {
+    let is_ours = |call: Call| library::has(Request::new(call, 0));
+    is_in_rust(call) || (is_ours(call) && is_ours(Call::Export))
 }
 
 /// The greatest ratio of our time to what stands beside it, over a call's workloads; nothing where our library is not linked.
@@ -226,7 +236,7 @@ fn trial(rust: &Rust, workload: &Workload, size: usize, call: Call) -> Result<Tr
     let sheet = sheet(rust, workload, size, call)?;
     let request = request(call, &sheet);
     let answer = answer_length(rust, request, &sheet);
-    let beside = match call.is_in_rust() {
+    let beside = match request.is_in_rust() {
         true => answer,
         false => answer_length(rust, Request::new(Call::Export, 0), &sheet),
     };
@@ -245,7 +255,7 @@ fn measure(rust: &Rust, trial: &mut Trial) {
     // Where it is refused, the buffer has as many bytes as the sheet: no answer of a mapping is longer.
     let room = trial.answer.unwrap_or(sheet.len());
     let mut out = Vec::with_capacity(room);
-    let beside = match request.call.is_in_rust() {
+    let beside = match request.is_in_rust() {
         false => of_ours(Request::new(Call::Export, 0), sheet, trial.beside),
         true => nanoseconds(|| {
             out.clear();
@@ -255,7 +265,7 @@ fn measure(rust: &Rust, trial: &mut Trial) {
         }),
     };
     trial.timed.beside = trial.timed.beside.min(beside);
-    if library::has(request.call) {
+    if library::has(request) {
         let of_ours = of_ours(request, sheet, room);
         trial.timed.ours = Some(trial.timed.ours.map_or(of_ours, |least| least.min(of_ours)));
     }
@@ -310,7 +320,7 @@ fn columns(whole: &Trial, quarter: Option<&Trial>) -> String {
     };
     let Timed { beside, ours } = whole.timed;
     let grows = growth(beside, quarter.map(|quarter| quarter.timed.beside));
-    let what = if whole.request.call.is_in_rust() { "the Rust" } else { "our export" };
+    let what = if whole.request.is_in_rust() { "the Rust" } else { "our export" };
     let ours = match ours {
         None => "-".to_string(),
         Some(ours) => {

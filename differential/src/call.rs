@@ -1,5 +1,7 @@
 //! The calls, their names and codes, and what a call is asked with.
 
+use std::fmt;
+
 /// In the order of their codes in the recorded list.
 #[derive(Debug, Clone, Copy, PartialEq, Eq)]
 pub enum Call {
@@ -75,6 +77,11 @@ impl Call {
         matches!(self, Call::GetChild | Call::FromIntegerType | Call::FromPrimitiveType)
     }
 
+    /// Whether the call reads or writes metadata blocks, and so takes their byte order.
+    pub fn takes_order(self) -> bool {
+        matches!(self, Call::Import | Call::Export)
+    }
+
     /// Whether the call writes a sheet or a page; the others answer numbers and have no buffer.
     pub fn writes(self) -> bool {
         !matches!(self, Call::ToPhysicalType | Call::IsNested | Call::ContainsDictionary)
@@ -85,14 +92,42 @@ impl Call {
         let lengthens = matches!(self, Call::Import | Call::Export | Call::Plain | Call::Page);
         self.writes() && self.input() != Input::Place && !lengthens
     }
+}
 
-    /// Plain form and the page are not in the Rust: the plain reading answers them.
-    pub fn is_in_rust(self) -> bool {
-        !matches!(self, Call::Plain | Call::Page)
+/// The byte order of the count and the lengths in a metadata block (document 02, #104).
+#[derive(Debug, Clone, Copy, PartialEq, Eq)]
+pub enum Order {
+    Little,
+    Big,
+}
+
+pub const ORDERS: [Order; 2] = [Order::Little, Order::Big];
+
+/// Some of the numbers that mean big-endian: every number but 0 does.
+pub const BIG_NUMBERS: [u64; 4] = [1, 2, 255, u64::MAX];
+
+impl Order {
+    pub fn of_number(number: u64) -> Order {
+        match number {
+            0 => Order::Little,
+            _ => Order::Big,
+        }
+    }
+
+    /// The number that the recorded list has for it.
+    pub fn number(self) -> u64 {
+        self as u64
+    }
+
+    pub fn name(self) -> &'static str {
+        match self {
+            Order::Little => "little-endian",
+            Order::Big => "big-endian",
+        }
     }
 }
 
-/// A call with its index or place, 0 where it takes none.
+/// A call with its index or place, or the number of its byte order; 0 where it takes none of these.
 #[derive(Debug, Clone, Copy, PartialEq, Eq)]
 pub struct Request {
     pub call: Call,
@@ -102,5 +137,38 @@ pub struct Request {
 impl Request {
     pub fn new(call: Call, argument: u64) -> Request {
         Request { call, argument }
+    }
+
+    /// The call under the order of this number, where it takes one.
+    pub fn under(call: Call, order: u64) -> Request {
+        Request::new(call, if call.takes_order() { order } else { 0 })
+    }
+
+    /// Little-endian for a call that takes no order.
+    pub fn order(self) -> Order {
+        match self.call.takes_order() {
+            true => Order::of_number(self.argument),
+            false => Order::Little,
+        }
+    }
+
+    pub fn is_big(self) -> bool {
+        self.order() == Order::Big
+    }
+
+    /// Plain form and the page are not in the Rust, and it takes the machine's order, which is little-endian: what it has not is
+    /// answered by the plain reading.
+    pub fn is_in_rust(self) -> bool {
+        !matches!(self.call, Call::Plain | Call::Page) && !self.is_big()
+    }
+}
+
+/// The call's name, with the order if that is big-endian.
+impl fmt::Display for Request {
+    fn fmt(&self, f: &mut fmt::Formatter<'_>) -> fmt::Result {
+        match self.is_big() {
+            true => f.pad(&format!("{}, {}", self.call.name(), Order::Big.name())),
+            false => f.pad(self.call.name()),
+        }
     }
 }

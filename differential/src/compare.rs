@@ -1,17 +1,18 @@
-//! The Rust held against the plain reading, and against our library where one is linked, over generated sheets.
+//! The Rust held against the plain reading, and against our library where one is linked, over generated sheets. What the Rust has
+//! not, big-endian metadata among it, is the plain reading held against our library.
 
 use std::collections::BTreeMap;
 use std::fmt;
 use std::io::Write;
 
 use crate::answer::{Answer, Answered, Outcome};
-use crate::call::{Call, Input, Request, CALLS};
+use crate::call::{Call, Input, Order, Request, BIG_NUMBERS, CALLS, ORDERS};
 use crate::failure::Failure;
 use crate::generator::{limits, Generator, Kind, Random, Sheet};
 use crate::library;
 use crate::model::Model;
 use crate::oracle::Rust;
-use crate::trip;
+use crate::trip::{self, Trip};
 
 /// What a call is asked: the request, its sheet, and the bytes of the buffer that is lent.
 pub struct Case<'a> {
@@ -32,7 +33,7 @@ pub fn lent(room: usize) -> Vec<u8> {
     (0..room).map(|at| 1 + (at % 255) as u8).collect()
 }
 
-/// The requests that a sheet of this kind can be put to.
+/// The requests that a sheet of this kind can be put to, under both orders where the call takes one.
 pub fn requests(random: &mut Random, kind: Kind) -> Vec<Request> {
     let input = match kind {
         Kind::Schema => Input::SchemaSheet,
@@ -41,12 +42,21 @@ pub fn requests(random: &mut Random, kind: Kind) -> Vec<Request> {
     let index = random.pick(&[0, 0, 0, 1, 1, 2, 3, 4, 1 << 32, i64::MAX as u64, u64::MAX]);
     let place = if random.chance(1, 8) { index } else { random.below(20) as u64 };
     let calls = CALLS.iter().map(|(call, _)| *call).filter(|call| call.input() == input || call.input() == Input::Place);
-    let argument = |call: Call| match (call.input(), call) {
-        (Input::Place, _) => place,
-        (_, Call::GetChild) => index,
-        _ => 0,
+    let arguments = |call: Call| match (call.input(), call) {
+        (Input::Place, _) => vec![place],
+        (_, Call::GetChild) => vec![index],
+        _ if call.takes_order() => ORDERS.map(Order::number).to_vec(),
+        _ => vec![0],
     };
-    calls.map(|call| Request::new(call, argument(call))).collect()
+    calls.flat_map(|call| arguments(call).into_iter().map(move |argument| Request::new(call, argument))).collect()
+}
+
+/// A number that means the order.
+fn any_number(random: &mut Random, order: Order) -> u64 {
+    match order {
+        Order::Little => order.number(),
+        Order::Big => random.pick(&BIG_NUMBERS),
+    }
 }
 
 /// A buffer for the answer: exact, one short, empty, with bytes to spare, or any.
@@ -65,40 +75,52 @@ pub fn room(random: &mut Random, answered: &Answered) -> usize {
     }
 }
 
-/// How often each call gave each number, and a round trip each answer with its number.
+/// How often each call gave each number, and a round trip each answer with its number, under each order.
 #[derive(Default)]
 pub struct Counts {
-    numbers: [[u64; 17]; CALLS.len()],
-    trips: BTreeMap<(u64, u64), u64>,
+    numbers: [[[u64; 17]; ORDERS.len()]; CALLS.len()],
+    trips: [BTreeMap<(u64, u64), u64>; ORDERS.len()],
 }
 
 impl Counts {
     pub fn add(&mut self, request: Request, number: u8) {
-        self.numbers[request.call as usize][number as usize] += 1;
+        self.numbers[request.call as usize][request.order() as usize][number as usize] += 1;
+    }
+
+    fn add_trip(&mut self, order: Order, trip: &Trip) {
+        *self.trips[order as usize].entry((trip.answer, trip.number)).or_default() += 1;
     }
 
     fn total(&self) -> u64 {
-        self.numbers.iter().flatten().chain(self.trips.values()).sum()
+        let trips = self.trips.iter().flat_map(BTreeMap::values);
+        self.numbers.iter().flatten().flatten().chain(trips).sum()
     }
 }
 
 impl fmt::Display for Counts {
     fn fmt(&self, f: &mut fmt::Formatter<'_>) -> fmt::Result {
-        for (call, name) in CALLS {
-            let numbers = self.numbers[call as usize].iter().enumerate().filter(|(_, count)| **count > 0);
-            let numbers: Vec<String> = numbers.map(|(number, count)| format!("{number}: {count}")).collect();
-            if !numbers.is_empty() {
-                writeln!(f, "  {name:<24} {}", numbers.join(", "))?;
-            }
+        for (call, order) in CALLS.iter().flat_map(|(call, _)| ORDERS.map(|order| (*call, order))) {
+            let numbers = self.numbers[call as usize][order as usize].iter().enumerate();
+            let numbers = numbers.filter(|(_, count)| **count > 0).map(|(number, count)| format!("{number}: {count}"));
+            write_row(f, Request::under(call, order.number()), numbers)?;
         }
-        let trips = self.trips.iter().map(|((answer, number), count)| match number {
-            0 => format!("{answer}: {count}"),
-            _ => format!("{answer} by {number}: {count}"),
-        });
-        if !self.trips.is_empty() {
-            writeln!(f, "  {:<24} {}", "round_trip", trips.collect::<Vec<_>>().join(", "))?;
+        for (name, trips) in ["round_trip", "round_trip, big-endian"].into_iter().zip(&self.trips) {
+            let answers = trips.iter().map(|((answer, number), count)| match number {
+                0 => format!("{answer}: {count}"),
+                _ => format!("{answer} by {number}: {count}"),
+            });
+            write_row(f, name, answers)?;
         }
         Ok(())
+    }
+}
+
+/// A row of counts, if there are any.
+fn write_row(f: &mut fmt::Formatter, name: impl fmt::Display, counts: impl Iterator<Item = String>) -> fmt::Result {
+    let counts: Vec<String> = counts.collect();
+    match counts.is_empty() {
+        true => Ok(()),
+        false => writeln!(f, "  {name:<24} {}", counts.join(", ")),
     }
 }
 
@@ -149,19 +171,23 @@ pub fn compare(rust: &Rust, sheets: u64, seed: u64, scope: Scope, out: &mut dyn 
 }
 
 impl Comparison<'_> {
-    /// Plain form and the page are not in the Rust, so only our library can be held against the plain reading there.
-    fn wants(&self, call: Call) -> bool {
-        (call.is_in_rust() || library::has(call)) && (self.scope == Scope::All || self.scope == Scope::Only(call))
+    /// What is not in the Rust can only be our library held against the plain reading.
+    fn wants(&self, request: Request) -> bool {
+        let can_be = request.is_in_rust() || library::has(request);
+        can_be && (self.scope == Scope::All || self.scope == Scope::Only(request.call))
     }
 
-    fn wants_round_trips(&self) -> bool {
-        library::has_round_trip() && matches!(self.scope, Scope::All | Scope::RoundTrips)
+    fn wants_round_trips(&self, order: Order) -> bool {
+        library::has_round_trip(order) && matches!(self.scope, Scope::All | Scope::RoundTrips)
     }
 
     fn compare_sheet(&mut self, random: &mut Random, sheet: &Sheet) -> Result<(), String> {
-        for request in requests(random, sheet.kind) {
-            if !self.wants(request.call) {
+        for mut request in requests(random, sheet.kind) {
+            if !self.wants(request) {
                 continue;
+            }
+            if request.is_big() {
+                request.argument = any_number(random, Order::Big);
             }
             let answered = answer(self.rust, &self.model, request, &sheet.bytes);
             let case = Case { request, sheet: &sheet.bytes, room: room(random, &answered) };
@@ -171,23 +197,26 @@ impl Comparison<'_> {
                 self.compare_sheet(random, &Sheet { kind: Kind::Field, bytes: field })?;
             }
         }
-        if sheet.kind == Kind::Field && self.wants_round_trips() {
-            self.compare_round_trip(random, &sheet.bytes)?;
+        for order in ORDERS {
+            if sheet.kind == Kind::Field && self.wants_round_trips(order) {
+                self.compare_round_trip(random, &sheet.bytes, order)?;
+            }
         }
         Ok(())
     }
 
     /// Half of them have room in all four buffers.
-    fn compare_round_trip(&mut self, random: &mut Random, sheet: &[u8]) -> Result<(), String> {
-        let steps = trip::steps(self.rust, &self.model, sheet);
+    fn compare_round_trip(&mut self, random: &mut Random, sheet: &[u8], order: Order) -> Result<(), String> {
+        let number = any_number(random, order);
+        let steps = trip::steps(self.rust, &self.model, sheet, number);
         let any = random.below(8);
         let rooms = [0, 1, 2, 3].map(|step| match steps.get(step) {
             Some(Ok(Answer::Sheet(sheet))) if step != any => sheet.len() + random.below(50),
             Some(answered) => room(random, answered),
             None => random.below(50),
         });
-        let trip = trip::compared(self.rust, &self.model, sheet, &rooms.map(lent))?;
-        *self.counts.trips.entry((trip.answer, trip.number)).or_default() += 1;
+        let trip = trip::compared(self.rust, &self.model, sheet, &rooms.map(lent), number)?;
+        self.counts.add_trip(order, &trip);
         Ok(())
     }
 
@@ -204,7 +233,7 @@ impl Comparison<'_> {
     /// All places of both enumerations, and some past them.
     fn compare_conversions(&mut self) -> Result<(), String> {
         for call in [Call::FromIntegerType, Call::FromPrimitiveType] {
-            if !self.wants(call) {
+            if !self.wants(Request::new(call, 0)) {
                 continue;
             }
             for place in (0..40).chain([1 << 32, u64::MAX]) {
@@ -279,7 +308,7 @@ fn compare_kind_names(rust: &Rust, model: &Model) -> Result<(), String> {
 
 /// The answer that the others are held against: the Rust's, or the plain reading's for what the Rust has not.
 pub fn answer(rust: &Rust, model: &Model, request: Request, sheet: &[u8]) -> Answered {
-    match request.call.is_in_rust() {
+    match request.is_in_rust() {
         true => rust.answer(request, sheet),
         false => model.answer(request, sheet),
     }
@@ -291,9 +320,15 @@ pub enum Other {
     PlainReading,
     /// Where one is linked.
     Library,
+    /// The same for little-endian metadata, by the function that takes the order.
+    LibraryWithOrder,
 }
 
-pub const OTHERS: [(Other, &str); 2] = [(Other::PlainReading, "the plain reading"), (Other::Library, "the library")];
+pub const OTHERS: [(Other, &str); 3] = [
+    (Other::PlainReading, "the plain reading"),
+    (Other::Library, "the library"),
+    (Other::LibraryWithOrder, "the library asked with order 0"),
+];
 
 impl Other {
     /// None where it does not have the call.
@@ -301,6 +336,7 @@ impl Other {
         match self {
             Other::PlainReading => Some(model.outcome(case.request, case.sheet, case.lent())),
             Other::Library => library::outcome(case.request, case.sheet, &case.lent()),
+            Other::LibraryWithOrder => library::outcome_with_order(case.request, case.sheet, &case.lent()),
         }
     }
 }

@@ -1,12 +1,14 @@
 //! Demand 3 run on the Rust, with plain form by the plain reading: a field without reserved keys and without dictionary
 //! indices of 128 bits that can be exported comes back from its export in plain form; the plain form is exported as the
-//! field is; and two such fields have equal exports exactly if their plain forms are equal. Where our library has the
-//! three calls, it is run on those alone too, and on its round trip.
+//! field is; and two such fields have equal exports exactly if their plain forms are equal. With big-endian metadata, which
+//! the Rust has not, it is run on the plain reading alone. Where our library has the three calls, it is run on those alone
+//! too, and on its round trip. What an export gives under the order that it was not made in is counted, and never a failure.
 
+use std::fmt;
 use std::io::Write;
 
 use crate::answer::{Answer, Answered};
-use crate::call::{Call, Request};
+use crate::call::{Call, Order, Request, ORDERS};
 use crate::compare::{answer, lent};
 use crate::failure::Failure;
 use crate::generator::Generator;
@@ -18,46 +20,159 @@ use crate::trip;
 /// Sheets handed in have at most so many bytes.
 const LONGEST_SHEET: usize = 65_535;
 
-/// Runs it over at least `fields` fields that the demand speaks of.
+/// Runs it over at least `fields` fields that the demand speaks of, under each order.
 pub fn demand3(rust: &Rust, fields: u64, seed: u64, out: &mut dyn Write) -> Result<(), Failure> {
     let model = Model::new();
-    let of_rust = |call, sheet: &[u8]| answer(rust, &model, Request::new(call, 0), sheet);
+    let mut runs = ORDERS.map(|order| Run { rust, model: &model, order, counted: Counted::default() });
     let mut generator = Generator::short(seed);
-    let (mut tried, mut returned, mut alike, mut unlike, mut trips) = (0u64, 0u64, 0u64, 0u64, 0u64);
-    while returned < fields {
+    let mut tried = 0;
+    while runs.iter().any(|run| run.counted.returned < fields) {
         let (first, second) = generator.two_fields();
         let two = [&first[..], &second[..]];
         tried += 2;
-        let both = two_come_back(&model, two, &of_rust).map_err(Failure::Found)?;
-        if library::has_demand3() {
-            ours_come_back(&model, two, &both).map_err(Failure::Found)?;
-        }
-        for (field, back) in two.iter().zip(&both) {
-            if let (Some(back), true) = (back, library::has_round_trip()) {
-                trips += round_trips(rust, &model, field, back).map_err(Failure::Found)? as u64;
-            }
-        }
-        returned += both.iter().flatten().count() as u64;
-        if let [Some((x, _)), Some((y, _))] = both {
-            alike += (x == y) as u64;
-            unlike += (x != y) as u64;
+        let [little, big] = &mut runs;
+        let come_back = little.try_two(two).map_err(Failure::Found)?;
+        let come_back_big = big.try_two(two).map_err(Failure::Found)?;
+        for (field, (little, big)) in two.iter().zip(come_back.iter().zip(&come_back_big)) {
+            same_but_order(field, little, big).map_err(Failure::Found)?;
         }
     }
+    for run in &runs {
+        run.tell(tried, seed, out)?;
+    }
+    let [little, big] = runs.map(|run| run.counted);
     writeln!(
         out,
-        "{returned} fields of {tried} from seed {seed} came back from the Rust in plain form, whose export is theirs;"
+        "{} fields came back little-endian and {} big-endian; read under the other order, of which nothing is promised, \
+         the little-endian exports gave {}, the big-endian ones {}",
+        little.returned, big.returned, little.crossed, big.crossed
     )?;
-    writeln!(out, "{alike} pairs with equal exports and {unlike} with different ones, their plain forms likewise")?;
-    if library::has_demand3() {
+    Ok(())
+}
+
+/// The demand under an order.
+struct Run<'a> {
+    rust: &'a Rust,
+    model: &'a Model,
+    order: Order,
+    counted: Counted,
+}
+
+#[derive(Default)]
+struct Counted {
+    /// Fields that came back.
+    returned: u64,
+    /// Pairs of fields with equal exports, and with different ones.
+    alike: u64,
+    unlike: u64,
+    /// Round trips of our library.
+    trips: u64,
+    crossed: Crossed,
+}
+
+/// What exports give under the order that they were not made in: the plain form, another field, or a refusal.
+#[derive(Default)]
+struct Crossed {
+    plain: u64,
+    other: u64,
+    refused: u64,
+}
+
+impl Run<'_> {
+    fn answer(&self, order: Order, call: Call, sheet: &[u8]) -> Answered {
+        answer(self.rust, self.model, Request::under(call, order.number()), sheet)
+    }
+
+    fn try_two(&mut self, two: [&[u8]; 2]) -> Result<[Option<Returned>; 2], String> {
+        let order = self.order;
+        let both = two_come_back(self.model, two, &|call, sheet| self.answer(order, call, sheet))?;
+        if library::has_demand3(order) {
+            ours_come_back(self.model, two, &both, order)?;
+        }
+        for (field, back) in two.iter().zip(&both).filter_map(|(field, back)| Some((field, back.as_ref()?))) {
+            self.counted.returned += 1;
+            self.cross(back);
+            if library::has_round_trip(order) {
+                self.counted.trips += self.round_trips(field, back)? as u64;
+            }
+        }
+        if let [Some((x, _)), Some((y, _))] = &both {
+            self.counted.alike += (x == y) as u64;
+            self.counted.unlike += (x != y) as u64;
+        }
+        Ok(both)
+    }
+
+    /// Reads an export under the order that it was not made in.
+    fn cross(&mut self, (exported, plain): &Returned) {
+        let other = match self.order {
+            Order::Little => Order::Big,
+            Order::Big => Order::Little,
+        };
+        let imported = self.answer(other, Call::Import, exported);
+        let Crossed { plain: same, other, refused } = &mut self.counted.crossed;
+        match imported {
+            Ok(Answer::Sheet(field)) if field == *plain => *same += 1,
+            Ok(_) => *other += 1,
+            Err(_) => *refused += 1,
+        }
+    }
+
+    /// Whether the field's round trip can go all the way, which then answers that all came back the same.
+    fn round_trips(&self, field: &[u8], (exported, plain): &Returned) -> Result<bool, String> {
+        let rooms = [exported.len() + 3, plain.len(), plain.len() + 5, exported.len()];
+        let trip = trip::compared(self.rust, self.model, field, &rooms.map(lent), self.order.number())?;
+        let handed_in = exported.len() <= LONGEST_SHEET && plain.len() <= LONGEST_SHEET;
+        match handed_in == (trip.answer == trip::ALL_SAME) {
+            true => Ok(handed_in),
+            false => Err(format!("{trip} is the round trip of {}", field.escape_ascii())),
+        }
+    }
+
+    fn tell(&self, tried: u64, seed: u64, out: &mut dyn Write) -> Result<(), Failure> {
+        let Counted { returned, alike, unlike, trips, .. } = self.counted;
+        let order = self.order.name();
+        let by = match self.order {
+            Order::Little => "the Rust",
+            Order::Big => "the plain reading",
+        };
         writeln!(
             out,
-            "the library: all of this with the same exports and plain forms, by its own export, import and plain form"
+            "{order}: {returned} fields of {tried} from seed {seed} came back from {by} in plain form, whose export is theirs;"
         )?;
+        writeln!(
+            out,
+            "{order}: {alike} pairs with equal exports and {unlike} with different ones, their plain forms likewise"
+        )?;
+        if library::has_demand3(self.order) {
+            writeln!(
+                out,
+                "{order}, the library: all of this with the same exports and plain forms, by its own export, import and plain form"
+            )?;
+        }
+        if library::has_round_trip(self.order) {
+            writeln!(
+                out,
+                "{order}, the library: {trips} round trips of these fields answer 0, the four sheets in their buffers"
+            )?;
+        }
+        Ok(())
     }
-    if library::has_round_trip() {
-        writeln!(out, "the library: {trips} round trips of these fields answer 0, the four sheets in their buffers")?;
+}
+
+impl fmt::Display for Crossed {
+    fn fmt(&self, f: &mut fmt::Formatter<'_>) -> fmt::Result {
+        write!(f, "{} plain forms, {} other fields and {} refusals", self.plain, self.other, self.refused)
     }
-    Ok(())
+}
+
+/// Under both orders a field comes back or not, with the same plain form and with exports of one length.
+fn same_but_order(field: &[u8], little: &Option<Returned>, big: &Option<Returned>) -> Result<(), String> {
+    let told = |back: &Option<Returned>| back.as_ref().map(|(exported, plain)| (exported.len(), plain.clone()));
+    match told(little) == told(big) {
+        true => Ok(()),
+        false => Err(format!("the orders differ in more than the blocks: {}", field.escape_ascii())),
+    }
 }
 
 /// A field's export and its plain form.
@@ -80,22 +195,12 @@ fn two_come_back(model: &Model, fields: [&[u8]; 2], answers: Answers) -> Result<
 }
 
 /// Both fields come back from our library, with the same exports and plain forms.
-fn ours_come_back(model: &Model, fields: [&[u8]; 2], expected: &[Option<Returned>; 2]) -> Result<(), String> {
-    let ours = two_come_back(model, fields, &library::answer).map_err(|what| format!("by the library: {what}"))?;
+fn ours_come_back(model: &Model, fields: [&[u8]; 2], expected: &[Option<Returned>; 2], order: Order) -> Result<(), String> {
+    let answers = |call, sheet: &[u8]| library::answer(Request::under(call, order.number()), sheet);
+    let ours = two_come_back(model, fields, &answers).map_err(|what| format!("by the library: {what}"))?;
     match fields.iter().zip(ours.iter().zip(expected)).find(|(_, (ours, expected))| ours != expected) {
         Some((field, _)) => Err(format!("the library exports or makes plain otherwise: {}", field.escape_ascii())),
         None => Ok(()),
-    }
-}
-
-/// Whether the field's round trip can go all the way, which then answers that all came back the same.
-fn round_trips(rust: &Rust, model: &Model, field: &[u8], (exported, plain): &Returned) -> Result<bool, String> {
-    let rooms = [exported.len() + 3, plain.len(), plain.len() + 5, exported.len()];
-    let trip = trip::compared(rust, model, field, &rooms.map(lent))?;
-    let handed_in = exported.len() <= LONGEST_SHEET && plain.len() <= LONGEST_SHEET;
-    match handed_in == (trip.answer == trip::ALL_SAME) {
-        true => Ok(handed_in),
-        false => Err(format!("{trip} is the round trip of {}", field.escape_ascii())),
     }
 }
 

@@ -1,4 +1,5 @@
-//! The driver: the Rust as oracle, a plain reading of document 01 and of the page beside it, and what is run with both.
+//! The driver: the Rust as oracle, a plain reading of document 01, of the page and of big-endian metadata beside it, and what is run
+//! with both.
 //!
 //! Status: 0 done; 1 the answer is a refusal, or something was found to differ; 2 wrong arguments or unreadable input.
 
@@ -23,13 +24,13 @@ use std::io::{Read, Write};
 use std::process::ExitCode;
 
 use answer::{Answer, Answered};
-use call::{Call, Input, Request};
+use call::{Call, Input, Request, ORDERS};
 use compare::Scope;
 use failure::Failure;
 use model::Model;
 use oracle::Rust;
 
-const USAGE: &str = "usage: juzontefa-differential answer CALL [INDEX] | model CALL [INDEX] | compare N [SEED [CALL]] | \
+const USAGE: &str = "usage: juzontefa-differential answer CALL [NUMBER] | model CALL [NUMBER] | compare N [SEED [CALL]] | \
     demand3 N [SEED] | mutants [N [SEED]] | record SEED | check FILE | bench [ROUNDS [CALL]] | workloads FOLDER CALL";
 
 /// Deep sheets are read by recursion in the plain reading, and dropped by recursion in the Rust.
@@ -60,9 +61,9 @@ fn run(arguments: &[String]) -> Result<(), Failure> {
     let words: Vec<&str> = arguments.iter().map(String::as_str).collect();
     let out = &mut std::io::stdout();
     match words[..] {
-        ["answer", ref rest @ ..] => answer_call(rest, out, |request, sheet| match request.call.is_in_rust() {
+        ["answer", ref rest @ ..] => answer_call(rest, out, |request, sheet| match request.is_in_rust() {
             true => Ok(Rust::new().own_answer(request, sheet)),
-            false => Err(Failure::Wrong(format!("{0} is not in the Rust: ask `model {0}`", request.call.name()))),
+            false => Err(Failure::Wrong(format!("{request} is not in the Rust: ask `model {}`", rest.join(" ")))),
         }),
         ["model", ref rest @ ..] => answer_call(rest, out, |request, sheet| Ok(Model::new().answer(request, sheet))),
         ["compare", sheets, seed, call] => {
@@ -122,15 +123,15 @@ fn answer_call(
 fn request_of(words: &[&str]) -> Result<Request, Failure> {
     let (name, argument) = match words {
         [name] => (name, None),
-        [name, argument] => (name, Some(number("INDEX", argument)?)),
+        [name, argument] => (name, Some(number("NUMBER", argument)?)),
         _ => return Err(Failure::Wrong(USAGE.to_string())),
     };
     let call = call_of(name)?;
-    match (call.takes_argument(), argument) {
-        (true, Some(argument)) => Ok(Request::new(call, argument)),
-        (true, None) => Err(Failure::Wrong(format!("{name} needs an index or a place"))),
-        (false, None) => Ok(Request::new(call, 0)),
-        (false, Some(_)) => Err(Failure::Wrong(format!("{name} takes no index"))),
+    match argument {
+        Some(argument) if call.takes_argument() || call.takes_order() => Ok(Request::new(call, argument)),
+        Some(_) => Err(Failure::Wrong(format!("{name} takes no number"))),
+        None if call.takes_argument() => Err(Failure::Wrong(format!("{name} needs an index or a place"))),
+        None => Ok(Request::new(call, 0)),
     }
 }
 
@@ -141,10 +142,10 @@ fn call_of(name: &str) -> Result<Call, Failure> {
 /// What `compare` is asked to compare, by its last word.
 fn scope_of(name: &str) -> Result<Scope, Failure> {
     let (scope, can_be) = match name {
-        "round_trip" => (Scope::RoundTrips, library::has_round_trip()),
+        "round_trip" => (Scope::RoundTrips, ORDERS.into_iter().any(library::has_round_trip)),
         _ => {
-            let call = call_of(name)?;
-            (Scope::Only(call), call.is_in_rust() || library::has(call))
+            let request = Request::new(call_of(name)?, 0);
+            (Scope::Only(request.call), request.is_in_rust() || library::has(request))
         }
     };
     match can_be {

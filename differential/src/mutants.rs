@@ -1,9 +1,10 @@
-//! Whether the generator tells each wrong reading of document 01 from the Rust, and each of the page from the right one.
+//! Whether the generator tells each wrong reading of document 01 from the Rust, and each of what the Rust has not, the page and
+//! big-endian metadata, from the right one.
 
 use std::io::Write;
 
 use crate::answer::{Answer, Outcome};
-use crate::call::{Call, Request};
+use crate::call::{Call, Order, Request};
 use crate::compare::{requests, room, Case};
 use crate::demand3::comes_back;
 use crate::failure::Failure;
@@ -15,7 +16,7 @@ use crate::oracle::Rust;
 struct Mutant {
     wrong: Wrong,
     what: &'static str,
-    caught: Option<(u64, &'static str)>,
+    caught: Option<(u64, String)>,
 }
 
 /// Generates sheets until each wrong reading is caught, at most `limit` of them; prints after how many sheets and by what.
@@ -28,6 +29,7 @@ pub fn mutants(rust: &Rust, limit: u64, seed: u64, out: &mut dyn Write) -> Resul
         let sheet = generator.sheet();
         done += 1;
         try_calls(rust, &mut generator, &sheet, done, &mut mutants);
+        try_big(&sheet, done, &mut mutants);
         if sheet.kind == Kind::Field {
             try_plain(rust, &sheet, done, &mut mutants).map_err(Failure::Found)?;
             try_page(&sheet, done, &mut mutants);
@@ -45,7 +47,7 @@ pub fn mutants(rust: &Rust, limit: u64, seed: u64, out: &mut dyn Write) -> Resul
 
 fn try_calls(rust: &Rust, generator: &mut Generator, sheet: &Sheet, done: u64, mutants: &mut [Mutant]) {
     for request in requests(&mut generator.random, sheet.kind) {
-        if !request.call.is_in_rust() {
+        if !request.is_in_rust() {
             continue;
         }
         let answered = rust.answer(request, &sheet.bytes);
@@ -53,8 +55,23 @@ fn try_calls(rust: &Rust, generator: &mut Generator, sheet: &Sheet, done: u64, m
         let outcome = Outcome::of(&answered, case.lent());
         for mutant in mutants.iter_mut().filter(|mutant| mutant.caught.is_none()) {
             if Model::wrongly(mutant.wrong).outcome(request, case.sheet, case.lent()) != outcome {
-                mutant.caught = Some((done, request.call.name()));
+                mutant.caught = Some((done, request.to_string()));
             }
+        }
+    }
+}
+
+/// Big-endian metadata is not in the Rust: its readings, and only these, are told from the right one.
+fn try_big(sheet: &Sheet, done: u64, mutants: &mut [Mutant]) {
+    let call = match sheet.kind {
+        Kind::Schema => Call::Import,
+        Kind::Field => Call::Export,
+    };
+    let request = Request::under(call, Order::Big.number());
+    let right = Model::new().answer(request, &sheet.bytes);
+    for mutant in mutants.iter_mut().filter(|mutant| mutant.caught.is_none() && mutant.wrong.is_of_order()) {
+        if Model::wrongly(mutant.wrong).answer(request, &sheet.bytes) != right {
+            mutant.caught = Some((done, request.to_string()));
         }
     }
 }
@@ -67,7 +84,7 @@ fn try_plain(rust: &Rust, sheet: &Sheet, done: u64, mutants: &mut [Mutant]) -> R
     let returned = Ok(Answer::Sheet(returned));
     for mutant in mutants.iter_mut().filter(|mutant| mutant.caught.is_none()) {
         if Model::wrongly(mutant.wrong).answer(Request::new(Call::Plain, 0), &sheet.bytes) != returned {
-            mutant.caught = Some((done, "demand 3"));
+            mutant.caught = Some((done, "demand 3".to_string()));
         }
     }
     Ok(())
@@ -82,7 +99,7 @@ fn try_page(sheet: &Sheet, done: u64, mutants: &mut [Mutant]) {
     let page = right.page(&field);
     for mutant in mutants.iter_mut().filter(|mutant| mutant.caught.is_none()) {
         if Model::wrongly(mutant.wrong).page(&field) != page {
-            mutant.caught = Some((done, Call::Page.name()));
+            mutant.caught = Some((done, Call::Page.name().to_string()));
         }
     }
 }
@@ -90,8 +107,8 @@ fn try_page(sheet: &Sheet, done: u64, mutants: &mut [Mutant]) {
 fn write_table(mutants: &[Mutant], out: &mut dyn Write) -> Result<(), Failure> {
     writeln!(out, "{:<26} {:>9}  {:<24}  reading", "name", "sheets", "caught by")?;
     for mutant in mutants {
-        let (sheets, by) = match mutant.caught {
-            Some((sheets, by)) => (sheets.to_string(), by),
+        let (sheets, by) = match &mutant.caught {
+            Some((sheets, by)) => (sheets.to_string(), &by[..]),
             None => ("-".to_string(), "not caught"),
         };
         writeln!(out, "{:<26} {sheets:>9}  {by:<24}  {}", format!("{:?}", mutant.wrong), mutant.what)?;

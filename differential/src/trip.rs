@@ -24,15 +24,16 @@ pub struct Trip {
     pub buffers: [Vec<u8>; 4],
 }
 
-/// What the steps answer where there is room, up to the first refusal, by the Rust and, for plain form, the plain reading.
-pub fn steps(rust: &Rust, model: &Model, sheet: &[u8]) -> Vec<Answered> {
+/// What the steps answer where there is room, up to the first refusal, under the order of this number: by the Rust and, for what
+/// it has not, the plain reading.
+pub fn steps(rust: &Rust, model: &Model, sheet: &[u8], order: u64) -> Vec<Answered> {
     let mut steps: Vec<Answered> = Vec::new();
     for (call, reads) in [(Call::Export, None), (Call::Import, Some(0)), (Call::Plain, None), (Call::Export, Some(2))] {
         let handed = match reads.map(|step: usize| &steps[step]) {
             Some(Ok(Answer::Sheet(earlier))) => earlier,
             _ => sheet,
         };
-        let answered = answer(rust, model, Request::new(call, 0), handed);
+        let answered = answer(rust, model, Request::under(call, order), handed);
         let refused = answered.is_err();
         steps.push(answered);
         if refused {
@@ -71,20 +72,26 @@ impl Trip {
     }
 }
 
-/// The round trip, if our library's is the same; else both on the smallest sheet that is found to differ.
-pub fn compared(rust: &Rust, model: &Model, sheet: &[u8], lent: &[Vec<u8>; 4]) -> Result<Trip, String> {
-    let both = |sheet: &[u8]| (Trip::of(&steps(rust, model, sheet), lent), library::round_trip(sheet, lent));
-    let (trip, ours) = both(sheet);
-    if ours.is_none_or(|ours| ours == trip) {
-        return Ok(trip);
+/// The library's round trip of a sheet into buffers, under the order of a number; none where it has none.
+type Asked = fn(&[u8], &[Vec<u8>; 4], u64) -> Option<Trip>;
+
+const LIBRARY: [(Asked, &str); 2] =
+    [(library::round_trip, "the library"), (library::round_trip_with_order, "the library asked with order 0")];
+
+/// The round trip under the order of this number, if our library's is the same; else both on the smallest sheet that is found to
+/// differ.
+pub fn compared(rust: &Rust, model: &Model, sheet: &[u8], lent: &[Vec<u8>; 4], order: u64) -> Result<Trip, String> {
+    let expected = |sheet: &[u8]| Trip::of(&steps(rust, model, sheet, order), lent);
+    let trip = expected(sheet);
+    for (asked, name) in LIBRARY {
+        let Some(ours) = asked(sheet, lent, order).filter(|ours| *ours != trip) else {
+            continue;
+        };
+        let small = smallest(sheet.to_vec(), |sheet| asked(sheet, lent, order) != Some(expected(sheet)));
+        let (trip, ours) = (expected(&small), asked(&small, lent, order).unwrap_or(ours));
+        return Err(format!("round_trip {order} on \"{}\": {trip}, but {name} {ours}", small.escape_ascii()));
     }
-    let sheet = smallest(sheet.to_vec(), |sheet| {
-        let (trip, ours) = both(sheet);
-        ours != Some(trip)
-    });
-    let (trip, ours) = both(&sheet);
-    let ours = ours.map_or(String::new(), |ours| ours.to_string());
-    Err(format!("round_trip on \"{}\": {trip}, but the library {ours}", sheet.escape_ascii()))
+    Ok(trip)
 }
 
 impl fmt::Display for Trip {

@@ -1,5 +1,6 @@
-/* A fuzzer's entry for juzontefa_arrow.c: any bytes as a sheet, and as the recipe of a struct. Memory is exact, so that the address sanitizer sees a read or
- * write past it. `host/fuzz` links it with libFuzzer's main, the sanitizers and the library. */
+/* A fuzzer's entry for juzontefa_arrow.c: any bytes as a sheet, and as the recipe of a struct; but for the last byte, which says the order of the sheet's
+ * metadata. Memory is exact, so that the address sanitizer sees a read or write past it. `host/fuzz` links it with libFuzzer's main, the sanitizers and the
+ * library. */
 #include <stdint.h>
 #include <stdlib.h>
 #include <string.h>
@@ -24,15 +25,15 @@ static void *copy_of(const void *bytes, size_t size)
     return copy;
 }
 
-/* ── a sheet: 1, 2 and 3 as import says; else the struct walked back imports to the same bytes */
+/* ── a sheet: 1, 2 and 3 as import says; else the struct walked back, in either order, imports to the same bytes */
 
-static void as_sheet(const uint8_t *data, size_t size)
+static void as_sheet(const uint8_t *data, size_t size, uint64_t big)
 {
     static uint8_t back[LIMIT], field[JUZONTEFA_IMPORT_ROOM(LIMIT)], again[JUZONTEFA_IMPORT_ROOM(LIMIT)];
     uint8_t *sheet = copy_of(data, size);
     struct ArrowSchema schema;
-    uint64_t number = juzontefa_sheet_to_schema(sheet, size, &schema);
-    struct juzontefa_answer answer = juzontefa_import(sheet, size, field, sizeof field);
+    uint64_t number = juzontefa_sheet_to_schema_with_order(sheet, size, big, &schema);
+    struct juzontefa_answer answer = juzontefa_import_with_order(sheet, size, big, field, sizeof field);
     require(memcmp(sheet, data, size) == 0);
     free(sheet);
     if (number != 0) {
@@ -43,10 +44,12 @@ static void as_sheet(const uint8_t *data, size_t size)
             require((number == JUZONTEFA_NULL_FORMAT || number == JUZONTEFA_BAD_METADATA) && (answer.number == 0 || answer.number > JUZONTEFA_TOO_DEEP));
         return;
     }
-    struct juzontefa_walked walked = juzontefa_schema_to_sheet(&schema, back, sizeof back);
-    require(walked.number == 0 && walked.length <= size);
-    struct juzontefa_answer other = juzontefa_import(back, walked.length, again, sizeof again);
-    require(other.number == answer.number && other.length == answer.length && memcmp(field, again, answer.length) == 0);
+    for (uint64_t order = 0; order < 2; order++) {
+        struct juzontefa_walked walked = juzontefa_schema_to_sheet_with_order(&schema, order, back, sizeof back);
+        require(walked.number == 0 && walked.length <= size);
+        struct juzontefa_answer other = juzontefa_import_with_order(back, walked.length, order, again, sizeof again);
+        require(other.number == answer.number && other.length == answer.length && memcmp(field, again, answer.length) == 0);
+    }
     schema.release(&schema);
     require(!schema.release);
 }
@@ -166,26 +169,26 @@ static void make(struct recipe *r, struct ArrowSchema *s, int levels)
     }
 }
 
-static void as_struct(const uint8_t *data, size_t size)
+static void as_struct(const uint8_t *data, size_t size, uint64_t big)
 {
     struct recipe r = { data, data + size, 40 };
     struct ArrowSchema *made = malloc(sizeof *made), back;
     if (!made)
         exit(EXIT_FAILURE);
     make(&r, made, 36);
-    struct juzontefa_walked walked = juzontefa_schema_to_sheet(made, NULL, 0);
+    struct juzontefa_walked walked = juzontefa_schema_to_sheet_with_order(made, big, NULL, 0);
     require(walked.length == 0 && ((walked.number != 0 && walked.number <= JUZONTEFA_TOO_DEEP) || walked.number == JUZONTEFA_NO_ROOM));
     require((walked.number == JUZONTEFA_NO_ROOM) == (walked.needed != 0) && walked.needed <= LIMIT);
     if (walked.number == JUZONTEFA_NO_ROOM) {
         uint8_t *sheet = malloc(walked.needed), *again = malloc(walked.needed);
         if (!sheet || !again)
             exit(EXIT_FAILURE);
-        struct juzontefa_walked whole = juzontefa_schema_to_sheet(made, sheet, walked.needed);
+        struct juzontefa_walked whole = juzontefa_schema_to_sheet_with_order(made, big, sheet, walked.needed);
         require(whole.number == 0 && whole.length == walked.needed && whole.needed == walked.needed);
-        uint64_t number = juzontefa_sheet_to_schema(sheet, whole.length, &back);
+        uint64_t number = juzontefa_sheet_to_schema_with_order(sheet, whole.length, big, &back);
         require(number == 0 || number == JUZONTEFA_NULL_FORMAT || number == JUZONTEFA_BAD_METADATA);
         if (number == 0) {
-            whole = juzontefa_schema_to_sheet(&back, again, walked.needed);
+            whole = juzontefa_schema_to_sheet_with_order(&back, big, again, walked.needed);
             require(whole.number == 0 && whole.length == walked.needed && memcmp(sheet, again, whole.length) == 0);
             back.release(&back);
         }
@@ -198,7 +201,12 @@ static void as_struct(const uint8_t *data, size_t size)
 
 int LLVMFuzzerTestOneInput(const uint8_t *data, size_t size)
 {
-    as_sheet(data, size);
-    as_struct(data, size);
+    uint64_t big = 0;
+    if (size > 0) {
+        size--;
+        big = data[size];
+    }
+    as_sheet(data, size, big);
+    as_struct(data, size, big);
     return 0;
 }

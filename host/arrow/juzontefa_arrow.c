@@ -13,6 +13,7 @@ static const char heading[] = "format name flags metadata children dictionary\n"
 
 /* ── the metadata block: a count, then length, key, length, value */
 
+/* In a struct, where words are of this machine's order: copied, so that no machine's order need be known here. */
 static int32_t native_word(const char *at)
 {
     int32_t word;
@@ -27,6 +28,7 @@ struct writer {
     uint8_t *out;
     size_t room;
     size_t length;
+    int big;      /* the sheet's blocks are big-endian */
     int broken;   /* a struct that cannot be a line was met */
     int too_deep; /* a struct below 32 levels was met */
 };
@@ -86,7 +88,7 @@ static void put_word(struct writer *w, int32_t word)
 {
     char bytes[4];
     for (int i = 0; i < 4; i++)
-        bytes[i] = (char)((uint32_t)word >> (8 * i) & 255);
+        bytes[w->big ? 3 - i : i] = (char)((uint32_t)word >> (8 * i) & 255);
     put_hex(w, bytes, 4);
 }
 
@@ -163,7 +165,12 @@ static void put_schema(struct writer *w, const struct ArrowSchema *s, int levels
 
 struct juzontefa_walked juzontefa_schema_to_sheet(const struct ArrowSchema *schema, uint8_t *out, size_t out_len)
 {
-    struct writer w = { out, out_len, 0, 0, 0 };
+    return juzontefa_schema_to_sheet_with_order(schema, JUZONTEFA_LITTLE_ENDIAN, out, out_len);
+}
+
+struct juzontefa_walked juzontefa_schema_to_sheet_with_order(const struct ArrowSchema *schema, uint64_t big, uint8_t *out, size_t out_len)
+{
+    struct writer w = { .out = out, .room = out_len, .big = big != 0 };
     put(&w, heading, HEADING_LENGTH);
     put_schema(&w, schema, LEVELS);
     struct juzontefa_walked walked = { 0, 0, 0 };
@@ -202,6 +209,7 @@ struct line {
 /* What is left of a sheet. */
 struct reader {
     const uint8_t *at, *end;
+    int big; /* its blocks are big-endian */
 };
 
 static int digit_of(uint8_t byte)
@@ -321,26 +329,26 @@ static uint64_t form(struct reader r)
 
 /* ── a metadata block of a sheet */
 
-static int32_t word_of(const struct text *t, size_t at)
+static int32_t word_of(const struct text *t, size_t at, int big)
 {
     uint32_t word = 0;
-    for (size_t i = 4; i > 0; i--)
-        word = word << 8 | byte_of(t, at + i - 1);
+    for (size_t i = 0; i < 4; i++)
+        word = word << 8 | byte_of(t, big ? at + i : at + 3 - i);
     return word <= INT32_MAX ? (int32_t)word : -(int32_t)(UINT32_MAX - word) - 1;
 }
 
 /* Walks a block: how many bytes it has up to its last pair, or 0 if it is cut short or a length is negative. With `to`, the block is written there
  * in this machine's byte order. */
-static size_t walk_block(const struct text *t, char *to)
+static size_t walk_block(const struct text *t, int big, char *to)
 {
     if (t->bytes < 4)
         return 0;
-    int32_t count = word_of(t, 0);
+    int32_t count = word_of(t, 0, big);
     size_t at = 4;
     if (to)
         memcpy(to, &count, 4);
     for (int64_t texts = 2 * (int64_t)count; texts > 0; texts--) {
-        int32_t length = t->bytes - at < 4 ? -1 : word_of(t, at);
+        int32_t length = t->bytes - at < 4 ? -1 : word_of(t, at, big);
         if (length < 0 || (size_t)length > t->bytes - at - 4)
             return 0;
         if (to) {
@@ -360,7 +368,7 @@ static uint64_t contents(struct reader r)
         take_line(&r, &l);
         if (l.format.is_null)
             return JUZONTEFA_NULL_FORMAT;
-        if (!l.metadata.is_null && walk_block(&l.metadata, NULL) == 0)
+        if (!l.metadata.is_null && walk_block(&l.metadata, r.big, NULL) == 0)
             return JUZONTEFA_BAD_METADATA;
     }
     return 0;
@@ -390,10 +398,10 @@ static char *copy_text(const struct text *t, char *to)
 
 /* One piece of memory for a struct's own parts: the structs below it, pointers to them, its metadata, its texts. So a child that is moved out, which has a piece
  * of its own, does not need its parent's. The structs below are released ones until they are made. */
-static int make_line(const struct line *l, struct ArrowSchema *s)
+static int make_line(const struct line *l, int big, struct ArrowSchema *s)
 {
     size_t below = (size_t)l->children + (size_t)l->dictionary;
-    size_t block = l->metadata.is_null ? 0 : walk_block(&l->metadata, NULL);
+    size_t block = l->metadata.is_null ? 0 : walk_block(&l->metadata, big, NULL);
     size_t size = below * sizeof(struct ArrowSchema) + l->children * sizeof(struct ArrowSchema *) + l->format.bytes + l->name.bytes + 2 + block;
     struct ArrowSchema *structs = malloc(size);
     if (!structs)
@@ -406,7 +414,7 @@ static int make_line(const struct line *l, struct ArrowSchema *s)
     *s = (struct ArrowSchema){ .flags = l->flags, .n_children = (int64_t)l->children, .release = release, .private_data = structs };
     if (block != 0) {
         s->metadata = texts;
-        texts += walk_block(&l->metadata, texts);
+        texts += walk_block(&l->metadata, big, texts);
     }
     s->format = texts;
     texts = copy_text(&l->format, texts);
@@ -427,7 +435,7 @@ static int make(struct reader *r, struct ArrowSchema *s)
 {
     struct line l;
     take_line(r, &l);
-    if (!make_line(&l, s))
+    if (!make_line(&l, r->big, s))
         return 0;
     for (int64_t i = 0; i < s->n_children; i++)
         if (!make(r, s->children[i]))
@@ -437,10 +445,15 @@ static int make(struct reader *r, struct ArrowSchema *s)
 
 uint64_t juzontefa_sheet_to_schema(const uint8_t *sheet, size_t sheet_len, struct ArrowSchema *schema)
 {
+    return juzontefa_sheet_to_schema_with_order(sheet, sheet_len, JUZONTEFA_LITTLE_ENDIAN, schema);
+}
+
+uint64_t juzontefa_sheet_to_schema_with_order(const uint8_t *sheet, size_t sheet_len, uint64_t big, struct ArrowSchema *schema)
+{
     *schema = (struct ArrowSchema){ 0 };
     if (sheet_len > SHEET_LIMIT || sheet_len < HEADING_LENGTH || memcmp(sheet, heading, HEADING_LENGTH) != 0)
         return JUZONTEFA_NOT_SHEET;
-    struct reader r = { sheet + HEADING_LENGTH, sheet + sheet_len };
+    struct reader r = { sheet + HEADING_LENGTH, sheet + sheet_len, big != 0 };
     uint64_t number = form(r);
     if (number == 0)
         number = contents(r);

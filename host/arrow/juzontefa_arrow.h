@@ -37,6 +37,13 @@ struct ArrowSchema {
 
 #endif
 
+/* The byte order of this machine, which the metadata of its structs has; defined where the compiler tells it, as gcc and clang do. The calls below do not
+ * need it, since they read and write a struct in this order on any machine. It is for a host that copies a block's bytes into a sheet by itself, and then has
+ * it imported under this order. */
+#ifdef __BYTE_ORDER__
+#define JUZONTEFA_NATIVE_ORDER (__BYTE_ORDER__ == __ORDER_BIG_ENDIAN__ ? JUZONTEFA_BIG_ENDIAN : JUZONTEFA_LITTLE_ENDIAN)
+#endif
+
 /* Memory could not be had. It is no refusal of the sheet's, and no number of the library's. */
 #define JUZONTEFA_NO_MEMORY 255
 
@@ -57,8 +64,13 @@ struct juzontefa_walked {
  * work than a sheet of 65,535 bytes.
  * What is trusted, since a pointer does not tell it: that a format or name ends in byte 00, that `children` has `n_children` pointers, and that a
  * metadata block has the bytes that its own count and lengths announce. It is read by them, up to the 32,767 bytes that a sheet can hold of it and
- * up to a negative length, which import refuses with 11. Its count and lengths are of this machine's byte order; in the sheet they are little-endian. */
+ * up to a negative length, which import refuses with 11. Its count and lengths are of this machine's byte order; in the sheet they are little-endian, on
+ * a machine of either order, as `juzontefa_import` reads them. */
 struct juzontefa_walked juzontefa_schema_to_sheet(const struct ArrowSchema *schema, uint8_t *out, size_t out_len);
+
+/* The same with the sheet's metadata in the order that the caller says: little-endian if `big` is 0, else big-endian. The struct's is this machine's as
+ * ever. The sheet goes to `juzontefa_import_with_order` under the same order. With 0 it is the call above. */
+struct juzontefa_walked juzontefa_schema_to_sheet_with_order(const struct ArrowSchema *schema, uint64_t big, uint8_t *out, size_t out_len);
 
 /* Makes the ArrowSchema of a schema sheet, such as `juzontefa_export` writes. With number 0 `*schema` is its owner's to release, by its callback; else
  * it is a released struct, all zeros, and no memory is held. What `*schema` held before is not looked at. Numbers:
@@ -69,8 +81,13 @@ struct juzontefa_walked juzontefa_schema_to_sheet(const struct ArrowSchema *sche
  *   11  metadata cut short or a negative length: a reader of the struct would read past it
  *  255  JUZONTEFA_NO_MEMORY
  * 1, 2 and 3 are tried over the whole sheet in that order; then 4 and 11 line by line. Bytes of a block past its last pair are left out; a null name stays
- * null. A child or a dictionary may be moved out of its parent, as the interface describes, and lives on by itself. */
+ * null. A child or a dictionary may be moved out of its parent, as the interface describes, and lives on by itself. The sheet's metadata is little-endian, and
+ * the struct's of this machine's order. */
 uint64_t juzontefa_sheet_to_schema(const uint8_t *sheet, size_t sheet_len, struct ArrowSchema *schema);
+
+/* The same of a sheet whose metadata has the order that the caller says, `big` as above, such as `juzontefa_export_with_order` writes. With 0 it is the call
+ * above. A block of the other order mostly gets 11, but not always, as with import. */
+uint64_t juzontefa_sheet_to_schema_with_order(const uint8_t *sheet, size_t sheet_len, uint64_t big, struct ArrowSchema *schema);
 
 #ifdef __cplusplus
 }

@@ -4,6 +4,7 @@ use std::collections::BTreeSet;
 
 use super::random::Random;
 use super::{block, decimal_text, hex, join_lines, Bytes, Kind, Line, Sheet};
+use crate::call::Order;
 
 fn schema_line(format: &str, name: &[u8], flags: &str, children: u64, dictionary: u8) -> Line {
     let name = if name.is_empty() { b"-".to_vec() } else { hex(name) };
@@ -101,13 +102,13 @@ pub fn wide_field(fields: usize) -> Vec<Line> {
 }
 
 /// A line with hundreds or thousands of pairs; in a block they are scattered, and some have equal keys.
-pub fn many_pairs(random: &mut Random, kind: Kind, pairs: usize) -> Vec<Line> {
+pub fn many_pairs(random: &mut Random, kind: Kind, pairs: usize, order: Order) -> Vec<Line> {
     let keys = (0..pairs).map(|_| vec![32 + random.below(90) as u8, 32 + random.below(90) as u8]);
     match kind {
         Kind::Schema => {
             let pairs: Vec<(Bytes, Bytes)> = keys.zip((0..64).cycle().map(|digit| vec![b'0' + digit])).collect();
             let mut line = schema_line("g", b"a", "2", 0, 0);
-            line[3] = hex(&block(&pairs));
+            line[3] = hex(&block(&pairs, order));
             vec![line]
         }
         Kind::Field => {

@@ -8,6 +8,7 @@ mod random;
 mod schema;
 mod texts;
 
+use crate::call::Order;
 pub use random::Random;
 use schema::Plan;
 
@@ -47,14 +48,22 @@ pub fn decimal_text(number: impl std::fmt::Display) -> Bytes {
     number.to_string().into_bytes()
 }
 
-/// A metadata block, as document 01 has it.
-pub fn block(pairs: &[(Bytes, Bytes)]) -> Bytes {
-    let mut block = (pairs.len() as i32).to_le_bytes().to_vec();
+/// A metadata block, as document 01 has it, in an order.
+pub fn block(pairs: &[(Bytes, Bytes)], order: Order) -> Bytes {
+    let mut block = word(pairs.len() as i32, order).to_vec();
     for side in pairs.iter().flat_map(|(key, value)| [key, value]) {
-        block.extend((side.len() as i32).to_le_bytes());
+        block.extend(word(side.len() as i32, order));
         block.extend(side);
     }
     block
+}
+
+/// A count or a length of a block.
+fn word(value: i32, order: Order) -> [u8; 4] {
+    match order {
+        Order::Little => value.to_le_bytes(),
+        Order::Big => value.to_be_bytes(),
+    }
 }
 
 /// The sheet of some lines.
@@ -76,21 +85,28 @@ pub struct Generator {
     long_one_in: usize,
     /// Whether field sheets have names about as long as a page shows. The recorded list was begun without them.
     long_names: bool,
+    /// Whether a third of the schema sheets have big-endian blocks. The recorded list was begun without these too.
+    both_orders: bool,
 }
 
 impl Generator {
     pub fn new(seed: u64) -> Generator {
-        Generator { random: Random::new(seed), long_one_in: 400, long_names: true }
+        Generator { random: Random::new(seed), long_one_in: 400, long_names: true, both_orders: true }
     }
 
-    /// Without the sheets of tens of thousands of bytes, and without the long names.
+    /// Without the sheets of tens of thousands of bytes, without the long names and the big-endian blocks.
     pub fn short(seed: u64) -> Generator {
-        Generator { random: Random::new(seed), long_one_in: 0, long_names: false }
+        Generator { random: Random::new(seed), long_one_in: 0, long_names: false, both_orders: false }
     }
 
-    /// Without the sheets of tens of thousands of bytes.
+    /// `short`, but with the long names.
     pub fn short_with_long_names(seed: u64) -> Generator {
         Generator { long_names: true, ..Generator::short(seed) }
+    }
+
+    /// `short`, but with the big-endian blocks.
+    pub fn short_with_both_orders(seed: u64) -> Generator {
+        Generator { both_orders: true, ..Generator::short(seed) }
     }
 
     pub fn sheet(&mut self) -> Sheet {
@@ -99,8 +115,9 @@ impl Generator {
     }
 
     pub fn sheet_of(&mut self, kind: Kind) -> Sheet {
+        let order = self.order(kind);
         if self.long_one_in > 0 && self.random.chance(1, self.long_one_in) {
-            return Sheet { kind, bytes: self.long_sheet(kind) };
+            return Sheet { kind, bytes: self.long_sheet(kind, order) };
         }
         let mut lines = match self.random.below(40) {
             0 | 1 => {
@@ -109,7 +126,7 @@ impl Generator {
             }
             2 => limits::huge_counts(&mut self.random, kind),
             3..=5 if kind == Kind::Schema => schema::format_alone(&mut self.random),
-            _ => self.tree(kind),
+            _ => self.tree(kind, order),
         };
         if kind == Kind::Field && self.long_names {
             field::lengthen_names(&mut self.random, &mut lines);
@@ -130,11 +147,19 @@ impl Generator {
         Sheet { kind, bytes }
     }
 
+    /// The order of a sheet's blocks; a field sheet has none.
+    fn order(&mut self, kind: Kind) -> Order {
+        match self.both_orders && kind == Kind::Schema && self.random.chance(1, 3) {
+            true => Order::Big,
+            false => Order::Little,
+        }
+    }
+
     /// A tree of a few lines, faultless or with faults here and there.
-    fn tree(&mut self, kind: Kind) -> Vec<Line> {
+    fn tree(&mut self, kind: Kind, order: Order) -> Vec<Line> {
         let lines = self.random.pick(&[1, 1, 2, 3, 4, 6, 10, 20]);
         let fault = self.random.pick(&[0, 0, 0, 30, 12, 5]);
-        let plan = Plan { lines, fault };
+        let plan = Plan { lines, fault, order };
         match kind {
             Kind::Schema => schema::schema(&mut self.random, plan),
             Kind::Field => field::field(&mut self.random, plan),
@@ -142,7 +167,7 @@ impl Generator {
     }
 
     /// A sheet at the limit of length, or of thousands of levels.
-    fn long_sheet(&mut self, kind: Kind) -> Bytes {
+    fn long_sheet(&mut self, kind: Kind, order: Order) -> Bytes {
         match self.random.below(6) {
             0 => {
                 let levels = self.random.between(100, 3_000);
@@ -156,7 +181,7 @@ impl Generator {
             2 => limits::sized(&mut self.random, kind, 65_536),
             3 => {
                 let pairs = self.random.between(100, 2_950);
-                join_lines(kind, &limits::many_pairs(&mut self.random, kind, pairs))
+                join_lines(kind, &limits::many_pairs(&mut self.random, kind, pairs, order))
             }
             4 => {
                 let ids = self.random.between(100, 3_000);
@@ -172,7 +197,7 @@ impl Generator {
     /// A faultless field, and one that differs from it in a point or two.
     pub fn two_fields(&mut self) -> (Bytes, Bytes) {
         let lines = self.random.pick(&[1, 2, 3, 5, 8, 14]);
-        let mut field = field::field(&mut self.random, Plan { lines, fault: 0 });
+        let mut field = field::field(&mut self.random, Plan { lines, fault: 0, order: Order::Little });
         let first = join_lines(Kind::Field, &field);
         for _ in 0..self.random.between(1, 2) {
             damage::vary(&mut self.random, &mut field);

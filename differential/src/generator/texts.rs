@@ -183,6 +183,13 @@ pub fn short_key(random: &mut Random) -> Bytes {
     (0..random.below(4)).map(|_| random.pick(b"ABab~")).collect()
 }
 
+/// A text of 124 bytes and more: the last byte of its length has its top bit, or the length takes two bytes.
+pub fn long_text(random: &mut Random) -> Bytes {
+    let mut long = b"x".repeat(random.pick(&[124, 200, 252, 300]));
+    long.extend(text(random));
+    long
+}
+
 /// A text that is not UTF-8.
 pub fn bad_text(random: &mut Random) -> Bytes {
     let mut bad = if random.chance(1, 3) { Bytes::new() } else { text(random) };

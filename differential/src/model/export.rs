@@ -5,27 +5,28 @@ use super::metadata::Extension;
 use super::schema::Schema;
 use super::wrong::Wrong;
 use super::{Bytes, Model};
+use crate::call::Order;
 use crate::refusal::{Number, BYTE_ZERO};
 
 impl Model {
-    /// The format, the children, the dictionary, then the line's own texts.
-    pub fn to_schema(&self, field: &Field) -> Result<Schema, Number> {
+    /// The format, the children, the dictionary, then the line's own texts. The order is that of the metadata blocks.
+    pub fn to_schema(&self, field: &Field, order: Order) -> Result<Schema, Number> {
         let format = self.to_format(&field.dtype)?;
         if self.is(Wrong::OwnNameFirst) {
             without_zero(&field.own.name)?;
         }
-        let children = self.schema_children(&field.dtype)?;
+        let children = self.schema_children(&field.dtype, self.order_below(order))?;
         let mut flags = field.own.nullable as i64 * 2 + self.sorted_flag(&field.dtype) * 4;
         let mut dictionary = None;
         if let Some((ordered, values)) = self.dictionary_of(&field.dtype) {
             flags += ordered as i64;
-            dictionary = Some(Box::new(self.values_schema(values)?));
+            dictionary = Some(Box::new(self.values_schema(values, self.order_below(order))?));
         } else if let (true, DataType::Dictionary { ordered: true, .. }) =
             (self.is(Wrong::OrderedThroughExtension), storage(&field.dtype))
         {
             flags += 1;
         }
-        let metadata = self.write_metadata(field.own.pairs.as_ref(), self.extension_of(&field.dtype));
+        let metadata = self.write_metadata(field.own.pairs.as_ref(), self.extension_of(&field.dtype), order);
         without_zero(&field.own.name)?;
         self.format_without_zero(&format, &field.dtype)?;
         Ok(Schema { format: Some(format), name: Some(field.own.name.clone()), flags, metadata, children, dictionary })
@@ -41,13 +42,13 @@ impl Model {
         without_zero(format)
     }
 
-    fn schema_children(&self, dtype: &DataType) -> Result<Vec<Schema>, Number> {
-        let all = |fields: &[Field]| fields.iter().map(|field| self.to_schema(field)).collect();
+    fn schema_children(&self, dtype: &DataType, order: Order) -> Result<Vec<Schema>, Number> {
+        let all = |fields: &[Field]| fields.iter().map(|field| self.to_schema(field, order)).collect();
         match dtype {
-            DataType::Nested { field, .. } => Ok(vec![self.to_schema(field)?]),
+            DataType::Nested { field, .. } => Ok(vec![self.to_schema(field, order)?]),
             DataType::Struct(fields) => all(fields),
             DataType::Union { fields, .. } => all(fields),
-            DataType::Extension { inner, .. } => self.schema_children(inner),
+            DataType::Extension { inner, .. } => self.schema_children(inner, order),
             _ => Ok(Vec::new()),
         }
     }
@@ -71,9 +72,10 @@ impl Model {
     }
 
     /// The values have no field of their own: no name, nullable.
-    fn values_schema(&self, values: &DataType) -> Result<Schema, Number> {
+    fn values_schema(&self, values: &DataType, order: Order) -> Result<Schema, Number> {
         let own = Own { name: Bytes::new(), nullable: !self.is(Wrong::ValuesNotNullable), pairs: None };
-        let mut schema = self.to_schema(&Field { own, dtype: values.clone() })?;
+        let field = Field { own, dtype: values.clone() };
+        let mut schema = self.to_schema(&field, self.order_of_values(order))?;
         if self.is(Wrong::ValuesNameNull) {
             schema.name = None;
         }

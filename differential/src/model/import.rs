@@ -5,19 +5,20 @@ use super::format::Format;
 use super::schema::Schema;
 use super::wrong::Wrong;
 use super::{Bytes, Model};
+use crate::call::Order;
 use crate::refusal::{Number, CHILD_ABSENT, NOT_UTF8, NULL_FORMAT};
 
 impl Model {
-    /// The type with all below it, then the metadata, then the name.
-    pub fn to_field(&self, schema: &Schema) -> Result<Field, Number> {
+    /// The type with all below it, then the metadata, then the name. The order is that of the metadata blocks.
+    pub fn to_field(&self, schema: &Schema, order: Order) -> Result<Field, Number> {
         if self.is(Wrong::MetadataBeforeType) {
-            self.read_metadata(schema.metadata.as_deref())?;
+            self.read_metadata(schema.metadata.as_deref(), order)?;
         }
-        let dtype = self.to_dtype(schema)?;
+        let dtype = self.to_dtype(schema, self.order_below(order))?;
         if self.is(Wrong::NameBeforeMetadata) {
             self.name(schema)?;
         }
-        let (pairs, extension) = self.read_metadata(schema.metadata.as_deref())?;
+        let (pairs, extension) = self.read_metadata(schema.metadata.as_deref(), order)?;
         let own = Own { name: self.name(schema)?, nullable: self.nullable(schema.flags), pairs };
         let lost = self.is(Wrong::ExtensionLostOnDictionary) && schema.dictionary.is_some();
         let dtype = match extension.filter(|_| !lost) {
@@ -59,7 +60,7 @@ impl Model {
         flags & 1 == 1
     }
 
-    fn to_dtype(&self, schema: &Schema) -> Result<DataType, Number> {
+    fn to_dtype(&self, schema: &Schema, order: Order) -> Result<DataType, Number> {
         let format = match &schema.format {
             None if self.is(Wrong::NullFormatIsEmpty) => &Bytes::new(),
             None => return Err(NULL_FORMAT),
@@ -67,60 +68,63 @@ impl Model {
             Some(format) => format,
         };
         match &schema.dictionary {
-            Some(values) => self.to_dictionary(schema, format, values),
+            Some(values) => self.to_dictionary(schema, format, values, order),
             None => {
                 let format = self.read_format(format, self.sorted(schema.flags));
                 if self.is(Wrong::ChildBeforeSize) && starts_with(&schema.format, b"+w:") {
                     first_child(schema)?;
                 }
                 if self.is(Wrong::FieldsBeforeIds) && starts_with(&schema.format, b"+u") && format.is_err() {
-                    self.to_fields(&schema.children)?;
+                    self.to_fields(&schema.children, order)?;
                 }
-                self.with_children(format?, schema)
+                self.with_children(format?, schema, order)
             }
         }
     }
 
-    fn to_dictionary(&self, schema: &Schema, format: &[u8], values: &Schema) -> Result<DataType, Number> {
+    fn to_dictionary(&self, schema: &Schema, format: &[u8], values: &Schema, order: Order) -> Result<DataType, Number> {
         let index = self.index_of(format);
         if !self.is(Wrong::ValuesBeforeIndex) {
             index?;
         }
         if self.is(Wrong::DictionaryChildrenVisited) {
-            self.to_fields(&schema.children)?;
+            self.to_fields(&schema.children, order)?;
         }
-        let values =
-            if self.is(Wrong::ValuesMetadataDropped) { self.to_dtype(values)? } else { self.to_field(values)?.dtype };
+        let order = self.order_of_values(order);
+        let values = match self.is(Wrong::ValuesMetadataDropped) {
+            true => self.to_dtype(values, order)?,
+            false => self.to_field(values, order)?.dtype,
+        };
         Ok(DataType::Dictionary { index: index?, ordered: self.ordered(schema.flags), values: Box::new(values) })
     }
 
-    fn with_children(&self, format: Format, schema: &Schema) -> Result<DataType, Number> {
+    fn with_children(&self, format: Format, schema: &Schema, order: Order) -> Result<DataType, Number> {
         match format {
             Format::Leaf(dtype) => {
                 if self.is(Wrong::LeafChildrenVisited) {
-                    self.to_fields(&schema.children)?;
+                    self.to_fields(&schema.children, order)?;
                 }
                 Ok(dtype)
             }
             Format::Nested(kind, p) => {
-                let field = Box::new(self.to_field(first_child(schema)?)?);
+                let field = Box::new(self.to_field(first_child(schema)?, order)?);
                 if self.is(Wrong::SecondChildVisited) {
-                    self.to_fields(&schema.children[1..])?;
+                    self.to_fields(&schema.children[1..], order)?;
                 }
                 Ok(DataType::Nested { kind, p, field })
             }
-            Format::Struct => self.to_fields(&schema.children).map(DataType::Struct),
+            Format::Struct => self.to_fields(&schema.children, order).map(DataType::Struct),
             Format::Union(mode, ids) => {
                 if self.is(Wrong::IdsMatched) && ids.len() != schema.children.len() {
                     return Err(CHILD_ABSENT);
                 }
-                Ok(DataType::Union { mode, ids: Some(ids), fields: self.to_fields(&schema.children)? })
+                Ok(DataType::Union { mode, ids: Some(ids), fields: self.to_fields(&schema.children, order)? })
             }
         }
     }
 
-    fn to_fields(&self, children: &[Schema]) -> Result<Vec<Field>, Number> {
-        children.iter().map(|child| self.to_field(child)).collect()
+    fn to_fields(&self, children: &[Schema], order: Order) -> Result<Vec<Field>, Number> {
+        children.iter().map(|child| self.to_field(child, order)).collect()
     }
 }
 

@@ -1,5 +1,6 @@
 //! A second, plain reading of document 01 that does not call the Rust: trees of enums over bytes, every rule written out
-//! once, no thought of speed. It also answers plain form, and the page of document 02. Each wrong reading is a switch on it.
+//! once, no thought of speed. It also answers plain form, and of document 02 the page and big-endian metadata. Each wrong
+//! reading is a switch on it.
 
 // The functions bear the Rust's names, `to_field` and the like, and all take the reading.
 #![allow(clippy::wrong_self_convention)]
@@ -17,7 +18,7 @@ mod text;
 mod wrong;
 
 use crate::answer::{Answer, Answered, Outcome};
-use crate::call::{Call, Request};
+use crate::call::{Call, Order, Request};
 use crate::refusal::BUFFER_SHORT;
 use field::{write_bare, write_field, DataType, Field};
 pub use wrong::{Wrong, WRONG_READINGS};
@@ -46,22 +47,38 @@ impl Model {
     pub fn answer(&self, request: Request, sheet: &[u8]) -> Answered {
         let argument = request.argument;
         match request.call {
-            Call::Import => self.import(sheet),
+            Call::Import => self.import(sheet, request.order()),
             Call::FromIntegerType => Ok(Answer::Sheet(write_bare(&self.from_integer_type(argument)?))),
             Call::FromPrimitiveType => Ok(Answer::Sheet(write_bare(&self.from_primitive_type(argument)?))),
             _ => self.of_field(request, &self.read_field(sheet)?),
         }
     }
 
-    fn import(&self, sheet: &[u8]) -> Answered {
-        let field = self.to_field(&self.read_schema(sheet)?)?;
+    fn import(&self, sheet: &[u8], order: Order) -> Answered {
+        let field = self.to_field(&self.read_schema(sheet)?, order)?;
         Ok(Answer::Sheet(write_field(&field)))
+    }
+
+    /// The order of the blocks below a line, which is the line's own.
+    fn order_below(&self, order: Order) -> Order {
+        match self.is(Wrong::OrderOfFirstLine) {
+            true => Order::Little,
+            false => order,
+        }
+    }
+
+    /// The order of the blocks of a dictionary's values, which is that of all others.
+    fn order_of_values(&self, order: Order) -> Order {
+        match self.is(Wrong::OrderNotOfValues) {
+            true => Order::Little,
+            false => order,
+        }
     }
 
     fn of_field(&self, request: Request, field: &Field) -> Answered {
         let dtype = &field.dtype;
         Ok(match request.call {
-            Call::Export => Answer::Sheet(schema::write_schema(&self.to_schema(field)?)),
+            Call::Export => Answer::Sheet(schema::write_schema(&self.to_schema(field, request.order())?)),
             Call::Plain => Answer::Sheet(write_field(&self.plain(field))),
             Call::ToPhysicalType => {
                 let (place, inner) = self.to_physical_type(dtype)?;

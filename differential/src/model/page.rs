@@ -3,6 +3,7 @@
 use super::field::{DataType, Field, Own, HEADING};
 use super::wrong::Wrong;
 use super::{Bytes, Model};
+use crate::call::Order;
 use crate::refusal::Number;
 
 /// The kinds' names as `ArrowDataType` spells them, in its order.
@@ -58,7 +59,7 @@ impl Model {
     /// Only a wrong reading refuses a field.
     pub fn page(&self, field: &Field) -> Result<Bytes, Number> {
         if self.is(Wrong::PageExportable) {
-            self.to_schema(field)?;
+            self.to_schema(field, Order::Little)?;
         }
         let mut lines = Vec::new();
         if self.is(Wrong::PageHeading) {

@@ -1,5 +1,5 @@
-//! Deliberately wrong readings of document 01, of #103 and of the page, each a switch of the plain reading. A generator is good if its
-//! sheets tell each of them from the Rust, or those of the page, which the Rust has not, from the right one.
+//! Deliberately wrong readings of document 01, of #103, of big-endian metadata and of the page, each a switch of the plain reading. A
+//! generator is good if its sheets tell each of them from the Rust, or those of what the Rust has not from the right one.
 
 macro_rules! wrong_readings {
     ($($variant:ident $what:literal)*) => {
@@ -188,7 +188,20 @@ wrong_readings! {
     RefusalLeavesBytes "a refusal leaves the buffer"
     RestZeroed "bytes past the length become zeros"
     LengthOn16 "16 comes with the length that is needed"
-    // The page; these stand last.
+    // Big-endian metadata (#104).
+    OrderNotRead "import reads every block little-endian"
+    CountReadLittle "import reads a big-endian block's count little-endian"
+    LengthsReadLittle "import reads a big-endian block's lengths little-endian"
+    ValueLengthReadLittle "import reads the length of a big-endian block's value little-endian"
+    CountSignAtEnd "the sign of a big-endian count is that of its last byte"
+    LengthSignAtEnd "the sign of a big-endian length is that of its last byte"
+    OrderNotWritten "export writes every block little-endian"
+    CountWrittenLittle "export writes a big-endian block's count little-endian"
+    LengthsWrittenLittle "export writes a big-endian block's lengths little-endian"
+    KeysReversed "the bytes of a big-endian block's keys are turned round"
+    OrderOfFirstLine "the order is that of the first line's block alone"
+    OrderNotOfValues "the order is not that of the blocks in a dictionary's values"
+    // The page.
     PageHeading "the heading becomes a line of the page"
     PageLevelZero "a page counts its levels from 0"
     PageLevelLeft "a page's level is left-justified"
@@ -208,8 +221,23 @@ wrong_readings! {
 }
 
 impl Wrong {
+    /// Whether it is one of #103.
+    pub fn is_of_fixed_names(self) -> bool {
+        self.is_within(Wrong::LastNameLost, Wrong::EmptyFormatIsNull)
+    }
+
+    /// Whether it is one of big-endian metadata.
+    pub fn is_of_order(self) -> bool {
+        self.is_within(Wrong::OrderNotRead, Wrong::OrderNotOfValues)
+    }
+
     /// Whether it is one of the page.
     pub fn is_of_page(self) -> bool {
-        self as usize >= Wrong::PageHeading as usize
+        self.is_within(Wrong::PageHeading, Wrong::PageExportable)
+    }
+
+    /// Whether it stands from the one to the other.
+    fn is_within(self, first: Wrong, last: Wrong) -> bool {
+        (first as usize..=last as usize).contains(&(self as usize))
     }
 }

@@ -39,6 +39,7 @@ impl Rust {
 
     /// What a call is held to: the Rust's own answer, but that nullable of negative flags is their bit (document 02, #102).
     pub fn answer(&self, request: Request, sheet: &[u8]) -> Answered {
+        assert!(request.is_in_rust(), "the Rust does not answer {request}");
         if request.call != Call::Import {
             return self.own_answer(request, sheet);
         }
@@ -50,8 +51,9 @@ impl Rust {
         Ok(Answer::Sheet(out))
     }
 
-    /// Must not be asked for plain form or the page, which the Rust does not have.
+    /// Must not be asked for plain form, the page or big-endian metadata, which the Rust does not have.
     pub fn own_answer(&self, request: Request, sheet: &[u8]) -> Answered {
+        assert!(request.is_in_rust(), "the Rust does not answer {request}");
         if !request.call.writes() {
             return values(request.call, &field_sheet::read(sheet)?.dtype);
         }

@@ -1,14 +1,16 @@
 //! What stands in the recorded list: cases made by hand, all kinds, the published formats, the limits, the smallest sheets
-//! that tell the wrong readings, and generated sheets until each call has given each of its numbers often enough. The page,
-//! which came later, has stages of its own at the end, so that what stands before them stays as it is.
+//! that tell the wrong readings, and generated sheets until each call has given each of its numbers often enough. What came
+//! later, the page, negative flags and big-endian metadata, has stages of its own at the end, so that what stands before them
+//! stays as it is.
 
+mod order;
 mod page;
 
 use std::collections::HashSet;
 
 use super::list::Record;
 use crate::answer::{Answer, Answered, Outcome};
-use crate::call::{Call, Input, Request, CALLS};
+use crate::call::{Call, Input, Order, Request, CALLS, ORDERS};
 use crate::compare::{requests, room, smallest, Case};
 use crate::demand3::comes_back;
 use crate::generator::limits::{huge_counts, levels, sized, wide_schema};
@@ -54,6 +56,7 @@ pub fn choose(rust: &Rust, seed: u64) -> Result<Vec<Record>, String> {
     chooser.generated(seed)?;
     chooser.pages(seed)?;
     chooser.negative_flags()?;
+    chooser.orders(seed)?;
     chooser.check_numbers()?;
     chooser.check_readings()?;
     Ok(chooser.records)
@@ -86,10 +89,10 @@ fn field_calls() -> impl Iterator<Item = Request> {
     CALLS.iter().map(|(call, _)| *call).filter(reads).map(|call| Request::new(call, 0))
 }
 
-/// The requests that a sheet of this kind can be put to, but the page.
-fn requests_but_page(random: &mut Random, kind: Kind) -> Vec<Request> {
+/// The requests that a sheet of this kind can be put to, but what has stages of its own: the page and big-endian metadata.
+fn first_requests(random: &mut Random, kind: Kind) -> Vec<Request> {
     let mut requests = requests(random, kind);
-    requests.retain(|request| request.call != Call::Page);
+    requests.retain(|request| request.call != Call::Page && !request.is_big());
     requests
 }
 
@@ -97,8 +100,8 @@ impl Chooser<'_> {
     /// The Rust's answer, or the plain reading's for what the Rust has not; both must agree.
     fn answer(&self, request: Request, sheet: &[u8]) -> Result<Answered, String> {
         let model = self.model.answer(request, sheet);
-        if request.call.is_in_rust() && self.rust.answer(request, sheet) != model {
-            return Err(format!("{} differs on {}", request.call.name(), sheet.escape_ascii()));
+        if request.is_in_rust() && self.rust.answer(request, sheet) != model {
+            return Err(format!("{request} differs on {}", sheet.escape_ascii()));
         }
         Ok(model)
     }
@@ -306,14 +309,14 @@ impl Chooser<'_> {
     /// The smallest cases that tell each wrong reading from the Rust, two of each.
     fn wrong_readings(&mut self, seed: u64) -> Result<(), String> {
         let mut left: Vec<(Wrong, u8)> = WRONG_READINGS.iter().map(|(wrong, _)| (*wrong, 2)).collect();
-        left.retain(|(wrong, _)| !is_about_length(*wrong) && !wrong.is_of_page());
+        left.retain(|(wrong, _)| !is_about_length(*wrong) && !came_later(*wrong));
         let mut generator = Generator::short(seed);
         for _ in 0..TRIED {
             if left.is_empty() {
                 return Ok(());
             }
             let sheet = generator.sheet();
-            for request in requests_but_page(&mut generator.random, sheet.kind) {
+            for request in first_requests(&mut generator.random, sheet.kind) {
                 let answered = self.answer(request, &sheet.bytes)?;
                 let room = room(&mut generator.random, &answered);
                 for (wrong, cases) in &mut left {
@@ -343,7 +346,7 @@ impl Chooser<'_> {
         let mut generator = Generator::short(seed.wrapping_add(1));
         for _ in 0..TRIED {
             let Sheet { kind, bytes } = generator.sheet();
-            for request in requests_but_page(&mut generator.random, kind) {
+            for request in first_requests(&mut generator.random, kind) {
                 let answered = self.answer(request, &bytes)?;
                 let record = Record::of(request, room(&mut generator.random, &answered), &bytes, &answered);
                 let count = &mut counts[request.call as usize][record.number as usize];
@@ -373,11 +376,11 @@ impl Chooser<'_> {
     }
 
     fn check_numbers(&self) -> Result<(), String> {
-        for (call, name) in CALLS {
-            for number in numbers_of(call) {
-                let found = self.records.iter().filter(|r| r.request.call == call && r.number == *number as u64).count();
-                if found == 0 {
-                    return Err(format!("no record of {name} with number {number}"));
+        for request in CALLS.iter().flat_map(|(call, _)| ORDERS.map(|order| Request::under(*call, order.number()))) {
+            for number in numbers_of(request.call) {
+                let of = |asked: Request| asked.call == request.call && asked.order() == request.order();
+                if !self.records.iter().any(|record| of(record.request) && record.number == *number as u64) {
+                    return Err(format!("no record of {request} with number {number}"));
                 }
             }
         }
@@ -418,6 +421,12 @@ fn quota(call: Call, number: u8) -> usize {
 /// The readings that only sheets of the longest length tell; the limits have these.
 fn is_about_length(wrong: Wrong) -> bool {
     matches!(wrong, Wrong::LongSheetTaken | Wrong::LongestSheetRefused)
+}
+
+/// The readings that came after the list was begun. The page and big-endian metadata have stages of their own; those of #103 are
+/// told by what is there.
+fn came_later(wrong: Wrong) -> bool {
+    wrong.is_of_page() || wrong.is_of_order() || wrong.is_of_fixed_names()
 }
 
 /// A single line whose name fills the sheet.

@@ -28,7 +28,7 @@ pub fn check(rust: &Rust, text: &[u8], out: &mut dyn Write) -> Result<(), Failur
     let model = Model::new();
     writeln!(out, "{} records", records.len())?;
     let agreed = replay(&records, "the Rust", |case| {
-        let in_rust = case.request.call.is_in_rust();
+        let in_rust = case.request.is_in_rust();
         in_rust.then(|| Outcome::of(&rust.answer(case.request, case.sheet), case.lent()))
     })?;
     writeln!(out, "{agreed} agree with the Rust")?;
@@ -50,8 +50,8 @@ fn replay(records: &[Record], who: &str, outcome: impl Fn(&Case) -> Option<Outco
             continue;
         };
         if !record.is(&outcome, &case.lent()) {
-            let call = record.request.call.name();
-            return Err(Failure::Found(format!("record {place}, {call}: {who} answers {outcome}")));
+            let request = record.request;
+            return Err(Failure::Found(format!("record {place}, {request}: {who} answers {outcome}")));
         }
         agreed += 1;
     }

@@ -5,7 +5,7 @@
 //! handed in is never changed. Nothing is allocated, and nothing is kept between calls.
 //!
 //! A schema sheet goes to [`import`]; all other calls read a field sheet, but for the two conversions, which take a place in an
-//! enumeration. What the sheets are is said in `crates/sheets/specs` of the repository; README.md has examples.
+//! enumeration. Metadata is little-endian in the sheets, but for the three calls that are told its [`ByteOrder`]. What the sheets are is said in `crates/sheets/specs` of the repository; README.md has examples.
 //!
 //! ```
 //! use juzontefa::{import, import_room, Refusal};
@@ -33,12 +33,14 @@
 #![no_std]
 #![warn(missing_docs)]
 
+mod order;
 #[allow(missing_docs)]
 pub mod raw;
 mod refusal;
 mod rooms;
 mod told;
 
+pub use order::ByteOrder;
 pub use refusal::{Party, Refusal};
 pub use rooms::{export_room, import_room, mapping_room, page_room, plain_form_room, CONVERTED_ROOM, LONGEST_SHEET, STACK};
 use told::{length_of, refused, trip_of, yes_or_no};
@@ -96,8 +98,15 @@ fn to_sheet(call: raw::ToSheet, sheet: &[u8], out: &mut [u8]) -> Result<usize, R
     length_of(told, out.len())
 }
 
-/// The field sheet of a schema sheet. Ordered, nullable and sorted are the flags' bits 1, 2 and 4, of negative flags too; all other
-/// bits are free for the producer, and dropped. A buffer of [`import_room`] is long enough.
+/// The same of a call that takes a number besides.
+fn to_sheet_with(call: raw::ToSheetWith, sheet: &[u8], number: u64, out: &mut [u8]) -> Result<usize, Refusal> {
+    // SAFETY: as in `to_sheet`.
+    let told = unsafe { call(sheet.as_ptr(), sheet.len(), number, out.as_mut_ptr(), out.len()) };
+    length_of(told, out.len())
+}
+
+/// The field sheet of a schema sheet whose metadata is little-endian. Ordered, nullable and sorted are the flags' bits 1, 2 and 4, of
+/// negative flags too; all other bits are free for the producer, and dropped. A buffer of [`import_room`] is long enough.
 ///
 /// ```
 /// use juzontefa::{import, Refusal};
@@ -121,7 +130,24 @@ pub fn import(sheet: &[u8], out: &mut [u8]) -> Result<usize, Refusal> {
     to_sheet(raw::juzontefa_import, sheet, out)
 }
 
-/// The schema sheet of a field sheet. A buffer of [`export_room`] is long enough.
+/// [`import`] of a schema sheet whose metadata has this order; with [`ByteOrder::LittleEndian`] it is `import` itself. A buffer of
+/// [`import_room`] is long enough.
+///
+/// ```
+/// use juzontefa::{import_room, import_with_order, ByteOrder};
+///
+/// // no pairs: a count of 0 or less is none
+/// const SHEET: &[u8] = b"format name flags metadata children dictionary\n6e - 0 80000000 0 0\n";
+/// let mut out = [0; import_room(SHEET.len())];
+/// let length = import_with_order(SHEET, ByteOrder::BigEndian, &mut out)?;
+/// assert_eq!(&out[..length], b"kind p q text more name nullable pairs children\n0 0 0 ~ ~ - 0 ~ 0\n");
+/// # Ok::<(), juzontefa::Refusal>(())
+/// ```
+pub fn import_with_order(sheet: &[u8], order: ByteOrder, out: &mut [u8]) -> Result<usize, Refusal> {
+    to_sheet_with(raw::juzontefa_import_with_order, sheet, order.big(), out)
+}
+
+/// The schema sheet of a field sheet, with little-endian metadata. A buffer of [`export_room`] is long enough.
 ///
 /// ```
 /// use juzontefa::{export, export_room};
@@ -134,6 +160,23 @@ pub fn import(sheet: &[u8], out: &mut [u8]) -> Result<usize, Refusal> {
 /// ```
 pub fn export(sheet: &[u8], out: &mut [u8]) -> Result<usize, Refusal> {
     to_sheet(raw::juzontefa_export, sheet, out)
+}
+
+/// [`export`] with metadata in this order; with [`ByteOrder::LittleEndian`] it is `export` itself. A field gets the same refusal or
+/// length under both. A buffer of [`export_room`] is long enough.
+///
+/// ```
+/// use juzontefa::{export_room, export_with_order, ByteOrder};
+///
+/// const SHEET: &[u8] = b"kind p q text more name nullable pairs children\n0 0 0 ~ ~ - 0 6d=31 0\n";
+/// let mut out = [0; export_room(SHEET.len())];
+/// let length = export_with_order(SHEET, ByteOrder::BigEndian, &mut out)?;
+/// let expected = b"format name flags metadata children dictionary\n6e - 0 00000001000000016d0000000131 0 0\n";
+/// assert_eq!(&out[..length], expected);
+/// # Ok::<(), juzontefa::Refusal>(())
+/// ```
+pub fn export_with_order(sheet: &[u8], order: ByteOrder, out: &mut [u8]) -> Result<usize, Refusal> {
+    to_sheet_with(raw::juzontefa_export_with_order, sheet, order.big(), out)
 }
 
 /// The plain form of a field sheet, a field sheet again: what import of its export gives, where the field can be exported and has no
@@ -262,9 +305,7 @@ pub fn inner_dtype(sheet: &[u8], out: &mut [u8]) -> Result<usize, Refusal> {
 /// # Ok::<(), Refusal>(())
 /// ```
 pub fn get_child(sheet: &[u8], index: u64, out: &mut [u8]) -> Result<usize, Refusal> {
-    // SAFETY: as in `to_sheet`.
-    let told = unsafe { raw::juzontefa_get_child(sheet.as_ptr(), sheet.len(), index, out.as_mut_ptr(), out.len()) };
-    length_of(told, out.len())
+    to_sheet_with(raw::juzontefa_get_child, sheet, index, out)
 }
 
 /// The type of a place in `IntegerType`, 0 to 9: Int8, Int16, Int32, Int64, Int128, UInt8, UInt16, UInt32, UInt64, UInt128; as a sheet
@@ -364,6 +405,45 @@ pub fn round_trip(sheet: &[u8], exported: &mut [u8], imported: &mut [u8], plain:
         raw::juzontefa_round_trip(
             sheet.as_ptr(),
             sheet.len(),
+            exported.as_mut_ptr(),
+            exported.len(),
+            imported.as_mut_ptr(),
+            imported.len(),
+            plain.as_mut_ptr(),
+            plain.len(),
+            again.as_mut_ptr(),
+            again.len(),
+        )
+    })
+}
+
+/// [`round_trip`] with both exports and the import in this order; with [`ByteOrder::LittleEndian`] it is `round_trip` itself. The
+/// buffers and their rooms are the same.
+///
+/// ```
+/// use juzontefa::{round_trip_with_order, ByteOrder, Trip};
+///
+/// let sheet = b"kind p q text more name nullable pairs children\n0 0 0 ~ ~ - 0 6d=31 0\n";
+/// let (mut exported, mut imported, mut plain, mut again) = ([0; 128], [0; 128], [0; 128], [0; 128]);
+/// let trip = round_trip_with_order(sheet, ByteOrder::BigEndian, &mut exported, &mut imported, &mut plain, &mut again);
+/// assert_eq!(trip, Trip::AllSame);
+/// assert!(exported.starts_with(b"format name flags metadata children dictionary\n6e - 0 00000001000000016d0000000131 0 0\n\0"));
+/// assert!(imported.starts_with(sheet) && imported == plain && again == exported);
+/// ```
+pub fn round_trip_with_order(
+    sheet: &[u8],
+    order: ByteOrder,
+    exported: &mut [u8],
+    imported: &mut [u8],
+    plain: &mut [u8],
+    again: &mut [u8],
+) -> Trip {
+    // SAFETY: as in `round_trip`.
+    trip_of(unsafe {
+        raw::juzontefa_round_trip_with_order(
+            sheet.as_ptr(),
+            sheet.len(),
+            order.big(),
             exported.as_mut_ptr(),
             exported.len(),
             imported.as_mut_ptr(),

@@ -38,9 +38,26 @@ pub struct Trip {
 /// A sheet, and a buffer for a sheet or a page.
 pub type ToSheet = unsafe extern "C" fn(*const u8, usize, *mut u8, usize) -> Answer;
 
+/// The same with a number: a byte order, or the index of a child.
+pub type ToSheetWith = unsafe extern "C" fn(*const u8, usize, u64, *mut u8, usize) -> Answer;
+
 extern "C" {
     pub fn juzontefa_import(sheet: *const u8, sheet_len: usize, out: *mut u8, out_len: usize) -> Answer;
     pub fn juzontefa_export(sheet: *const u8, sheet_len: usize, out: *mut u8, out_len: usize) -> Answer;
+    pub fn juzontefa_import_with_order(
+        sheet: *const u8,
+        sheet_len: usize,
+        big: u64,
+        out: *mut u8,
+        out_len: usize,
+    ) -> Answer;
+    pub fn juzontefa_export_with_order(
+        sheet: *const u8,
+        sheet_len: usize,
+        big: u64,
+        out: *mut u8,
+        out_len: usize,
+    ) -> Answer;
     pub fn juzontefa_plain_form(sheet: *const u8, sheet_len: usize, out: *mut u8, out_len: usize) -> Answer;
     pub fn juzontefa_page(sheet: *const u8, sheet_len: usize, out: *mut u8, out_len: usize) -> Answer;
     pub fn juzontefa_underlying_physical_type(sheet: *const u8, sheet_len: usize, out: *mut u8, out_len: usize) -> Answer;
@@ -56,6 +73,19 @@ extern "C" {
     pub fn juzontefa_round_trip(
         sheet: *const u8,
         sheet_len: usize,
+        exported: *mut u8,
+        exported_len: usize,
+        imported: *mut u8,
+        imported_len: usize,
+        plain: *mut u8,
+        plain_len: usize,
+        again: *mut u8,
+        again_len: usize,
+    ) -> Trip;
+    pub fn juzontefa_round_trip_with_order(
+        sheet: *const u8,
+        sheet_len: usize,
+        big: u64,
         exported: *mut u8,
         exported_len: usize,
         imported: *mut u8,

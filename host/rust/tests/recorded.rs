@@ -1,4 +1,4 @@
-//! The recorded answers put to every call, and every recorded field sheet taken out and back.
+//! The recorded answers put to every call, and every recorded field sheet taken out and back in both byte orders.
 
 mod list;
 
@@ -6,7 +6,7 @@ use juzontefa::*;
 use list::{records, Record};
 
 /// How many records there are.
-const RECORDS: usize = 3607;
+const RECORDS: usize = 4167;
 /// What a lent buffer holds before a call.
 const FILLER: u8 = 0xa5;
 
@@ -29,12 +29,21 @@ fn refused(refusal: Refusal) -> Numbers {
     [refusal.number(), 0, 0]
 }
 
+/// The order that a record of import or export names.
+fn order_of(argument: u64) -> ByteOrder {
+    if argument == 0 {
+        ByteOrder::LittleEndian
+    } else {
+        ByteOrder::BigEndian
+    }
+}
+
 /// What the call of a code answers; `out` is lent to those that write a sheet or a page.
 fn ask(record: &Record, out: &mut [u8]) -> Numbers {
     let (sheet, argument) = (&record.input[..], record.argument);
     match record.call {
-        0 => of_sheet(import(sheet, out)),
-        1 => of_sheet(export(sheet, out)),
+        0 => of_sheet(import_with_order(sheet, order_of(argument), out)),
+        1 => of_sheet(export_with_order(sheet, order_of(argument), out)),
         2 => of_sheet(plain_form(sheet, out)),
         3 => of_places(to_physical_type(sheet)),
         4 => of_sheet(underlying_physical_type(sheet, out)),
@@ -87,6 +96,28 @@ fn all_records() {
     println!("recorded answers: {} judged, {} wrong", records.len(), wrong.len());
 }
 
+/// Import and export without an order are those with the little-endian one, on the sheets of all their records.
+#[test]
+fn no_order_is_little_endian() {
+    let mut tried = 0;
+    for record in records().iter().filter(|record| record.call <= 1) {
+        let (mut with, mut without) = (vec![FILLER; record.room], vec![FILLER; record.room]);
+        let numbers = match record.call {
+            0 => {
+                (import_with_order(&record.input, ByteOrder::LittleEndian, &mut with), import(&record.input, &mut without))
+            }
+            _ => {
+                (export_with_order(&record.input, ByteOrder::LittleEndian, &mut with), export(&record.input, &mut without))
+            }
+        };
+        assert_eq!(numbers.0, numbers.1);
+        assert!(with == without, "the buffers differ: {}", record.input.escape_ascii());
+        tried += 1;
+    }
+    println!("without an order: {tried} tried");
+    assert!(tried > 0);
+}
+
 /// With the room that the crate says is enough no call is refused for want of it; a record that says 16 gets an answer.
 #[test]
 fn rooms_are_enough() {
@@ -106,13 +137,13 @@ fn rooms_are_enough() {
 }
 
 /// The round trip by the single calls.
-fn steps(sheet: &[u8], buffers: &mut [Vec<u8>; 4]) -> Trip {
+fn steps(sheet: &[u8], order: ByteOrder, buffers: &mut [Vec<u8>; 4]) -> Trip {
     let [exported, imported, plain, again] = buffers;
-    let first = match export(sheet, exported) {
+    let first = match export_with_order(sheet, order, exported) {
         Ok(length) => &exported[..length],
         Err(refusal) => return Trip::ExportRefused(refusal),
     };
-    let back = match import(first, imported) {
+    let back = match import_with_order(first, order, imported) {
         Ok(length) => &imported[..length],
         Err(refusal) => return Trip::ImportRefused(refusal),
     };
@@ -120,7 +151,7 @@ fn steps(sheet: &[u8], buffers: &mut [Vec<u8>; 4]) -> Trip {
         Ok(length) => &plain[..length],
         Err(refusal) => return Trip::PlainRefused(refusal),
     };
-    let second = match export(form, again) {
+    let second = match export_with_order(form, order, again) {
         Ok(length) => &again[..length],
         Err(refusal) => return Trip::AgainRefused(refusal),
     };
@@ -131,6 +162,29 @@ fn steps(sheet: &[u8], buffers: &mut [Vec<u8>; 4]) -> Trip {
     }
 }
 
+/// The trip by the call; without an order where there is none.
+fn at_once(sheet: &[u8], order: Option<ByteOrder>, buffers: &mut [Vec<u8>; 4]) -> Trip {
+    let [exported, imported, plain, again] = buffers;
+    match order {
+        Some(order) => round_trip_with_order(sheet, order, exported, imported, plain, again),
+        None => round_trip(sheet, exported, imported, plain, again),
+    }
+}
+
+/// The trip is its steps in this order, little-endian where there is none, and so are its buffers, or they are zeros.
+fn trip_is_its_steps(sheet: &[u8], order: Option<ByteOrder>) -> Trip {
+    let n = sheet.len();
+    let rooms = [export_room(n), import_room(export_room(n)), plain_form_room(n), export_room(n)];
+    let (mut held, mut expected) = (rooms.map(|room| vec![FILLER; room]), rooms.map(|room| vec![FILLER; room]));
+    let trip = at_once(sheet, order, &mut held);
+    assert_eq!(trip, steps(sheet, order.unwrap_or(ByteOrder::LittleEndian), &mut expected));
+    if !matches!(trip, Trip::AllSame | Trip::ImportDiffers | Trip::AgainDiffers) {
+        expected = rooms.map(|room| vec![0; room]);
+    }
+    assert!(held == expected, "the buffers of a trip are not its steps': {}", sheet.escape_ascii());
+    trip
+}
+
 #[test]
 fn trips_are_their_steps() {
     let reads_field = |record: &Record| matches!(record.call, 1..=10 | 13);
@@ -139,21 +193,14 @@ fn trips_are_their_steps() {
     sheets.dedup();
     let (mut same, mut differ, mut refused) = (0, 0, 0);
     for sheet in &sheets {
-        let n = sheet.len();
-        let rooms = [export_room(n), import_room(export_room(n)), plain_form_room(n), export_room(n)];
-        let (mut at_once, mut by_steps) = (rooms.map(|room| vec![FILLER; room]), rooms.map(|room| vec![FILLER; room]));
-        let [exported, imported, plain, again] = &mut at_once;
-        let trip = round_trip(sheet, exported, imported, plain, again);
-        assert_eq!(trip, steps(sheet, &mut by_steps));
-        match trip {
+        let orders = [None, Some(ByteOrder::LittleEndian), Some(ByteOrder::BigEndian)];
+        let trips = orders.map(|order| trip_is_its_steps(sheet, order));
+        assert_eq!(trips, [trips[0]; 3]);
+        match trips[0] {
             Trip::AllSame => same += 1,
             Trip::ImportDiffers | Trip::AgainDiffers => differ += 1,
-            _ => {
-                refused += 1;
-                by_steps = rooms.map(|room| vec![0; room]);
-            }
+            _ => refused += 1,
         }
-        assert!(at_once == by_steps, "the buffers of a trip are not its steps': {}", sheet.escape_ascii());
     }
     println!("round trips: {} tried, {same} the same, {differ} differ, {refused} refused", sheets.len());
     assert!(same > 0 && differ > 0 && refused > 0);
