@@ -2,12 +2,11 @@
 // is 2147483648 or more.
 ghost use mathlib.Core.Path.{_≡_};
 ghost use Prim.Native.Nat.{_+_, _*_, _<_};
-ghost use lib.ListN.{length};
+ghost use lib.ListN.{getD};
 ghost use Rattle.sheets.specs.Text.{hexDigit, hex};
 ghost use Rattle.buffer.specs.Over.{IsUsize, PutAt};
 ghost use Rattle.hex.specs.Hex.{bytesOf, HasPair};
 ghost use Rattle.words.specs.Words.{lowBytes};
-ghost use lib.ListN.{getD};
 ghost use Rattle.endian.specs.Word.{wordValue, wordBytes, HasWord, fourAt};
 
 // The byte of pair k, as a number of 32 bits.
@@ -56,7 +55,7 @@ fn word_bytes(n: u32, big: bool) -> [u8; 4]
 
 // Writes the four bytes of n in hexadecimal from place at on, as much as fits; the place after them.
 fn put_bytes(out: &mut [u8], at: usize, n: u32, big: bool) -> usize
-    requires { ⌜ IsUsize (at + length (hex (wordBytes big n))) ⌝ }
+    requires { ⌜ IsUsize (at + 8) ⌝ }
     ensures { λ r. ⌜ PutAt at (hex (wordBytes big n)) r (now (out .entry)) (now (out .exit)) ⌝ }
 {
     let b = word_bytes(n, big);
@@ -85,7 +84,7 @@ fn small_text(n: u32, big: bool) -> u64
 
 // Writes such a number: where it fits, its text is one word.
 fn put_small(out: &mut [u8], at: usize, n: u32, big: bool) -> usize
-    requires { ⌜ IsUsize (at + length (hex (wordBytes big n))) × (n < 256) ⌝ }
+    requires { ⌜ IsUsize (at + 8) × (n < 256) ⌝ }
     ensures { λ r. ⌜ PutAt at (hex (wordBytes big n)) r (now (out .entry)) (now (out .exit)) ⌝ }
 {
     let end = at + 8;
@@ -98,7 +97,7 @@ fn put_small(out: &mut [u8], at: usize, n: u32, big: bool) -> usize
 
 // The same; most lengths are below 256.
 pub fn put_word(out: &mut [u8], at: usize, n: u32, big: bool) -> usize
-    requires { ⌜ IsUsize (at + length (hex (wordBytes big n))) ⌝ }
+    requires { ⌜ IsUsize (at + 8) ⌝ }
     ensures { λ r. ⌜ PutAt at (hex (wordBytes big n)) r (now (out .entry)) (now (out .exit)) ⌝ }
 {
     if n < 256 {

@@ -1,11 +1,13 @@
 -- `put_bytes` meets its contract: `put_hex` writes the text of the word's bytes. Assumes nothing.
-use mathlib.Core.Path.{sym, ap, subst, _∙_}
+use mathlib.Core.Path.{ap, _∙_}
 use mathlib.Core.List.{List}
 use Prim.Native.Nat.{ℕ, _+_}
 use lib.ListN.{length}
+use native.Mathlib.Omega.{arith}
 use denote.Ref.{now}
 use Rattle.sheets.specs.Text.{hex}
-use Rattle.buffer.specs.Over.{overAt, IsUsize}
+use Rattle.buffer.specs.Over.{overAt}
+use Rattle.endian.proofs.WordLaws.{length-word-text}
 use borrow.Author.Needs.{needs}
 use Rattle.endian.proofs.put_bytes.Statement.{statement}
 use Rattle.endian.proofs.put_bytes.Tie as tie
@@ -19,7 +21,7 @@ slice-aggregate-put-hex c = search needs
 put-hex-requires : tie.Need-put-hex-requires
 put-hex-requires c κs =
     let st = c .before .before .before .before in
-    subst (λ (l : List ℕ). IsUsize (st .args .at + length (hex l))) (sym (c .before .before .word-bytes .ensures)) (st .pre)
+    omega (arith, st .pre, ap (λ (l : List ℕ). length (hex l)) (c .before .before .word-bytes .ensures), length-word-text (st .args .big) (st .args .n))
 
 same-length : tie.Need-same-length
 same-length c = search needs

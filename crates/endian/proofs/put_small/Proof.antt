@@ -9,7 +9,7 @@ use Rattle.endian.proofs.put_small.Statement.{statement}
 use Rattle.endian.proofs.put_small.Tie as tie
 
 add-end : tie.Need-add-end
-add-end c = omega (arith, c .before .pre .0, length-word-text (c .before .args .big) (c .before .args .n))
+add-end c = omega (arith, c .before .pre .0)
 
 put-bytes-requires : tie.Need-put-bytes-requires
 put-bytes-requires c κs = search needs

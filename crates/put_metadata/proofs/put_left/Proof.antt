@@ -1,6 +1,5 @@
 -- `put_left` meets its contract: every key stands before `~`; the count is that of all pairs. Assumes nothing.
 use Rattle.put_metadata.proofs.ColumnLaws.{left-put}
-use Rattle.endian.proofs.WordLaws.{length-word-text}
 use native.Mathlib.Omega.{arith}
 use borrow.Author.Needs.{needs}
 use Rattle.put_metadata.proofs.put_left.Statement.{statement}
@@ -16,7 +15,7 @@ cast-count : tie.Need-cast-count
 cast-count c = search needs
 
 put-word-requires : tie.Need-put-word-requires
-put-word-requires c κs = omega (arith, c .before .before .before .before .before .before .before .before .before .pre .room, length-word-text (c .before .before .before .before .before .before .before .before .before .args .big) (c .before .before .before .before .put-until .result .count))
+put-word-requires c κs = omega (arith, c .before .before .before .before .before .before .before .before .before .pre .room)
 
 same-length : tie.Need-same-length
 same-length c = search needs

@@ -15,7 +15,7 @@ cast-size : tie.Need-cast-size
 cast-size c = search needs
 
 put-word-requires : tie.Need-put-word-requires
-put-word-requires c κs = omega (arith, c .before .before .before .pre .room, length-word-text (c .before .before .before .args .big) (length (c .before .before .before .args .text .now) / 2))
+put-word-requires c κs = omega (arith, c .before .before .before .pre .room)
 
 put-at-requires : tie.Need-put-at-requires
 put-at-requires c κs = omega (arith, c .before .before .before .before .before .before .before .pre .room, c .before .before .before .put-word .ensures .0, length-word-text (c .before .before .before .before .before .before .before .args .big) (length (c .before .before .before .before .before .before .before .args .text .now) / 2))
