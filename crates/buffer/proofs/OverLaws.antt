@@ -17,6 +17,13 @@ pub over-nothing : (out : Bytes) → over [] out ≡ out
 unfolding over
 over-nothing out = refl
 
+-- where nothing is lent, nothing changes
+pub over-empty : (s out : Bytes) → length out ≡ 0 → out ≡ over s out
+unfolding over
+over-empty [] out h = refl
+over-empty (b ∷ s) [] h = refl
+over-empty (b ∷ s) (o ∷ out) h = absurd (not-suc-le-zero (le-of-eq h))
+
 pub length-over : (s out : Bytes) → length (over s out) ≡ length out
 unfolding over
 length-over [] out = refl

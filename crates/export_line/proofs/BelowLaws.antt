@@ -23,7 +23,7 @@ use Rattle.sheets.specs.Mappings.{toStorage}
 use Rattle.sheets.specs.Metadata.{Extension, schemaMetadata}
 use Rattle.sheets.specs.Schema.{schemaLine, lineOf}
 use Rattle.sheets.specs.Export.{flag}
-use Rattle.sheets.specs.Walk.{Step, writes, lineWritten, typeWalk, rowWalk}
+use Rattle.sheets.specs.Walk.{Step, Walked, extensionsAround, writes, lineWalked, typeWalked, rowWalked}
 use Rattle.sheets.specs.ExportSteps.{Bearer, orValues, extensionIn, schemaOwn, schemaStep}
 use Rattle.sheets.proofs.Tests.{never}
 use Rattle.sheets.proofs.FieldTrees.{fields-lawful}
@@ -259,43 +259,43 @@ module _ (big : Bool) {s : Bytes} (tree : Subtree) {i : Option Info} {t : ArrowD
       ∙ ap (λ (y : Bytes). lineFormat (columns w .kind) (columns w .p) (columns w .q) y (wrote .children)) (wrote .text)
       ∙ ap (λ (k : LineNumbers). lineFormat (k .kind) (k .p) (k .q) (columns inner .text) (k .children)) (sym (wrote .is))
 
-  opened : (y : Answer Bytes) → format ≡ y → typeWalk (schemaStep big) t i none ≡ lineWritten (y >>= λ h. given (stepOf h)) (λ τ. rowWalk (schemaStep big) below τ) (entryLines below)
+  opened : (y : Answer Bytes) → format ≡ y → typeWalked (schemaStep big) t i none ≡ lineWalked (extensionsAround t) (y >>= λ h. given (stepOf h)) (λ τ. rowWalked (schemaStep big) below τ) (entryLines below)
   opened y e =
       export-opened big t i
-      ∙ ap (λ (x : Answer (Step (Option Bearer))). lineWritten x (λ τ. rowWalk (schemaStep big) below τ) (entryLines below)) (wrote .step ∙ ap (λ (x : Answer Bytes). x >>= λ h. given (stepOf h)) (format-is ∙ e))
+      ∙ ap (λ (x : Answer (Step (Option Bearer))). lineWalked (extensionsAround t) x (λ τ. rowWalked (schemaStep big) below τ) (entryLines below)) (wrote .step ∙ ap (λ (x : Answer Bytes). x >>= λ h. given (stepOf h)) (format-is ∙ e))
 
   module _ (w : Subtrees) (left : RowLeft s tree l alone w) (old out : Bytes) where
     -- the line is written
     begun : (h : Bytes) → format ≡ given h → (len : ℕ) (pending : Answer (Unit {0})) → Owns (stepOf h .own) pending len old out → len ≤ ownLimit
-        → Begins (schemaStep big) s (tree .at) (tree .levels) (tree .inside) (typeWalk (schemaStep big) t i none) es old out
-        (record { from = w .at; count = w .count; levels = w .levels; inside = w .inside; state = none; len = len; pending = pending })
+        → Begins (schemaStep big) s (tree .at) (tree .levels) (tree .inside) (typeWalked (schemaStep big) t i none) es old out
+        (record { from = w .at; count = w .count; levels = w .levels; inside = w .inside; state = none; size = record { len = len; lines = v .passed + 1 }; pending = pending })
     begun h e len pending owns short =
-        Storage.begun tree f g (schemaStep big) none (typeWalk (schemaStep big) t i none) (stepOf h) (opened (given h) e) (isDictionary inner && isSome around) w (subst (λ (b : Bool). RowLeft s tree l b w) alone-is left) old out len pending owns short (wrote .left)
+        Storage.begun tree f g (schemaStep big) none (typeWalked (schemaStep big) t i none) (stepOf h) (opened (given h) e) (isDictionary inner && isSome around) w (subst (λ (b : Bool). RowLeft s tree l b w) alone-is left) old out len pending owns short (wrote .left)
 
     -- what was written, or why nothing was
     told : (r : Exported) → At (λ text name pairs extension more. PutsColumns numbers text name pairs extension more r old out)
-        → BeginsAs (schemaStep big) s (tree .at) (tree .levels) (tree .inside) (typeWalk (schemaStep big) t i none) es old out (begunWith w (exportedAnswer r))
+        → BeginsAs (schemaStep big) s (tree .at) (tree .levels) (tree .inside) (typeWalked (schemaStep big) t i none) es old out (begunWith w (v .passed) (exportedAnswer r))
     told r p = go format refl p
       where
         go : (y : Answer Bytes) → format ≡ y → PutsLine y (infoColumns i .0) lineOut r old out
-            → BeginsAs (schemaStep big) s (tree .at) (tree .levels) (tree .inside) (typeWalk (schemaStep big) t i none) es old out (begunWith w (exportedAnswer r))
+            → BeginsAs (schemaStep big) s (tree .at) (tree .levels) (tree .inside) (typeWalked (schemaStep big) t i none) es old out (begunWith w (v .passed) (exportedAnswer r))
         go (refused q) e k =
-            subst (λ (z : Answer (ℕ × Bool)). BeginsAs (schemaStep big) s (tree .at) (tree .levels) (tree .inside) (typeWalk (schemaStep big) t i none) es old out (begunWith w z)) (sym (k .0)) (opened (refused q) e)
+            subst (λ (z : Answer (ℕ × Bool)). BeginsAs (schemaStep big) s (tree .at) (tree .levels) (tree .inside) (typeWalked (schemaStep big) t i none) es old out (begunWith w (v .passed) z)) (sym (k .0)) (ap (λ (y : Walked). y .0) (opened (refused q) e))
         go (given h) e k =
             let zeros : (hasZero h || hasZero (nodeName (infoColumns i .0))) ≡ (not (passes (lacks 0 h)) || not (passes (lacks 0 (info .name)))) =
             ap (λ (y : Bytes). hasZero h || hasZero y) (name-is i (own-rules .0)) in
             let own : Owns (stepOf h .own) (zeroPending (hasZero h || hasZero (nodeName (infoColumns i .0)))) (length (lineOut h)) old out =
             subst (λ (z : Bool). Owns (stepOf h .own) (zeroPending z) (length (lineOut h)) old out) (sym zeros)
             (own-put (passes (lacks 0 (info .name))) (passes (lacks 0 h)) (ownLine h) (length (lineOut h)) old out (ap length (line-is h), k .1 ∙ ap (λ (y : Bytes). over y old) (line-is h))) in
-            subst (λ (z : Answer (ℕ × Bool)). BeginsAs (schemaStep big) s (tree .at) (tree .levels) (tree .inside) (typeWalk (schemaStep big) t i none) es old out (begunWith w z)) (sym (k .0))
+            subst (λ (z : Answer (ℕ × Bool)). BeginsAs (schemaStep big) s (tree .at) (tree .levels) (tree .inside) (typeWalked (schemaStep big) t i none) es old out (begunWith w (v .passed) z)) (sym (k .0))
             (begun h e (length (lineOut h)) (zeroPending (hasZero h || hasZero (nodeName (infoColumns i .0)))) own (line-low h e))
 
     -- the same by the parts of the sheet and by what is answered
     pub begins : (c : LineColumns) (n : LineNumbers) → c ≡ columnsFrom first l → n ≡ numbersOf (first .bare || first .nullable) alone (l .kind) (l .p) (l .q) (l .children) big
-        → (r : Exported) → LinePut s c n r old out → (z : LineBegun) → begunAnswer (λ (levels : ℕ) (inside : Bool). none) z ≡ begunWith w (exportedAnswer r)
-        → BeginsAs (schemaStep big) s (tree .at) (tree .levels) (tree .inside) (typeWalk (schemaStep big) t i none) es old out (begunAnswer (λ (levels : ℕ) (inside : Bool). none) z)
+        → (r : Exported) → LinePut s c n r old out → (z : LineBegun) → begunAnswer (λ (levels : ℕ) (inside : Bool). none) z ≡ begunWith w (v .passed) (exportedAnswer r)
+        → BeginsAs (schemaStep big) s (tree .at) (tree .levels) (tree .inside) (typeWalked (schemaStep big) t i none) es old out (begunAnswer (λ (levels : ℕ) (inside : Bool). none) z)
     begins c n e d r p z k =
-        subst (BeginsAs (schemaStep big) s (tree .at) (tree .levels) (tree .inside) (typeWalk (schemaStep big) t i none) es old out) (sym k)
+        subst (BeginsAs (schemaStep big) s (tree .at) (tree .levels) (tree .inside) (typeWalked (schemaStep big) t i none) es old out) (sym k)
         (told r
         (moved (λ text name pairs extension more. PutsColumns numbers text name pairs extension more r old out) (text-at .is) (shown .name .is) (shown .pairs .is) (extension-at .is) (more-at .is)
         (subst (λ (y : LineNumbers). LinePut s (columnsFrom first l) y r old out) (d ∙ numbers-are) (subst (λ (y : LineColumns). LinePut s y n r old out) e p))))

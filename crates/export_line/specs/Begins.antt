@@ -53,11 +53,11 @@ numbersOf nullable alone kind p q children big =
 abbrev pub zeroPending : Bool → Answer (Unit {0})
 zeroPending zero = cond zero (refused zeroByte) (given tt)
 
--- what was written for the line, and what is left
-abbrev pub begunWith : Subtrees → Answer (ℕ × Bool) → Answer (Begun (Option Bearer))
-begunWith w (refused q) = refused q
-begunWith w (given (len, zero)) =
-    given (record { from = w .at; count = w .count; levels = w .levels; inside = w .inside; state = none; len = len; pending = zeroPending zero })
+-- what was written for the line, after so many extensions, and what is left
+abbrev pub begunWith : Subtrees → ℕ → Answer (ℕ × Bool) → Answer (Begun (Option Bearer))
+begunWith w passed (refused q) = refused q
+begunWith w passed (given (len, zero)) =
+    given (record { from = w .at; count = w .count; levels = w .levels; inside = w .inside; state = none; size = record { len = len; lines = passed + 1 }; pending = zeroPending zero })
 
 -- what export writes for the field at `tree`, and what is left below; no line is visited in a state
 abbrev pub ExportBegins : Bool → Bytes → Subtree → Bytes → Bytes → LineBegun → Type 0

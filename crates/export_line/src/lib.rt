@@ -9,6 +9,7 @@ ghost use Rattle.walks.specs.Answers.{begunAnswer, pendingAnswer};
 ghost use Rattle.walks.specs.Places.{HasType};
 ghost use Rattle.export_line.specs.Begins.{isAlone, columnsFrom, numbersWith, numbersOf, zeroPending, begunWith, ExportBegins};
 use datatypes::kind;
+use outcome::Size;
 use put_format::Exported;
 use put_schema_line::LineColumns;
 use put_schema_line::LineNumbers;
@@ -102,13 +103,21 @@ fn pending_of(zero: bool) -> Pending
     Pending::Nothing
 }
 
-// No format: refused at once. Byte 00: refused after what is below.
-fn line_begun(row: Subtrees, line: Exported) -> LineBegun
-    ensures { λ r. ⌜ begunAnswer (λ levels inside. none) r ≡ begunWith row (exportedAnswer line) ⌝ }
+// No format: refused at once. Byte 00: refused after what is below. The line and the extensions that were passed are visited.
+fn line_begun(row: Subtrees, line: Exported, passed: usize) -> LineBegun
+    requires { ⌜ passed < 65536 ⌝ }
+    ensures { λ r. ⌜ begunAnswer (λ levels inside. none) r ≡ begunWith row passed (exportedAnswer line) ⌝ }
 {
     match line {
         Exported::Refused(why) => LineBegun::Refused(why),
-        Exported::Written(len, zero) => LineBegun::Below(row, len, pending_of(zero)),
+        Exported::Written(len, zero) => LineBegun::Below(
+            row,
+            Size {
+                len,
+                lines: passed + 1,
+            },
+            pending_of(zero),
+        ),
     }
 }
 
@@ -125,5 +134,5 @@ pub fn begin_export(s: &[u8], tree: Subtree, big: bool, out: &mut [u8]) -> LineB
     let columns = line_columns(first, l);
     let numbers = line_numbers(first.bare | first.nullable, alone, l, big);
     let line = put_schema_line::put_schema_line(out, s, columns, numbers);
-    line_begun(row, line)
+    line_begun(row, line, inner.passed)
 }

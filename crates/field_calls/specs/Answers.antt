@@ -9,10 +9,10 @@ use Rattle.sheets.specs.Answer.{Answer, given, _>>=_}
 use Rattle.sheets.specs.Sheet.{levelLimit, ended, headingLine}
 use Rattle.sheets.specs.Schema.{schemaHeading}
 use Rattle.sheets.specs.Field.{Info, ArrowDataType}
-use Rattle.sheets.specs.FieldSheet.{Entry, fieldHeading}
+use Rattle.sheets.specs.FieldSheet.{Entry, fieldHeading, readFieldSheet}
 use Rattle.sheets.specs.Mappings.{toStorageRecursive, underlyingPhysicalType}
-use Rattle.sheets.specs.Outcome.{Outcome, outcome, exported, plained, mapped, paged}
-use Rattle.sheets.specs.Walk.{typeWalk}
+use Rattle.sheets.specs.Outcome.{Outcome, outcome, exported, plained, mapped, paged, linesIn}
+use Rattle.sheets.specs.Walk.{typeWalk, typeVisits}
 use Rattle.outcome.specs.Answers.{SheetTold}
 use Rattle.walks.specs.Places.{TypeAt}
 use Rattle.walks.specs.Answers.{stepAnswer}
@@ -51,5 +51,13 @@ HasField s at = (i : Info) × (t : ArrowDataType) × (es : List Entry) × TypeAt
 abbrev pub sheetFor : Call → Info → ArrowDataType → Answer Bytes
 sheetFor c i t = typeWalk (stepOf c) t (some i) (stateOf c levelLimit false) >>= λ ls. given (openingOf c ++ ended ls)
 
+-- and how many lines it visits for it
+abbrev pub linesFor : Call → Info → ArrowDataType → ℕ
+linesFor c i t = typeVisits (stepOf c) t (some i) (stateOf c levelLimit false)
+
+-- in a sheet
+abbrev pub linesOf : Call → Bytes → ℕ
+linesOf c s = linesIn (λ f. linesFor c (f .info) (f .type)) (readFieldSheet s)
+
 abbrev pub SheetWrote : Call → Bytes → ℕ → Bytes → Bytes → Step → Type 0
-SheetWrote c s at out out' r = (i : Info) (t : ArrowDataType) (es : List Entry) → TypeAt s at levelLimit false (some i) t es → SheetTold (sheetFor c i t) out out' (stepAnswer r)
+SheetWrote c s at out out' r = (i : Info) (t : ArrowDataType) (es : List Entry) → TypeAt s at levelLimit false (some i) t es → SheetTold (sheetFor c i t) (linesFor c i t) out out' (stepAnswer r)

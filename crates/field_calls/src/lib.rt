@@ -1,12 +1,15 @@
-// The calls that take a field sheet's bytes and answer a sheet, or a page, in a lent buffer.
+// The calls that take a field sheet's bytes and answer a sheet, or a page, in a lent buffer; and the measure of one of them, export.
 ghost use mathlib.Core.Path.{_≡_};
-ghost use Rattle.sheets.specs.Outcome.{exportOutcomeIn, plainOutcome, toStorageRecursiveOutcome, underlyingPhysicalTypeOutcome, pageOutcome};
+ghost use Rattle.sheets.specs.Outcome.{exportOutcomeIn, plainOutcome, toStorageRecursiveOutcome, underlyingPhysicalTypeOutcome, pageOutcome, measureExportOutcome};
 ghost use Rattle.buffer.specs.Over.{PutAt};
-ghost use Rattle.outcome.specs.Answers.{outcomeOf};
-ghost use Rattle.field_calls.specs.Answers.{openingOf, callOutcome, HasField, SheetWrote};
+ghost use Rattle.outcome.specs.Answers.{outcomeOf, SheetTold, measureOf};
+ghost use Rattle.walks.specs.Answers.{stepAnswer};
+ghost use Rattle.field_calls.specs.Answers.{openingOf, answerOf, linesOf, callOutcome, HasField, SheetWrote};
 use field_sheet::SheetRead;
 use field_walk::Call;
 use outcome::Answered;
+use outcome::Measured;
+use outcome::Size;
 use walks::Step;
 use walks::Subtree;
 
@@ -41,10 +44,24 @@ fn put_sheet(call: Call, s: &[u8], at: usize, out: &mut [u8]) -> Step
     };
     match field_walk::walk_first(call, s, tree, &mut out[w..]) {
         Step::Refused(r) => Step::Refused(r),
-        Step::Done { next, len } => Step::Done {
+        Step::Done { next, size } => Step::Done {
             next,
-            len: head + len,
+            size: Size {
+                len: head + size.len,
+                lines: size.lines,
+            },
         },
+    }
+}
+
+// What a call answers for the sheet, written over the first bytes of out as far as it fits, and its size; or why it is refused. A call that converts and one
+// that measures are the same up to here.
+fn convert(call: Call, s: &[u8], out: &mut [u8]) -> Step
+    ensures { λ r. ⌜ SheetTold (answerOf call (now (s .entry))) (linesOf call (now (s .entry))) (now (out .entry)) (now (out .exit)) (stepAnswer r) ⌝ }
+{
+    match field_sheet::read_sheet(s) {
+        SheetRead::Refused(r) => Step::Refused(r),
+        SheetRead::Body(at) => put_sheet(call, s, at, out),
     }
 }
 
@@ -52,12 +69,9 @@ fn put_sheet(call: Call, s: &[u8], at: usize, out: &mut [u8]) -> Step
 fn answer(call: Call, s: &[u8], out: &mut [u8]) -> Answered
     ensures { λ r. ⌜ outcomeOf (r .number) (r .length) (now (out .exit)) ≡ callOutcome call (now (s .entry)) (now (out .entry)) ⌝ }
 {
-    match field_sheet::read_sheet(s) {
-        SheetRead::Refused(r) => outcome::refuse(out, r),
-        SheetRead::Body(at) => match put_sheet(call, s, at, out) {
-            Step::Refused(r) => outcome::refuse(out, r),
-            Step::Done { next: _, len } => outcome::written(out, len),
-        },
+    match convert(call, s, out) {
+        Step::Refused(r) => outcome::refuse(out, r),
+        Step::Done { next: _, size } => outcome::written(out, size.len),
     }
 }
 
@@ -66,6 +80,17 @@ pub fn export(s: &[u8], big: bool, out: &mut [u8]) -> Answered
     ensures { λ r. ⌜ outcomeOf (r .number) (r .length) (now (out .exit)) ≡ exportOutcomeIn big (now (s .entry)) (now (out .entry)) ⌝ }
 {
     answer(Call::Export(big), s, out)
+}
+
+// How long the schema sheet of a field sheet is, and how many lines export visits for it: an export that is lent no bytes, and goes on counting.
+pub fn measure_export(s: &[u8], big: bool) -> Measured
+    ensures { λ r. ⌜ measureOf r ≡ measureExportOutcome big (now (s .entry)) ⌝ }
+{
+    let mut none: [u8; 0] = [];
+    match convert(Call::Export(big), s, &mut none[..]) {
+        Step::Refused(r) => outcome::unmeasured(r),
+        Step::Done { next: _, size } => Measured { number: 0, size },
+    }
 }
 
 // The plain form of a field sheet.

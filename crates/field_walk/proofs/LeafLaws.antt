@@ -10,6 +10,7 @@ use lib.ListN.{length, drop}
 use borrow.Author.Tests.{ne-eqb}
 use Rattle.sheets.specs.Bytes.{Bytes}
 use Rattle.sheets.specs.Answer.{Answer, given, _>>=_}
+use Rattle.sheets.specs.Sheet.{ended}
 use Rattle.sheets.specs.Schema.{Schema, schema, end, absent, schemaLines}
 use Rattle.sheets.specs.Kind
 use Rattle.sheets.specs.Field.{Info, Scalar, leaf, ArrowDataType, scalar, nested, grouped, dictionary, extension, hasUnit, isLeaf}
@@ -18,7 +19,7 @@ use Rattle.sheets.specs.Plain.{plain}
 use Rattle.sheets.specs.Mappings.{leafUnder}
 use Rattle.sheets.specs.LineTrees.{Standing}
 use Rattle.sheets.specs.FieldTrees.{Head, typeShape, typeBelow, entryHead, fields}
-use Rattle.sheets.specs.Walk.{typeWalk}
+use Rattle.sheets.specs.Walk.{Step, typeWalk, typeVisits, typeWalked}
 use Rattle.sheets.specs.ExportSteps.{schemaStep}
 use Rattle.sheets.specs.PlainSteps.{plainStep}
 use Rattle.sheets.specs.MappingSteps.{storageChange, underlyingChange, changeStep}
@@ -27,8 +28,10 @@ use Rattle.sheets.specs.PageSteps.{levelOf, pageStep}
 use Rattle.sheets.proofs.Tests.{and-left}
 use Rattle.sheets.proofs.FieldTrees.{fields-lawful}
 use Rattle.sheets.proofs.TreeWalks.{line-below}
+use Rattle.sheets.proofs.WalkLaws.{scalar-visits}
 use Rattle.sheets.proofs.ExportSteps.{type-exported}
 use Rattle.sheets.proofs.MappingSteps.{type-underlying}
+use Rattle.buffer.specs.Over.{PutFirst}
 use Rattle.field_leaf.specs.FieldLeaves.{isShort, leafInfo, leafField, leafHead, FieldLeafAt}
 use Rattle.put_schema_leaf.specs.Written.{SchemaLeafTold, isCopied, LeafCopyTold}
 use Rattle.page_line.specs.PageLeaves.{PageLeafTold}
@@ -38,7 +41,7 @@ use Rattle.mapping_line.specs.Changes.{changedKinds, underlyingKind}
 use Rattle.mapping_line.specs.declared.change.LineChange.{LineChange}
 use Rattle.mapping_line.specs.declared.change.LineChange.the-variants.{Stays}
 use Rattle.mapping_line.proofs.ChangeLaws.{stays-under}
-use Rattle.walks.specs.Places.{ownLimit, TypeAt, LeafWrote}
+use Rattle.walks.specs.Places.{ownLimit, TypeAt, WroteAs, LeafWrote, oneLine}
 use Rattle.walks.specs.Answers.{putOption}
 use Rattle.walks.specs.declared.LeafPut.{LeafPut}
 use Rattle.walks.specs.declared.Subtree.{Subtree}
@@ -90,6 +93,14 @@ module _ {s : Bytes} {at kind from e n : ℕ} (k : FieldLeafAt s at kind from e 
   rest-stands : (next : ℕ) → next ≡ e + 7 → Standing fields (drop next s) es
   rest-stands next a = subst (λ (p : ℕ). Standing fields (drop p s) es) (sym a) (subst (λ (u : ArrowDataType). Standing fields (drop (e + 7) s) (typeBelow u ++ es)) is-type (below .1))
 
+  -- its line, the one that is visited, is written at once
+  leaf-wrote : {S : Type 0} (step : S → Head → Answer (Step S)) (σ : S) (ls : List Bytes) → typeWalk step t i σ ≡ given ls
+      → (next len : ℕ) (out out' : Bytes) → next ≡ e + 7 → PutFirst (ended ls) len out out' → len + ownLimit * at ≤ ownLimit * next
+      → WroteAs s at es (typeWalked step t i σ) out out' (given (next, oneLine len))
+  leaf-wrote step σ ls is next len out out' after put long =
+      let one : typeVisits step t i σ ≡ 1 = subst (λ (u : ArrowDataType). typeWalk step u i σ ≡ given ls → typeVisits step u i σ ≡ 1) (sym is-type) (scalar-visits step (leaf kind 0) i σ ls) is in
+      (ls, is, put, rest-stands next after, long, omega (arith, after, k .high), sym one, omega (arith, after, k .begins, k .long))
+
 not-schema : {d : Bool} → L.Same d ≡ L.Schema → ⊥
 not-schema e = let z : _≡_ {A = ℕ} 0 1 = cc in omega arith
 
@@ -109,16 +120,12 @@ module _ (s : Bytes) (at levels : ℕ) (inside : Bool) (out out' : Bytes) where
   leaf-exported big (some (next, len)) w =
       λ i t es h.
       let k = w .leaf in
-      let written = schemaLines (schema (w .node) end absent) in (
-        written,
-        ap₂ (λ (u : ArrowDataType) (j : Option Info). typeWalk (schemaStep big) u j none) (is-type k i t es (h .stands)) (is-info k i t es (h .stands))
-            ∙ type-exported big (scalar (leaf (w .kind) 0)) (some (leafInfo (k .bytes) (w .nullable))) none
-            ∙ ap (λ (a : Answer Schema). a >>= λ x. given (schemaLines x)) (w .made big),
-        w .put,
-        rest-stands k i t es (h .stands) next (w .after),
-        omega (arith, w .short, w .after, k .begins, k .long),
-        omega (arith, w .after, k .high),
-      )
+      let ls = schemaLines (schema (w .node) end absent) in
+      let is =
+      ap₂ (λ (u : ArrowDataType) (j : Option Info). typeWalk (schemaStep big) u j none) (is-type k i t es (h .stands)) (is-info k i t es (h .stands))
+      ∙ type-exported big (scalar (leaf (w .kind) 0)) (some (leafInfo (k .bytes) (w .nullable))) none
+      ∙ ap (λ (a : Answer Schema). a >>= λ x. given (schemaLines x)) (w .made big) in
+      leaf-wrote k i t es (h .stands) (schemaStep big) none ls is next len out out' (w .after) (w .put) (omega (arith, w .short, w .after, k .begins, k .long))
 
   -- plain form: the line itself
   leaf-plain : (o : Option (ℕ × ℕ)) → LeafCopyTold s at true out out' o → LeafWrote plainStep s at levels inside inside out out' o
@@ -126,14 +133,11 @@ module _ (s : Bytes) (at levels : ℕ) (inside : Bool) (out out' : Bytes) where
   leaf-plain (some (next, len)) w =
       λ i t es h.
       let k = w .leaf in
-      let f = plain (leafField (w .kind) (k .bytes) (w .nullable)) in (
-        typeLines (f .type) (some (f .info)),
-        ap₂ (λ (u : ArrowDataType) (j : Option Info). typeWalk plainStep u j inside) (is-type k i t es (h .stands)) (is-info k i t es (h .stands)),
-        w .put,
-        rest-stands k i t es (h .stands) next (w .after),
-        omega (arith, w .short, w .after, k .begins, k .long),
-        omega (arith, w .after, k .high),
-      )
+      let f = plain (leafField (w .kind) (k .bytes) (w .nullable)) in
+      let ls = typeLines (f .type) (some (f .info)) in
+      let is =
+      ap₂ (λ (u : ArrowDataType) (j : Option Info). typeWalk plainStep u j inside) (is-type k i t es (h .stands)) (is-info k i t es (h .stands)) in
+      leaf-wrote k i t es (h .stands) plainStep inside ls is next len out out' (w .after) (w .put) (omega (arith, w .short, w .after, k .begins, k .long))
 
   -- `to_storage_recursive`: the line itself
   leaf-stored : (o : Option (ℕ × ℕ)) → LeafCopyTold s at true out out' o → LeafWrote (changeStep storageChange) s at levels inside none out out' o
@@ -141,14 +145,11 @@ module _ (s : Bytes) (at levels : ℕ) (inside : Bool) (out out' : Bytes) where
   leaf-stored (some (next, len)) w =
       λ i t es h.
       let k = w .leaf in
-      let f = plain (leafField (w .kind) (k .bytes) (w .nullable)) in (
-        typeLines (f .type) (some (f .info)),
-        ap₂ (λ (u : ArrowDataType) (j : Option Info). typeWalk (changeStep storageChange) u j none) (is-type k i t es (h .stands)) (is-info k i t es (h .stands)),
-        w .put,
-        rest-stands k i t es (h .stands) next (w .after),
-        omega (arith, w .short, w .after, k .begins, k .long),
-        omega (arith, w .after, k .high),
-      )
+      let f = plain (leafField (w .kind) (k .bytes) (w .nullable)) in
+      let ls = typeLines (f .type) (some (f .info)) in
+      let is =
+      ap₂ (λ (u : ArrowDataType) (j : Option Info). typeWalk (changeStep storageChange) u j none) (is-type k i t es (h .stands)) (is-info k i t es (h .stands)) in
+      leaf-wrote k i t es (h .stands) (changeStep storageChange) none ls is next len out out' (w .after) (w .put) (omega (arith, w .short, w .after, k .begins, k .long))
 
   -- `underlying_physical_type`: the line itself, of a leaf that is no date's
   leaf-underlying : (o : Option (ℕ × ℕ)) → LeafCopyTold s at false out out' o → LeafWrote (changeStep underlyingChange) s at levels inside none out out' o
@@ -156,16 +157,13 @@ module _ (s : Bytes) (at levels : ℕ) (inside : Bool) (out out' : Bytes) where
   leaf-underlying (some (next, len)) w =
       λ i t es h.
       let k = w .leaf in
-      let f = plain (leafField (w .kind) (k .bytes) (w .nullable)) in (
-        typeLines (f .type) (some (f .info)),
-        ap₂ (λ (u : ArrowDataType) (j : Option Info). typeWalk (changeStep underlyingChange) u j none) (is-type k i t es (h .stands)) (is-info k i t es (h .stands))
-            ∙ type-underlying (scalar (leaf (w .kind) 0)) (some (leafInfo (k .bytes) (w .nullable))) none
-            ∙ ap (λ (a : Answer ArrowDataType). a >>= λ u. given (typeLines u (some (leafInfo (k .bytes) (w .nullable))))) (short-under (w .kind) (k .short) (w .copied)),
-        w .put,
-        rest-stands k i t es (h .stands) next (w .after),
-        omega (arith, w .short, w .after, k .begins, k .long),
-        omega (arith, w .after, k .high),
-      )
+      let f = plain (leafField (w .kind) (k .bytes) (w .nullable)) in
+      let ls = typeLines (f .type) (some (f .info)) in
+      let is =
+      ap₂ (λ (u : ArrowDataType) (j : Option Info). typeWalk (changeStep underlyingChange) u j none) (is-type k i t es (h .stands)) (is-info k i t es (h .stands))
+      ∙ type-underlying (scalar (leaf (w .kind) 0)) (some (leafInfo (k .bytes) (w .nullable))) none
+      ∙ ap (λ (a : Answer ArrowDataType). a >>= λ u. given (typeLines u (some (leafInfo (k .bytes) (w .nullable))))) (short-under (w .kind) (k .short) (w .copied)) in
+      leaf-wrote k i t es (h .stands) (changeStep underlyingChange) none ls is next len out out' (w .after) (w .put) (omega (arith, w .short, w .after, k .begins, k .long))
 
 -- the page: its line of the leaf
 leaf-paged : (s : Bytes) (tree : Subtree) (out out' : Bytes) (o : Option (ℕ × ℕ)) → PageLeafTold s tree out out' o
@@ -173,14 +171,11 @@ leaf-paged : (s : Bytes) (tree : Subtree) (out out' : Bytes) (o : Option (ℕ ×
 leaf-paged s tree out out' none w = w .1
 leaf-paged s tree out out' (some (next, len)) w =
     λ i t es h.
-    let k = w .leaf in (
-      pageLine (levelOf (tree .levels) (tree .inside) false) (leafHead (w .kind) (k .bytes) (w .nullable)) ∷ [],
-      ap₂ (λ (u : ArrowDataType) (j : Option Info). typeWalk pageStep u j (tree .levels, tree .inside)) (is-type k i t es (h .stands)) (is-info k i t es (h .stands)),
-      w .put,
-      rest-stands k i t es (h .stands) next (w .after),
-      omega (arith, w .short, w .after, k .begins, k .long),
-      omega (arith, w .after, k .high),
-    )
+    let k = w .leaf in
+    let ls = pageLine (levelOf (tree .levels) (tree .inside) false) (leafHead (w .kind) (k .bytes) (w .nullable)) ∷ [] in
+    let is =
+    ap₂ (λ (u : ArrowDataType) (j : Option Info). typeWalk pageStep u j (tree .levels, tree .inside)) (is-type k i t es (h .stands)) (is-info k i t es (h .stands)) in
+    leaf-wrote k i t es (h .stands) pageStep (tree .levels, tree .inside) ls is next len out out' (w .after) (w .put) (omega (arith, w .short, w .after, k .begins, k .long))
 
 -- ── by the call
 

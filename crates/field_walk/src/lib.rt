@@ -4,6 +4,7 @@ ghost use mathlib.Core.Path.{_≡_};
 ghost use Rattle.walks.specs.Places.{HasType, HasRow};
 ghost use Rattle.field_walk.specs.Calls.{isInner, leafLineOf, CallBegins, CallLeafWrote, CallWrote, CallRowWrote};
 use mapping_line::change::Change;
+use outcome::Size;
 use walks::LeafPut;
 use walks::LineBegun;
 use walks::Pending;
@@ -56,13 +57,13 @@ fn begin_line(call: Call, s: &[u8], tree: Subtree, out: &mut [u8]) -> LineBegun
 {
     match begin_one(call, s, tree, out) {
         LineBegun::Refused(r) => LineBegun::Refused(r),
-        LineBegun::Below(row, len, pending) => match pending {
-            Pending::Refused(r) => LineBegun::Below(row, len, Pending::Refused(r)),
+        LineBegun::Below(row, size, pending) => match pending {
+            Pending::Refused(r) => LineBegun::Below(row, size, Pending::Refused(r)),
             Pending::Nothing => {
                 if !is_inner(row) {
-                    return LineBegun::Below(row, len, Pending::Nothing);
+                    return LineBegun::Below(row, size, Pending::Nothing);
                 }
-                let w = buffer::within(len, out.len());
+                let w = buffer::within(size.len, out.len());
                 let inner = Subtree {
                     at: row.at,
                     levels: row.levels,
@@ -72,7 +73,10 @@ fn begin_line(call: Call, s: &[u8], tree: Subtree, out: &mut [u8]) -> LineBegun
                     LineBegun::Refused(r) => LineBegun::Refused(r),
                     LineBegun::Below(next, more, later) => LineBegun::Below(
                         next,
-                        len + more,
+                        Size {
+                            len: size.len + more.len,
+                            lines: size.lines + more.lines,
+                        },
                         later,
                     ),
                 }
@@ -117,7 +121,10 @@ fn next_type(call: Call, s: &[u8], tree: Subtree, out: &mut [u8]) -> Step
     ensures { λ r. ⌜ CallWrote call (now (s .entry)) tree (now (out .entry)) (now (out .exit)) r ⌝ }
 {
     match put_leaf(call, s, tree, out) {
-        LeafPut::Put(next, len) => Step::Done { next, len },
+        LeafPut::Put(next, len) => Step::Done {
+            next,
+            size: Size { len, lines: 1 },
+        },
         LeafPut::Other => walk_type(call, s, tree, out),
     }
 }
@@ -129,11 +136,17 @@ fn walk_type(call: Call, s: &[u8], tree: Subtree, out: &mut [u8]) -> Step
 {
     match begin_line(call, s, tree, out) {
         LineBegun::Refused(r) => Step::Refused(r),
-        LineBegun::Below(row, len, pending) => {
-            let w = buffer::within(len, out.len());
+        LineBegun::Below(row, size, pending) => {
+            let w = buffer::within(size.len, out.len());
             match walk_row(call, s, row, &mut out[w..]) {
                 Step::Refused(r) => Step::Refused(r),
-                Step::Done { next, len: below } => walks::end_line(pending, next, len + below),
+                Step::Done { next, size: below } => {
+                    let both = Size {
+                        len: size.len + below.len,
+                        lines: size.lines + below.lines,
+                    };
+                    walks::end_line(pending, next, both)
+                }
             }
         }
     }
@@ -146,6 +159,7 @@ fn walk_row(call: Call, s: &[u8], row: Subtrees, out: &mut [u8]) -> Step
 {
     let mut here = row.at;
     let mut sum = 0;
+    let mut seen = 0;
     let mut i = 0;
     while i < row.count {
         let w = buffer::within(sum, out.len());
@@ -158,16 +172,20 @@ fn walk_row(call: Call, s: &[u8], row: Subtrees, out: &mut [u8]) -> Step
             Step::Refused(r) => {
                 return Step::Refused(r);
             }
-            Step::Done { next, len } => {
+            Step::Done { next, size } => {
                 here = next;
-                sum = sum + len;
+                sum = sum + size.len;
+                seen = seen + size.lines;
             }
         }
         i += 1;
     }
     Step::Done {
         next: here,
-        len: sum,
+        size: Size {
+            len: sum,
+            lines: seen,
+        },
     }
 }
 

@@ -15,9 +15,11 @@ use Rattle.sheets.specs.Field.{Info}
 use Rattle.sheets.specs.FieldSheet.{Shape, fieldLine, lineOf}
 use Rattle.sheets.specs.Import.{formatText}
 use Rattle.sheets.specs.ImportLines.{nodeShape, below, typeWritten, rowWritten, visited, isBare}
+use Rattle.sheets.specs.Visits.{belowLines, rowLines}
 use Rattle.sheets.specs.SchemaTrees.{schemas, pushChildren, Standing}
 use Rattle.sheets.proofs.Tests.{first-gave}
 use Rattle.sheets.proofs.ImportLaws.{type-written}
+use Rattle.sheets.proofs.ImportVisits.{visited-below}
 use Rattle.buffer.specs.Over.{PutFirst}
 use Rattle.buffer.proofs.OverLaws.{put-over}
 use Rattle.schema_line.specs.declared.SchemaLine.{SchemaLine}
@@ -73,12 +75,19 @@ module _ {s : Bytes} {l : SchemaLine} {levels : ℕ} {x : Line} {cs : Schemas} {
         step : ℕ → Shape → Answer (List Bytes)
         step k sh = rowWritten big (isBare sh) (visited sh cs d) >>= λ ls. given (fieldLine .write (lineOf sh j (below sh k)) ∷ ls)
 
-  fits : (sh : Shape) → lineType x ≡ given sh → Fits sh (countSchemas cs) (countDictionary d)
-  unfolding lineType
-  fits sh e =
-      let (f, is, told) = first-gave (formatText (nodeOf x .format)) (λ f. nodeShape f (nodeOf x .flags) (childrenOf x) (dictionaryOf x)) sh e in
-      let p : nodeShape f (nodeOf x .flags) (countSchemas cs) (countDictionary d) ≡ given sh = ap₂ (λ (k m : ℕ). nodeShape f (nodeOf x .flags) k m) (h .children) (h .dictionary) ∙ told in
-      shape-fits f (nodeOf x .flags) (countSchemas cs) (countDictionary d) sh (one-dictionary d) p
+  module _ (sh : Shape) (e : lineType x ≡ given sh) where
+    -- the type over the node's children
+    shaped : (f : Bytes) × (formatText (nodeOf x .format) ≡ given f) × (nodeShape f (nodeOf x .flags) (countSchemas cs) (countDictionary d) ≡ given sh)
+    unfolding lineType
+    shaped =
+        let (f, is, told) = first-gave (formatText (nodeOf x .format)) (λ f. nodeShape f (nodeOf x .flags) (childrenOf x) (dictionaryOf x)) sh e in
+        (f, is, ap₂ (λ (k m : ℕ). nodeShape f (nodeOf x .flags) k m) (h .children) (h .dictionary) ∙ told)
+
+    fits : Fits sh (countSchemas cs) (countDictionary d)
+    fits = shape-fits (shaped .0) (nodeOf x .flags) (countSchemas cs) (countDictionary d) sh (one-dictionary d) (shaped .2)
+
+    visits : belowLines (schema (nodeOf x) cs d) ≡ rowLines (visited sh cs d)
+    visits = visited-below (nodeOf x) (shaped .0) (shaped .1) cs sh d (shaped .2)
 
   -- ── what is told of its line
 
@@ -132,7 +141,7 @@ module _ {s : Bytes} {l : SchemaLine} {levels : ℕ} {x : Line} {cs : Schemas} {
 
           -- the visited trees stand next
           pub begins : (next : ℕ) → k ≡ To next → (j : Option Info) → own ≡ infoPiece j
-              → LineBegins (w .big) s l levels (typeWritten (w .big) j (schema (nodeOf x) cs d)) (typeLength s l w es) ts out mid next len v
+              → LineBegins (w .big) s l levels (typeWritten (w .big) j (schema (nodeOf x) cs d)) (belowLines (schema (nodeOf x) cs d)) (typeLength s l w es) ts out mid next len v
           begins next e j shows =
               let m = subst (λ (y : Skipped). SkipsRow s (l .end) (v .first) levels (skipAnswer y)) e skips (parts .first) next-trees stands (parts .firstCount) in
               let line-is : typeText sh own (below sh (childrenOf x)) ≡ ended (firstLine (w .big) j sh ∷ []) = line-text sh j (below sh (childrenOf x)) own shows in
@@ -153,6 +162,8 @@ module _ {s : Bytes} {l : SchemaLine} {levels : ℕ} {x : Line} {cs : Schemas} {
                     becomes (w .big) j
                     ∙ ap (λ (a : Answer Shape). a >>= rest (w .big) j) (told .1)
                     ∙ ap (λ (y : Bool). rowWritten (w .big) y (visited sh cs d) >>= λ ls. given (firstLine (w .big) j sh ∷ ls)) (sym (visit-bare sh (countSchemas cs) (countDictionary d) (fits sh (told .1))) ∙ ap (λ (y : Visit). y .bare) visit);
+                lines = visits sh (told .1);
                 put = subst (λ (y : Bytes). PutFirst y len out mid) line-is (put-over (typeText sh own (below sh (childrenOf x))) out (told .2));
                 long = omega (arith, told .4, m .2);
+                after = m .2;
               }

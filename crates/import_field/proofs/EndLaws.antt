@@ -9,6 +9,7 @@ use Rattle.sheets.specs.Schema.{Schema}
 use Rattle.schema_sheet.specs.Subtrees.{skipAnswer, SkipsRow}
 use Rattle.schema_sheet.specs.declared.subtrees.Skipped.{Skipped}
 use Rattle.schema_sheet.specs.declared.subtrees.Skipped.the-variants.{To, Deep}
+use Rattle.outcome.specs.declared.Size.{Size}
 use Rattle.import_field.specs.Contracts.{LeftAt, Ends}
 
 module _ (s : Bytes) (at count levels : ℕ) (us ts : List Schema) (h : LeftAt s at count levels us ts) (k : Skipped) (skips : SkipsRow s at count levels (skipAnswer k)) where
@@ -16,5 +17,5 @@ module _ (s : Bytes) (at count levels : ℕ) (us ts : List Schema) (h : LeftAt s
   pub left-low : k ≡ Deep → ⊥
   left-low e = let l = subst (λ (y : Skipped). SkipsRow s at count levels (skipAnswer y)) e skips .1 us ts (h .stands) (h .counted) in omega (arith, l, h .deep)
 
-  pub left-skipped : (len next : ℕ) → k ≡ To next → Ends s at len ts (given (next, len))
-  left-skipped len next e = let d = subst (λ (y : Skipped). SkipsRow s at count levels (skipAnswer y)) e skips us ts (h .stands) (h .counted) in (refl, d .1, d .2, d .3)
+  pub left-skipped : (size : Size) (next : ℕ) → k ≡ To next → Ends s at size ts (given (next, size))
+  left-skipped size next e = let d = subst (λ (y : Skipped). SkipsRow s at count levels (skipAnswer y)) e skips us ts (h .stands) (h .counted) in (refl, d .1, d .2, d .3)

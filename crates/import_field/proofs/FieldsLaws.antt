@@ -11,9 +11,11 @@ use Rattle.sheets.specs.Sheet.{ended}
 use Rattle.sheets.specs.Schema.{Schema, Schemas, end, _&_}
 use Rattle.sheets.specs.SchemaTrees.{pushChildren}
 use Rattle.sheets.specs.ImportLines.{rowWritten}
+use Rattle.sheets.specs.Visits.{rowLines}
 use Rattle.sheets.proofs.SheetLaws.{ended-append}
 use Rattle.buffer.specs.Over.{PutFirst}
 use Rattle.buffer.proofs.OverLaws.{over-nothing, put-lent}
+use Rattle.outcome.specs.declared.Size.{Size}
 use Rattle.refusal.specs.declared.Refusal.{Refusal as Reason}
 use Rattle.refusal.specs.Refusals.{refusalOf}
 use Rattle.import_field.specs.Contracts.{FieldAt, FieldsAt, HasField, Wrote, FieldWrote}
@@ -33,17 +35,19 @@ both-before a b (given ls) = ap given (sym (append-assoc a b ls))
 abbrev pub treeAt : ℕ → ℕ → Bool → Bool → Tree
 treeAt here levels bare big = record { at = here; levels = levels; bare = bare; big = big }
 
--- i of the n trees us, which stood at `at` with ts after them, are written: their lines are laid over out₀, and vs are left at here
-pub record Going (s : Bytes) (at n levels : ℕ) (bare big : Bool) (out₀ out : Bytes) (here sum i : ℕ) (us : Schemas) (ts : List Schema) : Type 0 where
+-- i of the n trees us, which stood at `at` with ts after them, are written, for `seen` lines: their lines are laid over out₀, and vs are left at here
+pub record Going (s : Bytes) (at n levels : ℕ) (bare big : Bool) (out₀ out : Bytes) (here sum seen i : ℕ) (us : Schemas) (ts : List Schema) : Type 0 where
   pub vs : Schemas
   pub lines : List Bytes
   pub left : FieldsAt s here (n - i) levels vs ts
   pub becomes : rowWritten big bare us ≡ (rowWritten big bare vs >>= λ ls. given (lines ++ ls))
   pub put : PutFirst (ended lines) sum out₀ out
   pub long : sum + 32 * at ≤ 32 * here
+  pub counted : rowLines us ≡ seen + rowLines vs
+  pub each : seen + at ≤ here
 
 module _ (s : Bytes) (at n levels : ℕ) (bare big : Bool) (out₀ : Bytes) (us : Schemas) (ts : List Schema) where
-  pub going-none : FieldsAt s at n levels us ts → Going s at n levels bare big out₀ out₀ at 0 0 us ts
+  pub going-none : FieldsAt s at n levels us ts → Going s at n levels bare big out₀ out₀ at 0 0 0 us ts
   going-none h =
       record {
         vs = us;
@@ -52,9 +56,11 @@ module _ (s : Bytes) (at n levels : ℕ) (bare big : Bool) (out₀ : Bytes) (us 
         becomes = none-before (rowWritten big bare us);
         put = (refl, sym (over-nothing out₀));
         long = omega arith;
+        counted = omega arith;
+        each = omega arith;
       }
 
-  module _ (out : Bytes) (here sum i : ℕ) (g : Going s at n levels bare big out₀ out here sum i us ts) where
+  module _ (out : Bytes) (here sum seen i : ℕ) (g : Going s at n levels bare big out₀ out here sum seen i us ts) where
     -- the first tree that is left
     first-at : (t : Schema) (vs : Schemas) → FieldsAt s here (n - i) levels (t & vs) ts → FieldAt s here levels t (pushChildren vs ts)
     first-at t vs h = record { stands = h .stands; deep = omega (arith, h .deep); short = h .short }
@@ -67,18 +73,18 @@ module _ (s : Bytes) (at n levels : ℕ) (bare big : Bool) (out₀ : Bytes) (us 
         go (t & vs) h = (t, pushChildren vs ts, first-at t vs h)
 
     -- it is written
-    pub going-more : i < n → (w : ℕ) → w ≡ min sum (length out) → (part : Bytes) (r : Step) (next len : ℕ) → r ≡ Done next len
+    pub going-more : i < n → (w : ℕ) → w ≡ min sum (length out) → (part : Bytes) (r : Step) (next : ℕ) (size : Size) → r ≡ Done next size
         → FieldWrote s (treeAt here levels bare big) (take (length out - w) (drop w out)) part r
-        → Going s at n levels bare big out₀ (take w out ++ (part ++ drop (length out - w) (drop w out))) next (sum + len) (i + 1) us ts
-    going-more l w e part r next len isDone wrote = go (g .vs) (g .left) (g .becomes)
+        → Going s at n levels bare big out₀ (take w out ++ (part ++ drop (length out - w) (drop w out))) next (sum + size .len) (seen + size .lines) (i + 1) us ts
+    going-more l w e part r next size isDone wrote = go (g .vs) (g .left) (g .becomes) (g .counted)
       where
-        go : (vs : Schemas) → FieldsAt s here (n - i) levels vs ts → rowWritten big bare us ≡ (rowWritten big bare vs >>= λ ls. given (g .lines ++ ls))
-            → Going s at n levels bare big out₀ (take w out ++ (part ++ drop (length out - w) (drop w out))) next (sum + len) (i + 1) us ts
-        go end h b = absurd (omega (arith, h .counted))
-        go (t & vs) h b =
-            let f : FieldWrote s (treeAt here levels bare big) (take (length out - w) (drop w out)) part (Done next len) =
+        go : (vs : Schemas) → FieldsAt s here (n - i) levels vs ts → rowWritten big bare us ≡ (rowWritten big bare vs >>= λ ls. given (g .lines ++ ls)) → rowLines us ≡ seen + rowLines vs
+            → Going s at n levels bare big out₀ (take w out ++ (part ++ drop (length out - w) (drop w out))) next (sum + size .len) (seen + size .lines) (i + 1) us ts
+        go end h b m = absurd (omega (arith, h .counted))
+        go (t & vs) h b m =
+            let f : FieldWrote s (treeAt here levels bare big) (take (length out - w) (drop w out)) part (Done next size) =
             subst (λ (x : Step). FieldWrote s (treeAt here levels bare big) (take (length out - w) (drop w out)) part x) isDone wrote in
-            let (ls, is, put, there, long, within) = f t (pushChildren vs ts) (first-at t vs h) in
+            let (ls, is, put, there, long, within, lines, each) = f t (pushChildren vs ts) (first-at t vs h) in
             record {
               vs = vs;
               lines = g .lines ++ ls;
@@ -87,8 +93,10 @@ module _ (s : Bytes) (at n levels : ℕ) (bare big : Bool) (out₀ : Bytes) (us 
                   b
                   ∙ ap (λ (o : Answer (List Bytes)). (o >>= λ a. rowWritten big bare vs >>= λ b. given (a ++ b)) >>= λ b. given (g .lines ++ b)) is
                   ∙ both-before (g .lines) ls (rowWritten big bare vs);
-              put = subst (λ (x : Bytes). PutFirst x (sum + len) out₀ (take w out ++ (part ++ drop (length out - w) (drop w out)))) (sym (ended-append (g .lines) ls)) (put-lent (ended (g .lines)) (ended ls) out₀ (g .put) e put refl);
+              put = subst (λ (x : Bytes). PutFirst x (sum + size .len) out₀ (take w out ++ (part ++ drop (length out - w) (drop w out)))) (sym (ended-append (g .lines) ls)) (put-lent (ended (g .lines)) (ended ls) out₀ (g .put) e put refl);
               long = omega (arith, g .long, long);
+              counted = omega (arith, m, lines);
+              each = omega (arith, g .each, each);
             }
 
     -- it is refused
@@ -104,10 +112,10 @@ module _ (s : Bytes) (at n levels : ℕ) (bare big : Bool) (out₀ : Bytes) (us 
             b ∙ ap (λ (o : Answer (List Bytes)). (o >>= λ a. rowWritten big bare vs >>= λ b. given (a ++ b)) >>= λ b. given (g .lines ++ b)) (f t (pushChildren vs ts) (first-at t vs h))
 
     -- all are written
-    pub going-all : n ≤ i → Wrote s at 0 ts (rowWritten big bare us) out₀ out (Done here sum)
-    going-all l = go (g .vs) (g .left) (g .becomes)
+    pub going-all : n ≤ i → Wrote s at 0 ts (rowWritten big bare us) (rowLines us) out₀ out (Done here (record { len = sum; lines = seen }))
+    going-all l = go (g .vs) (g .left) (g .becomes) (g .counted)
       where
-        go : (vs : Schemas) → FieldsAt s here (n - i) levels vs ts → rowWritten big bare us ≡ (rowWritten big bare vs >>= λ ls. given (g .lines ++ ls))
-            → Wrote s at 0 ts (rowWritten big bare us) out₀ out (Done here sum)
-        go end h b = (g .lines, b ∙ ap given (append-nil (g .lines)), g .put, h .stands, omega (arith, g .long), h .within)
-        go (t & vs) h b = absurd (omega (arith, h .counted))
+        go : (vs : Schemas) → FieldsAt s here (n - i) levels vs ts → rowWritten big bare us ≡ (rowWritten big bare vs >>= λ ls. given (g .lines ++ ls)) → rowLines us ≡ seen + rowLines vs
+            → Wrote s at 0 ts (rowWritten big bare us) (rowLines us) out₀ out (Done here (record { len = sum; lines = seen }))
+        go end h b m = (g .lines, b ∙ ap given (append-nil (g .lines)), g .put, h .stands, omega (arith, g .long), h .within, omega (arith, m), g .each)
+        go (t & vs) h b m = absurd (omega (arith, h .counted))

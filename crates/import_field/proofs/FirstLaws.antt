@@ -1,6 +1,7 @@
 -- A field is a row of one field. Assumes nothing.
 use mathlib.Core.Path.{_≡_, refl, ap, subst}
 use mathlib.Core.List.{List, [], _++_, append-nil}
+use Prim.Native.Nat.{ℕ}
 use native.Mathlib.Omega.{arith}
 use lib.ListN.{length-drop}
 use Rattle.sheets.specs.Bytes.{Bytes}
@@ -8,6 +9,7 @@ use Rattle.sheets.specs.Answer.{Answer, refused, given, _>>=_}
 use Rattle.sheets.specs.Schema.{Schema, end, _&_}
 use Rattle.sheets.proofs.FormLaws.{standing-row, row-many}
 use Rattle.sheets.specs.ImportLines.{written}
+use Rattle.sheets.specs.Visits.{importLines, rowLines}
 use Rattle.import_field.specs.Contracts.{FieldAt, FieldsAt, HasField, HasFields, Wrote, FieldWrote, FieldsWrote}
 use Rattle.import_field.specs.declared.Tree.{Tree}
 use Rattle.import_field.specs.declared.Trees.{Trees}
@@ -35,6 +37,10 @@ module _ (s : Bytes) (t : Tree) where
   one-written (refused r) = refl
   one-written (given a) = ap given (append-nil a)
 
+  one-counted : (u : Schema) → rowLines (u & end) ≡ importLines u
+  one-counted u = omega arith
+
   pub row-wrote : (out out' : Bytes) (r : Step) → FieldsWrote s (rowOf t) out out' r → FieldWrote s t out out' r
   row-wrote out out' r h u ts f =
-      subst (λ (o : Answer (List Bytes)). Wrote s (t .at) 0 ts o out out' r) (one-written (written (t .big) (t .bare) u)) (h (u & end) ts (row-at u ts f))
+      subst (λ (n : ℕ). Wrote s (t .at) 0 ts (written (t .big) (t .bare) u) n out out' r) (one-counted u)
+      (subst (λ (o : Answer (List Bytes)). Wrote s (t .at) 0 ts o (rowLines (u & end)) out out' r) (one-written (written (t .big) (t .bare) u)) (h (u & end) ts (row-at u ts f)))

@@ -21,6 +21,8 @@ use Rattle.sheets.specs.FieldSheet.{fieldLine, lineOf, ofScalar as scalarShape}
 use Rattle.sheets.specs.SchemaTrees.{pushChildren, pushDictionary, Standing}
 use Rattle.sheets.proofs.FormLaws.{standing-on}
 use Rattle.sheets.specs.ImportLines.{written}
+use Rattle.sheets.specs.Visits.{importLines}
+use Rattle.sheets.proofs.ImportVisits.{own-line, no-line-below}
 use Rattle.sheets.proofs.Utf8Laws.{ascii-utf8}
 use Rattle.decimal.proofs.WriteLaws.{decimal-length}
 use Rattle.buffer.specs.Over.{PutFirst}
@@ -28,6 +30,7 @@ use Rattle.columns.specs.Columns.{part}
 use Rattle.leaf_line.proofs.LeafLaws.{leaf-says, name-some}
 use Rattle.field_leaf.specs.LeafText.{unusedText, headText, tailText, leafText}
 use Rattle.field_leaf.proofs.LeafLaws.{line-text}
+use Rattle.outcome.specs.declared.Size.{Size}
 use Rattle.put_leaf.specs.Written.{LeafWritten, isPut, LeafPuts}
 use Rattle.put_leaf.specs.declared.LeafPut.{LeafPut}
 use Rattle.put_leaf.specs.declared.LeafPut.the-variants.{Put, Other}
@@ -48,6 +51,10 @@ fieldText kind name flags = fieldLine .write (lineOf (scalarShape (leaf kind 0))
 leaf-becomes : (big : Bool) (f n : Bytes) (kind flags : ℕ) → isUtf8 f ≡ true → isUtf8 n ≡ true → ((sorted : Bool) → readFormat sorted f ≡ given (ofScalar (leaf kind 0)))
     → written big false (schema (record { format = some f; name = some n; flags = pos flags; metadata = none }) end absent) ≡ given (fieldText kind n flags ∷ [])
 leaf-becomes big f n kind flags hf hn means = rw (hf, means (isSorted (pos flags)), hn)
+
+-- one line is visited
+abbrev pub sizeOf : ℕ → Size
+sizeOf len = record { len = len; lines = 1 }
 
 -- ── the tree that stands there
 
@@ -73,7 +80,7 @@ module _ {s : Bytes} {at : ℕ} {out out' : Bytes} {next len : ℕ} (big : Bool)
     node x = schema (nodeOf x) end absent
 
     opened : (cs : Schemas) (d : Dictionary) → countSchemas cs ≡ 0 → countDictionary d ≡ 0 → t ≡ schema (nodeOf (w .leaf .line .line)) cs d
-        → Standing (drop (w .e + 9) s) (pushChildren cs (pushDictionary d ts)) → Wrote s at 0 ts (written big false t) out out' (Done next len)
+        → Standing (drop (w .e + 9) s) (pushChildren cs (pushDictionary d ts)) → Wrote s at 0 ts (written big false t) (importLines t) out out' (Done next (sizeOf len))
     opened (c & cs) d n m e h = absurd (omega arith)
     opened end (present c) n m e h = absurd (omega arith)
     opened end absent n m e h =
@@ -85,10 +92,12 @@ module _ {s : Bytes} {at : ℕ} {out out' : Bytes} {next len : ℕ} (big : Bool)
           subst (λ (i : ℕ). Standing (drop i s) ts) (sym (w .after)) h,
           omega (arith, text-short),
           omega (arith, w .after, k .high),
+          omega (arith, ap importLines e, own-line (nodeOf (k .line .line)) end absent, no-line-below (nodeOf (k .line .line))),
+          omega (arith, w .after, k .some),
         )
 
   -- all that `to_field` tells
-  pub leaf-field : (levels : ℕ) → FieldWrote s (treeAt at levels false big) out out' (Done next len)
+  pub leaf-field : (levels : ℕ) → FieldWrote s (treeAt at levels false big) out out' (Done next (sizeOf len))
   leaf-field levels t ts f =
       let p = w .leaf .line in
       let q = p .stands in
@@ -98,10 +107,10 @@ module _ {s : Bytes} {at : ℕ} {out out' : Bytes} {next len : ℕ} (big : Bool)
 -- ── at the places of `next_field`
 
 module _ (s : Bytes) (t : Tree) (out mid : Bytes) (r : LeafPut) (h : LeafPuts s (t .at) (t .bare) out mid r) where
-  pub leaf-done : (next len : ℕ) → r ≡ Put next len → FieldWrote s t out mid (Done next len)
+  pub leaf-done : (next len : ℕ) → r ≡ Put next len → FieldWrote s t out mid (Done next (sizeOf len))
   leaf-done next len e =
       let p : (t .bare ≡ false) × LeafWritten s (t .at) out mid next len = subst (LeafPuts s (t .at) (t .bare) out mid) e h in
-      subst (λ (b : Bool). FieldWrote s (treeAt (t .at) (t .levels) b (t .big)) out mid (Done next len)) (sym (p .0)) (leaf-field (t .big) (p .1) (t .levels))
+      subst (λ (b : Bool). FieldWrote s (treeAt (t .at) (t .levels) b (t .big)) out mid (Done next (sizeOf len))) (sym (p .0)) (leaf-field (t .big) (p .1) (t .levels))
 
   pub leaf-other : r ≡ Other → (last : Bytes) (z : Step) → FieldWrote s t mid last z → FieldWrote s t out last z
   leaf-other e last z f =

@@ -17,6 +17,7 @@ use Rattle.sheets.specs.Schema.{Line, nodeOf, dictionaryOf, schemaLine, Schema,
 use Rattle.sheets.specs.Field.{Info}
 use Rattle.sheets.specs.FieldSheet.{fieldLine, lineOf, ofExtension}
 use Rattle.sheets.specs.ImportLines.{shown, written, typeWritten}
+use Rattle.sheets.specs.Visits.{importLines, belowLines}
 use Rattle.sheets.specs.SchemaTrees.{Standing}
 use Rattle.sheets.proofs.NumberLaws.{read-decimal}
 use Rattle.sheets.proofs.InverseLaws.{text-read}
@@ -24,8 +25,10 @@ use Rattle.sheets.proofs.SchemaLaws.{schema-line-read}
 use Rattle.sheets.proofs.SheetLaws.{ended-append}
 use Rattle.sheets.proofs.FormLaws.{standing-on, Opened}
 use Rattle.sheets.proofs.ImportLaws.{own-refused, own-plain, own-extended}
+use Rattle.sheets.proofs.ImportVisits.{own-line}
 use Rattle.buffer.specs.Over.{PutFirst}
 use Rattle.buffer.proofs.OverLaws.{put-lent}
+use Rattle.outcome.specs.declared.Size.{Size}
 use Rattle.refusal.specs.declared.Refusal.{Refusal as Reason}
 use Rattle.refusal.specs.Refusals.{refusalOf}
 use Rattle.columns.specs.Columns.{part}
@@ -119,7 +122,7 @@ module _ {s : Bytes} {at : ℕ} {l : SchemaLine} (p : LineAt s at l) where
         pub head : Answer (List Bytes)
         pub shows : own ≡ infoPiece j
         pub becomes : written big bare u ≡ (typeWritten big j tree >>= λ ls. head >>= λ a. given (a ++ ls))
-        pub pends : endedField (pendingAnswer (b .pending)) 0 0 ≡ (head >>= λ a. given (0, 0))
+        pub pends : pendingAnswer (b .pending) ≡ (head >>= λ a. given tt)
         pub put : (a : List Bytes) → head ≡ given a → PutFirst (ended a) (b .len) out mid
 
       given-same : {A : Type 0} (x y : A) → given x ≡ given y → x ≡ y
@@ -139,7 +142,7 @@ module _ {s : Bytes} {at : ℕ} {l : SchemaLine} (p : LineAt s at l) where
                 head = refused q;
                 shows = shows;
                 becomes = ap (written big bare) (opened .isNode) ∙ own-refused big bare (nodeOf (p .line)) (opened .children) (opened .dictionary) q is none;
-                pends = ap (λ (y : Answer (Unit {0})). endedField y 0 0) e;
+                pends = e;
                 put = λ a h. let z : _≡_ {A = ℕ} 0 1 = cc in absurd (omega arith);
               }
           go (given x) e (i, none, is, (put, shows)) =
@@ -148,7 +151,7 @@ module _ {s : Bytes} {at : ℕ} {l : SchemaLine} (p : LineAt s at l) where
                 head = given [];
                 shows = shows;
                 becomes = ap (written big bare) (opened .isNode) ∙ own-plain big bare (nodeOf (p .line)) (opened .children) (opened .dictionary) i is ∙ nothing-before (typeWritten big (shown bare i) tree);
-                pends = ap (λ (y : Answer (Unit {0})). endedField y 0 0) e;
+                pends = e;
                 put = λ a h. subst (λ (c : List Bytes). PutFirst (ended c) (b .len) out mid) (given-same [] a h) put;
               }
           go (given x) e (i, some ex, is, (put, shows)) =
@@ -157,7 +160,7 @@ module _ {s : Bytes} {at : ℕ} {l : SchemaLine} (p : LineAt s at l) where
                 head = given (fieldLine .write (lineOf (ofExtension (ex .0) (ex .1)) (shown bare i) 1) ∷ []);
                 shows = shows;
                 becomes = ap (written big bare) (opened .isNode) ∙ own-extended big bare (nodeOf (p .line)) (opened .children) (opened .dictionary) i ex is;
-                pends = ap (λ (y : Answer (Unit {0})). endedField y 0 0) e;
+                pends = e;
                 put = λ a h. subst (λ (c : List Bytes). PutFirst (ended c) (b .len) out mid) (given-same (fieldLine .write (lineOf (ofExtension (ex .0) (ex .1)) (shown bare i) 1) ∷ []) a h) put;
               }
 
@@ -175,54 +178,65 @@ module _ {s : Bytes} {at : ℕ} {l : SchemaLine} (p : LineAt s at l) where
           }
 
       module _ (lent last : Bytes) (r : Step) (w : TypeWrote s l (b .shown) (levels - 1) es lent last r) where
-        told : Wrote s (l .end) (108 + 21 * length (columnIn s (l .format)) + length own) ts (typeWritten big (front .j) tree) lent last r
+        told : Wrote s (l .end) (108 + 21 * length (columnIn s (l .format)) + length own) ts (typeWritten big (front .j) tree) (belowLines tree) lent last r
         told =
-            subst (λ (y : Bool). Wrote s (l .end) (108 + 21 * length (columnIn s (l .format)) + length own) ts (typeWritten y (front .j) tree) lent last r) (k .order)
+            subst (λ (y : Bool). Wrote s (l .end) (108 + 21 * length (columnIn s (l .format)) + length own) ts (typeWritten y (front .j) tree) (belowLines tree) lent last r) (k .order)
             (w (p .line) (opened .children) (opened .dictionary) ts (front .j) type-at (front .shows))
 
         -- the type is refused
         pub type-turned : (q : Reason) → r ≡ Turned q → written big bare u ≡ refused (refusalOf q)
         type-turned q e =
-            let t : typeWritten big (front .j) tree ≡ refused (refusalOf q) = subst (λ (y : Step). Wrote s (l .end) (108 + 21 * length (columnIn s (l .format)) + length own) ts (typeWritten big (front .j) tree) lent last y) e told in
+            let t : typeWritten big (front .j) tree ≡ refused (refusalOf q) = subst (λ (y : Step). Wrote s (l .end) (108 + 21 * length (columnIn s (l .format)) + length own) ts (typeWritten big (front .j) tree) (belowLines tree) lent last y) e told in
             front .becomes ∙ ap (λ (m : Answer (List Bytes)). m >>= λ ls. front .head >>= λ a. given (a ++ ls)) t
 
-        module _ (next len : ℕ) (e : r ≡ Done next len) where
-          done : Wrote s (l .end) (108 + 21 * length (columnIn s (l .format)) + length own) ts (typeWritten big (front .j) tree) lent last (Done next len)
-          done = subst (λ (y : Step). Wrote s (l .end) (108 + 21 * length (columnIn s (l .format)) + length own) ts (typeWritten big (front .j) tree) lent last y) e told
+        module _ (next : ℕ) (size : Size) (e : r ≡ Done next size) where
+          done : Wrote s (l .end) (108 + 21 * length (columnIn s (l .format)) + length own) ts (typeWritten big (front .j) tree) (belowLines tree) lent last (Done next size)
+          done = subst (λ (y : Step). Wrote s (l .end) (108 + 21 * length (columnIn s (l .format)) + length own) ts (typeWritten big (front .j) tree) (belowLines tree) lent last y) e told
 
-          -- the sum of both lengths does not wrap
-          pub field-long : b .len + len + 32 * at ≤ 32 * next
+          -- neither sum wraps
+          pub field-long : b .len + size .len + 32 * at ≤ 32 * next
           field-long = let d = done in omega (arith, k .long, d .4, line-long)
+
+          pub field-each : 1 + size .lines + at ≤ next
+          field-each = let d = done in omega (arith, d .7, line-long)
 
           pub field-next : next ≤ length s
           field-next = done .5
 
+          abbrev whole : Size
+          whole = record { len = b .len + size .len; lines = 1 + size .lines }
+
+          counted : 1 + size .lines ≡ importLines u
+          counted = let d = done in omega (arith, d .6, own-line (nodeOf (p .line)) (opened .children) (opened .dictionary), ap importLines (opened .isNode))
+
           -- all is written, or what was pending is refused
           pub field-ended : (v : ℕ) → v ≡ min (b .len) (length mid) → lent ≡ take (length mid - v) (drop v mid)
-              → (z : Step) → FieldEnds (b .pending) next (b .len + len) z
-              → Wrote s at 0 ts (written big bare u) out (take v mid ++ (last ++ drop (length mid - v) (drop v mid))) z
+              → (z : Step) → FieldEnds (b .pending) next whole z
+              → Wrote s at 0 ts (written big bare u) (importLines u) out (take v mid ++ (last ++ drop (length mid - v) (drop v mid))) z
           field-ended v e₁ e₂ z h =
-              subst (WroteAs s at 0 ts (written big bare u) out (take v mid ++ (last ++ drop (length mid - v) (drop v mid)))) (sym h)
+              subst (WroteAs s at 0 ts (written big bare u) (importLines u) out (take v mid ++ (last ++ drop (length mid - v) (drop v mid)))) (sym h)
               (go (pendingAnswer (b .pending)) (front .head) (front .becomes) (front .pends) (front .put))
             where
               go : (y : Answer (Unit {0})) (head : Answer (List Bytes)) → written big bare u ≡ (typeWritten big (front .j) tree >>= λ ls. head >>= λ a. given (a ++ ls))
-                  → endedField y 0 0 ≡ (head >>= λ a. given (0, 0)) → ((a : List Bytes) → head ≡ given a → PutFirst (ended a) (b .len) out mid)
-                  → WroteAs s at 0 ts (written big bare u) out (take v mid ++ (last ++ drop (length mid - v) (drop v mid))) (endedField y next (b .len + len))
+                  → y ≡ (head >>= λ a. given tt) → ((a : List Bytes) → head ≡ given a → PutFirst (ended a) (b .len) out mid)
+                  → WroteAs s at 0 ts (written big bare u) (importLines u) out (take v mid ++ (last ++ drop (length mid - v) (drop v mid))) (endedField y next whole)
               go (refused q) (refused q') is p head-put =
                   let same : q ≡ q' = refused-same q q' p in
                   is ∙ ap (λ (m : Answer (List Bytes)). m >>= λ ls. refused q' >>= λ a. given (a ++ ls)) (done .1) ∙ ap refused (sym same)
                 where
-                  refused-same : (q q' : Refusal) → _≡_ {A = Answer (ℕ × ℕ)} (refused q) (refused q') → q ≡ q'
+                  refused-same : (q q' : Refusal) → _≡_ {A = Answer (Unit {0})} (refused q) (refused q') → q ≡ q'
                   refused-same q q' e = cc
               go (refused q) (given a) is p head-put = let z : _≡_ {A = ℕ} 0 1 = cc in absurd (omega arith)
               go (given x) (refused q) is p head-put = let z : _≡_ {A = ℕ} 0 1 = cc in absurd (omega arith)
               go (given x) (given a) is p head-put =
-                  let (ls, t, put, there, long, within) = done in (
+                  let (ls, t, put, there, long, within, lines, each) = done in (
                     a ++ ls,
                     is ∙ ap (λ (m : Answer (List Bytes)). m >>= λ ls. given (a ++ ls)) t,
-                    subst (λ (y : Bytes). PutFirst y (b .len + len) out (take v mid ++ (last ++ drop (length mid - v) (drop v mid)))) (sym (ended-append a ls))
-                        (put-lent (ended a) (ended ls) out (head-put a refl) e₁ (subst (λ (y : Bytes). PutFirst (ended ls) len y last) e₂ put) refl),
+                    subst (λ (y : Bytes). PutFirst y (b .len + size .len) out (take v mid ++ (last ++ drop (length mid - v) (drop v mid)))) (sym (ended-append a ls))
+                        (put-lent (ended a) (ended ls) out (head-put a refl) e₁ (subst (λ (y : Bytes). PutFirst (ended ls) (size .len) y last) e₂ put) refl),
                     there,
                     omega (arith, field-long),
                     within,
+                    counted,
+                    field-each,
                   )

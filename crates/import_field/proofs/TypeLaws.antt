@@ -10,9 +10,11 @@ use Rattle.sheets.specs.Answer.{Answer, refused, given, _>>=_}
 use Rattle.sheets.specs.Sheet.{ended}
 use Rattle.sheets.specs.Schema.{Schema}
 use Rattle.sheets.specs.ImportLines.{rowWritten}
+use Rattle.sheets.specs.Visits.{rowLines}
 use Rattle.sheets.proofs.SheetLaws.{ended-append}
 use Rattle.buffer.specs.Over.{PutFirst}
 use Rattle.buffer.proofs.OverLaws.{put-lent}
+use Rattle.outcome.specs.declared.Size.{Size}
 use Rattle.refusal.specs.declared.Refusal.{Refusal as Reason}
 use Rattle.refusal.specs.Refusals.{refusalOf}
 use Rattle.schema_line.specs.declared.SchemaLine.{SchemaLine}
@@ -42,7 +44,7 @@ type-short {s = s} {l = l} {w = w} {es = es} h =
       h .ready .pairs .short,
     )
 
-module _ {big : Bool} {s : Bytes} {l : SchemaLine} {levels : ℕ} {o : Answer (List Bytes)} {extra : ℕ} {ts : List Schema} {out mid : Bytes} {from len : ℕ} {v : Visit} (g : LineBegins big s l levels o extra ts out mid from len v) where
+module _ {big : Bool} {s : Bytes} {l : SchemaLine} {levels : ℕ} {o : Answer (List Bytes)} {n extra : ℕ} {ts : List Schema} {out mid : Bytes} {from len : ℕ} {v : Visit} (g : LineBegins big s l levels o n extra ts out mid from len v) where
   -- the visited trees are there
   pub fields-there : HasFields s (rowAt from levels v big)
   fields-there = (g .us, g .vs ++ ts, g .visited)
@@ -56,8 +58,8 @@ module _ {big : Bool} {s : Bytes} {l : SchemaLine} {levels : ℕ} {o : Answer (L
       let w : FieldsWrote s (rowAt from levels v big) lent part (Refused q) = subst (λ (y : Step). FieldsWrote s (rowAt from levels v big) lent part y) e h in
       g .becomes ∙ ap after (w (g .us) (g .vs ++ ts) (g .visited))
 
-  module _ (lent part : Bytes) (r : Step) (next below : ℕ) (e : r ≡ Done next below) (h : FieldsWrote s (rowAt from levels v big) lent part r) where
-    fields-done : Wrote s from 0 (g .vs ++ ts) (rowWritten big (v .bare) (g .us)) lent part (Done next below)
+  module _ (lent part : Bytes) (r : Step) (next : ℕ) (below : Size) (e : r ≡ Done next below) (h : FieldsWrote s (rowAt from levels v big) lent part r) where
+    fields-done : Wrote s from 0 (g .vs ++ ts) (rowWritten big (v .bare) (g .us)) (rowLines (g .us)) lent part (Done next below)
     fields-done = subst (λ (y : Step). FieldsWrote s (rowAt from levels v big) lent part y) e h (g .us) (g .vs ++ ts) (g .visited)
 
     -- the others are there
@@ -68,25 +70,29 @@ module _ {big : Bool} {s : Bytes} {l : SchemaLine} {levels : ℕ} {o : Answer (L
     left-there = (g .vs, ts, left-at)
 
     -- the sum of both lengths does not wrap
-    pub both-long : len + below ≤ 2097120 + extra
+    pub both-long : len + below .len ≤ 2097120 + extra
     both-long = let d = fields-done in omega (arith, g .long, d .4, d .5, g .visited .short)
 
     -- all is written
     pub type-ended : (w : ℕ) → w ≡ min len (length mid) → lent ≡ take (length mid - w) (drop w mid)
-        → (z : Step) → TypeEnds s next (v .last) levels (len + below) z
-        → Wrote s (l .end) extra ts o out (take w mid ++ (part ++ drop (length mid - w) (drop w mid))) z
+        → (z : Step) → TypeEnds s next (v .last) levels (record { len = len + below .len; lines = below .lines }) z
+        → Wrote s (l .end) extra ts o n out (take w mid ++ (part ++ drop (length mid - w) (drop w mid))) z
     type-ended w e₁ e₂ z k = go (stepAnswer z) (k (g .vs) ts left-at)
       where
-        go : (y : Answer (ℕ × ℕ)) → Ends s next (len + below) ts y
-            → WroteAs s (l .end) extra ts o out (take w mid ++ (part ++ drop (length mid - w) (drop w mid))) y
+        go : (y : Answer (ℕ × Size)) → Ends s next (record { len = len + below .len; lines = below .lines }) ts y
+            → WroteAs s (l .end) extra ts o n out (take w mid ++ (part ++ drop (length mid - w) (drop w mid))) y
         go (refused q) k = absurd k
-        go (given (past, sum)) k =
-            let (ls, is, put, there, long, within) = fields-done in (
+        go (given (past, size)) k =
+            let (ls, is, put, there, long, within, lines, each) = fields-done in
+            let sum : size .len ≡ len + below .len = ap (λ (x : Size). x .len) (k .0) in
+            let seen : size .lines ≡ below .lines = ap (λ (x : Size). x .lines) (k .0) in (
               g .line ∷ ls,
               g .becomes ∙ ap after is,
-              subst (λ (x : Bytes). PutFirst x sum out (take w mid ++ (part ++ drop (length mid - w) (drop w mid)))) (sym (ended-append (g .line ∷ []) ls))
-                  (put-lent (ended (g .line ∷ [])) (ended ls) out (g .put) e₁ (subst (λ (x : Bytes). PutFirst (ended ls) below x part) e₂ put) (k .0)),
+              subst (λ (x : Bytes). PutFirst x (size .len) out (take w mid ++ (part ++ drop (length mid - w) (drop w mid)))) (sym (ended-append (g .line ∷ []) ls))
+                  (put-lent (ended (g .line ∷ [])) (ended ls) out (g .put) e₁ (subst (λ (x : Bytes). PutFirst (ended ls) (below .len) x part) e₂ put) sum),
               k .1,
-              omega (arith, g .long, long, k .0, k .2),
+              omega (arith, g .long, long, sum, k .2),
               k .3,
+              seen ∙ lines ∙ sym (g .lines),
+              omega (arith, g .after, each, seen, k .2),
             )

@@ -14,8 +14,10 @@ use Rattle.sheets.specs.LineTrees.{tallest}
 use Rattle.sheets.specs.SchemaTrees.{pushChildren, pushDictionary, Standing}
 use Rattle.sheets.specs.Field.{Info}
 use Rattle.sheets.specs.ImportLines.{written, typeWritten, rowWritten}
+use Rattle.sheets.specs.Visits.{importLines, belowLines, rowLines}
 use Rattle.refusal.specs.Refusals.{refusalOf}
 use Rattle.buffer.specs.Over.{PutFirst}
+use Rattle.outcome.specs.declared.Size.{Size}
 use Rattle.schema_line.specs.declared.SchemaLine.{SchemaLine}
 use Rattle.schema_line.specs.Lines.{Shows}
 use Rattle.import_type.specs.declared.Below.{Below}
@@ -89,42 +91,45 @@ pub record HasType (s : Bytes) (l : SchemaLine) (w : Shown) (levels : ℕ) (es :
 
 -- ── what is told
 
--- where the reading goes on and how many bytes were written, or the refusal
-abbrev pub stepAnswer : Step → Answer (ℕ × ℕ)
-stepAnswer (Step.Done next len) = given (next, len)
+-- where the reading goes on, how many bytes were written and for how many lines, or the refusal
+abbrev pub stepAnswer : Step → Answer (ℕ × Size)
+stepAnswer (Step.Done next size) = given (next, size)
 stepAnswer (Step.Refused r) = refused (refusalOf r)
 
--- The lines o were to be written, for what stands from `from` on with ts after it: `extra` bytes, and 32 bytes at most for each byte that was read.
-abbrev pub WroteAs : Bytes → ℕ → ℕ → List Schema → Answer (List Bytes) → Bytes → Bytes → Answer (ℕ × ℕ) → Type 0
-WroteAs s from extra ts o out out' (refused q) = o ≡ refused q
-WroteAs s from extra ts o out out' (given (next, len)) =
+-- The lines o were to be written, for what stands from `from` on with ts after it, n lines of it visited: `extra` bytes, and 32 bytes at most for each byte
+-- that was read; each line that was visited has a byte.
+abbrev pub WroteAs : Bytes → ℕ → ℕ → List Schema → Answer (List Bytes) → ℕ → Bytes → Bytes → Answer (ℕ × Size) → Type 0
+WroteAs s from extra ts o n out out' (refused q) = o ≡ refused q
+WroteAs s from extra ts o n out out' (given (next, size)) =
     (ls : List Bytes)
     × (o ≡ given ls)
-    × PutFirst (ended ls) len out out'
+    × PutFirst (ended ls) (size .len) out out'
     × Standing (drop next s) ts
-    × (len + 32 * from ≤ 32 * next + extra)
+    × (size .len + 32 * from ≤ 32 * next + extra)
     × (next ≤ length s)
+    × (size .lines ≡ n)
+    × (size .lines + from ≤ next)
 
-abbrev pub Wrote : Bytes → ℕ → ℕ → List Schema → Answer (List Bytes) → Bytes → Bytes → Step → Type 0
-Wrote s from extra ts o out out' r = WroteAs s from extra ts o out out' (stepAnswer r)
+abbrev pub Wrote : Bytes → ℕ → ℕ → List Schema → Answer (List Bytes) → ℕ → Bytes → Bytes → Step → Type 0
+Wrote s from extra ts o n out out' r = WroteAs s from extra ts o n out out' (stepAnswer r)
 
 abbrev pub FieldWrote : Bytes → Tree → Bytes → Bytes → Step → Type 0
 FieldWrote s t out out' r =
-    (u : Schema) (ts : List Schema) → FieldAt s (t .at) (t .levels) u ts → Wrote s (t .at) 0 ts (written (t .big) (t .bare) u) out out' r
+    (u : Schema) (ts : List Schema) → FieldAt s (t .at) (t .levels) u ts → Wrote s (t .at) 0 ts (written (t .big) (t .bare) u) (importLines u) out out' r
 
 abbrev pub FieldsWrote : Bytes → Trees → Bytes → Bytes → Step → Type 0
 FieldsWrote s w out out' r =
-    (us : Schemas) (ts : List Schema) → FieldsAt s (w .at) (w .count) (w .levels) us ts → Wrote s (w .at) 0 ts (rowWritten (w .big) (w .bare) us) out out' r
+    (us : Schemas) (ts : List Schema) → FieldsAt s (w .at) (w .count) (w .levels) us ts → Wrote s (w .at) 0 ts (rowWritten (w .big) (w .bare) us) (rowLines us) out out' r
 
 -- a type's line is not much longer than its format and what it shows
 abbrev pub typeLength : Bytes → SchemaLine → Shown → List ℕ → ℕ
 typeLength s l w es = 108 + 21 * length (columnIn s (l .format)) + length (shownIn s l es w)
 
--- of the type of a node, whose line shows j of a field
+-- of the type of a node, whose line shows j of a field; the node's own line is its field's
 abbrev pub TypeWrote : Bytes → SchemaLine → Shown → ℕ → List ℕ → Bytes → Bytes → Step → Type 0
 TypeWrote s l w levels es out out' r =
     (x : Line) (cs : Schemas) (d : Dictionary) (ts : List Schema) (j : Option Info) → TypeAt s l levels x cs d ts → shownIn s l es w ≡ infoPiece j
-    → Wrote s (l .end) (typeLength s l w es) ts (typeWritten (w .big) j (schema (nodeOf x) cs d)) out out' r
+    → Wrote s (l .end) (typeLength s l w es) ts (typeWritten (w .big) j (schema (nodeOf x) cs d)) (belowLines (schema (nodeOf x) cs d)) out out' r
 
 -- ── the subtrees below a node
 
@@ -146,8 +151,9 @@ abbrev pub begunAnswer : TypeBegun → Answer (ℕ × (ℕ × Visit))
 begunAnswer (Begun.Row from len v) = given (from, (len, v))
 begunAnswer (Begun.Refused r) = refused (refusalOf r)
 
--- The type's line is written, and, with metadata in that order, from `from` on stand the trees us that it visits, then vs that it does not, then ts.
-pub record LineBegins (big : Bool) (s : Bytes) (l : SchemaLine) (levels : ℕ) (o : Answer (List Bytes)) (extra : ℕ) (ts : List Schema) (out out' : Bytes) (from len : ℕ) (v : Visit) : Type 0 where
+-- The type's line is written, and, with metadata in that order, from `from` on stand the trees us that it visits, then vs that it does not, then ts; for the
+-- trees us n lines are visited.
+pub record LineBegins (big : Bool) (s : Bytes) (l : SchemaLine) (levels : ℕ) (o : Answer (List Bytes)) (n extra : ℕ) (ts : List Schema) (out out' : Bytes) (from len : ℕ) (v : Visit) : Type 0 where
   pub us : Schemas
   pub vs : List Schema
   pub line : Bytes
@@ -155,32 +161,34 @@ pub record LineBegins (big : Bool) (s : Bytes) (l : SchemaLine) (levels : ℕ) (
   pub others : length vs ≡ v .last
   pub low : tallest schemaLevels vs ≤ levels
   pub becomes : o ≡ (rowWritten big (v .bare) us >>= λ ls. given (line ∷ ls))
+  pub lines : n ≡ rowLines us
   pub put : PutFirst (ended (line ∷ [])) len out out'
   pub long : len + 32 * l .end ≤ 32 * from + extra
+  pub after : l .end ≤ from
 
-abbrev pub BeginsAs : Bool → Bytes → SchemaLine → ℕ → Answer (List Bytes) → ℕ → List Schema → Bytes → Bytes → Answer (ℕ × (ℕ × Visit)) → Type 0
-BeginsAs big s l levels o extra ts out out' (given (from, (len, v))) = LineBegins big s l levels o extra ts out out' from len v
-BeginsAs big s l levels o extra ts out out' (refused q) = o ≡ refused q
+abbrev pub BeginsAs : Bool → Bytes → SchemaLine → ℕ → Answer (List Bytes) → ℕ → ℕ → List Schema → Bytes → Bytes → Answer (ℕ × (ℕ × Visit)) → Type 0
+BeginsAs big s l levels o n extra ts out out' (given (from, (len, v))) = LineBegins big s l levels o n extra ts out out' from len v
+BeginsAs big s l levels o n extra ts out out' (refused q) = o ≡ refused q
 
 abbrev pub TypeBegins : Bytes → SchemaLine → Shown → ℕ → List ℕ → Bytes → Bytes → TypeBegun → Type 0
 TypeBegins s l w levels es out out' r =
     (x : Line) (cs : Schemas) (d : Dictionary) (ts : List Schema) (j : Option Info) → TypeAt s l levels x cs d ts → shownIn s l es w ≡ infoPiece j
-    → BeginsAs (w .big) s l levels (typeWritten (w .big) j (schema (nodeOf x) cs d)) (typeLength s l w es) ts out out' (begunAnswer r)
+    → BeginsAs (w .big) s l levels (typeWritten (w .big) j (schema (nodeOf x) cs d)) (belowLines (schema (nodeOf x) cs d)) (typeLength s l w es) ts out out' (begunAnswer r)
 
 -- ── what is left
 
 -- what is left is skipped
-abbrev pub Ends : Bytes → ℕ → ℕ → List Schema → Answer (ℕ × ℕ) → Type 0
-Ends s at len ts (refused q) = ⊥
-Ends s at len ts (given (next, len')) = (len' ≡ len) × Standing (drop next s) ts × (at ≤ next) × (next ≤ length s)
+abbrev pub Ends : Bytes → ℕ → Size → List Schema → Answer (ℕ × Size) → Type 0
+Ends s at size ts (refused q) = ⊥
+Ends s at size ts (given (next, size')) = (size' ≡ size) × Standing (drop next s) ts × (at ≤ next) × (next ≤ length s)
 
-abbrev pub TypeEnds : Bytes → ℕ → ℕ → ℕ → ℕ → Step → Type 0
-TypeEnds s at count levels len r = (us ts : List Schema) → LeftAt s at count levels us ts → Ends s at len ts (stepAnswer r)
+abbrev pub TypeEnds : Bytes → ℕ → ℕ → ℕ → Size → Step → Type 0
+TypeEnds s at count levels size r = (us ts : List Schema) → LeftAt s at count levels us ts → Ends s at size ts (stepAnswer r)
 
 -- what was pending is refused now
-abbrev pub endedField : Answer (Unit {0}) → ℕ → ℕ → Answer (ℕ × ℕ)
-endedField (given u) next len = given (next, len)
-endedField (refused q) next len = refused q
+abbrev pub endedField : Answer (Unit {0}) → ℕ → Size → Answer (ℕ × Size)
+endedField (given u) next size = given (next, size)
+endedField (refused q) next size = refused q
 
-abbrev pub FieldEnds : Pending → ℕ → ℕ → Step → Type 0
-FieldEnds p next len r = stepAnswer r ≡ endedField (pendingAnswer p) next len
+abbrev pub FieldEnds : Pending → ℕ → Size → Step → Type 0
+FieldEnds p next size r = stepAnswer r ≡ endedField (pendingAnswer p) next size

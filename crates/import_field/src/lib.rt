@@ -7,6 +7,7 @@ use import_type::Below;
 use import_type::FormatPut;
 use node::Pending;
 use node::lines::Shown;
+use outcome::Size;
 use put_leaf::LeafPut;
 use refusal::Refusal;
 use schema_line::SchemaLine;
@@ -37,9 +38,9 @@ pub struct Visit {
     pub last: u64,
 }
 
-// Where the reading goes on and how many bytes the lines have, or why the sheet is refused.
+// Where the reading goes on, how many bytes the lines have and for how many lines of the schema sheet, or why the sheet is refused.
 pub enum Step {
-    Done { next: usize, len: usize },
+    Done { next: usize, size: Size },
     Refused(Refusal),
 }
 
@@ -113,22 +114,22 @@ fn begin_type(
 }
 
 // Skips the last `count` subtrees of a node.
-fn end_type(s: &[u8], at: usize, count: u64, levels: usize, len: usize) -> Step
+fn end_type(s: &[u8], at: usize, count: u64, levels: usize, size: Size) -> Step
     requires { ⌜ HasLeft (now s) at count levels ⌝ }
-    ensures { λ r. ⌜ TypeEnds (now (s .entry)) at count levels len r ⌝ }
+    ensures { λ r. ⌜ TypeEnds (now (s .entry)) at count levels size r ⌝ }
 {
     let Skipped::To(next) = schema_sheet::subtrees::skip_row(s, at, count, levels) else {
         return Step::Refused(Refusal::TooDeep);
     };
-    Step::Done { next, len }
+    Step::Done { next, size }
 }
 
 // Metadata and name are refused after what stands below.
-fn end_field(pending: Pending, next: usize, len: usize) -> Step
-    ensures { λ r. ⌜ FieldEnds pending next len r ⌝ }
+fn end_field(pending: Pending, next: usize, size: Size) -> Step
+    ensures { λ r. ⌜ FieldEnds pending next size r ⌝ }
 {
     match pending {
-        Pending::Nothing => Step::Done { next, len },
+        Pending::Nothing => Step::Done { next, size },
         Pending::Refused(r) => Step::Refused(r),
     }
 }
@@ -159,7 +160,14 @@ pub fn to_field(
         spare,
     ) {
         Step::Refused(r) => Step::Refused(r),
-        Step::Done { next, len } => end_field(pending, next, begun.len + len),
+        Step::Done { next, size: below } => {
+            // An extension that the metadata makes is written as a line of its own, and is no line of the schema sheet.
+            let size = Size {
+                len: begun.len + below.len,
+                lines: 1 + below.lines,
+            };
+            end_field(pending, next, size)
+        }
     }
 }
 
@@ -189,13 +197,13 @@ fn to_dtype(
             };
             match to_fields(s, row, &mut out[w..], entries, spare) {
                 Step::Refused(r) => Step::Refused(r),
-                Step::Done { next, len: below } => end_type(
-                    s,
-                    next,
-                    visit.last,
-                    levels,
-                    len + below,
-                ),
+                Step::Done { next, size: below } => {
+                    let size = Size {
+                        len: len + below.len,
+                        lines: below.lines,
+                    };
+                    end_type(s, next, visit.last, levels, size)
+                }
             }
         }
     }
@@ -208,6 +216,7 @@ fn to_fields(s: &[u8], row: Trees, out: &mut [u8], entries: &mut [u32], spare: &
 {
     let mut here = row.at;
     let mut sum = 0;
+    let mut lines = 0;
     let mut i = 0;
     while i < row.count {
         let w = buffer::within(sum, out.len());
@@ -221,17 +230,16 @@ fn to_fields(s: &[u8], row: Trees, out: &mut [u8], entries: &mut [u32], spare: &
             Step::Refused(r) => {
                 return Step::Refused(r);
             }
-            Step::Done { next, len } => {
+            Step::Done { next, size } => {
                 here = next;
-                sum = sum + len;
+                sum = sum + size.len;
+                lines = lines + size.lines;
             }
         }
         i += 1;
     }
-    Step::Done {
-        next: here,
-        len: sum,
-    }
+    let size = Size { len: sum, lines };
+    Step::Done { next: here, size }
 }
 
 // The same as `to_field`; the line of a leaf is written at once, where it fits.
@@ -240,7 +248,10 @@ fn next_field(s: &[u8], tree: Tree, out: &mut [u8], entries: &mut [u32], spare: 
     ensures { λ r. ⌜ FieldWrote (now (s .entry)) tree (now (out .entry)) (now (out .exit)) r ⌝ }
 {
     match put_leaf::put_leaf(s, tree.at, tree.bare, out) {
-        LeafPut::Put(next, len) => Step::Done { next, len },
+        LeafPut::Put(next, len) => {
+            let size = Size { len, lines: 1 };
+            Step::Done { next, size }
+        }
         LeafPut::Other => to_field(s, tree, out, entries, spare),
     }
 }

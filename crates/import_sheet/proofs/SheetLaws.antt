@@ -1,5 +1,5 @@
--- What is known at each place of `put_sheet` and `import`: the heading is written, then the field's lines; and each way out of `import` is the
--- outcome that is defined. Assumes nothing.
+-- What is known at each place of `put_sheet`, `convert`, `import` and `measure_import`: the heading is written, then the field's lines; and each way out of
+-- the two calls is the outcome, or the measure, that is defined. Assumes nothing.
 use mathlib.Core.Path.{_≡_, refl, sym, ap, subst, _∙_}
 use mathlib.Core.Bool.{Bool, false}
 use mathlib.Core.List.{List, [], _∷_, _++_}
@@ -14,20 +14,22 @@ use Rattle.sheets.specs.Schema.{Schema, readSchemaSheet}
 use Rattle.sheets.specs.Field.{Field}
 use Rattle.sheets.specs.FieldSheet.{fieldHeading, writeFieldSheet, typeLines}
 use Rattle.sheets.specs.Import.{toField}
-use Rattle.sheets.specs.Outcome.{Outcome, imported, refusal, importOutcomeIn}
+use Rattle.sheets.specs.Visits.{importLines}
+use Rattle.sheets.specs.Outcome.{Outcome, imported, refusal, importOutcomeIn, Measure, linesIn, measureImportOutcome}
 use Rattle.sheets.specs.ImportLines.{written, shown}
 use Rattle.sheets.proofs.SheetLaws.{sheet-headed}
 use Rattle.buffer.specs.Over.{PutAt, PutFirst}
 use Rattle.buffer.proofs.OverLaws.{put-lent, put-over}
-use Rattle.outcome.specs.Answers.{outcomeOf, Tells, SheetTold}
+use Rattle.outcome.specs.Answers.{outcomeOf, Tells, SheetTold, refusedMeasure}
 use Rattle.outcome.specs.declared.Answered.{Answered}
-use Rattle.outcome.proofs.AnswerLaws.{told-refused, told-done}
+use Rattle.outcome.specs.declared.Size.{Size}
+use Rattle.outcome.proofs.AnswerLaws.{told-refused, told-done, measure-refused, measure-done}
 use Rattle.refusal.specs.declared.Refusal.{Refusal as Reason}
 use Rattle.refusal.specs.Refusals.{refusalOf}
 use Rattle.schema_sheet.specs.Sheets.{sheetBody, sheetAnswer}
 use Rattle.schema_sheet.proofs.SheetLaws.{Opens, sheet-opens, sheet-refused as sheet-unread}
 use Rattle.import_field.specs.Contracts.{FieldAt, Wrote, FieldWrote, stepAnswer}
-use Rattle.import_sheet.specs.Sheets.{sheetOf, treeOf, SheetWrote, HasSheet}
+use Rattle.import_sheet.specs.Sheets.{sheetOf, treeOf, SheetWrote, HasSheet, Converts}
 use Rattle.schema_sheet.specs.declared.SheetRead.{SheetRead}
 use Rattle.schema_sheet.specs.declared.SheetRead.the-variants.{Body, Refused as Unread}
 use Rattle.import_field.specs.declared.Step.{Step}
@@ -57,32 +59,33 @@ module _ (s : Bytes) (at : ℕ) (big : Bool) (t : Schema) (ts : List Schema) (f 
       let w : FieldWrote s (treeOf at big) lent part (Refused q) = subst (λ (y : Step). FieldWrote s (treeOf at big) lent part y) e h in
       sheet-lines big t ∙ ap sheet (w t ts f)
 
-  module _ (lent part : Bytes) (r : Step) (next len : ℕ) (e : r ≡ Done next len) (h : FieldWrote s (treeOf at big) lent part r) where
-    lines-done : Wrote s at 0 ts (written big false t) lent part (Done next len)
+  module _ (lent part : Bytes) (r : Step) (next : ℕ) (size : Size) (e : r ≡ Done next size) (h : FieldWrote s (treeOf at big) lent part r) where
+    lines-done : Wrote s at 0 ts (written big false t) (importLines t) lent part (Done next size)
     lines-done = subst (λ (y : Step). FieldWrote s (treeOf at big) lent part y) e h t ts f
 
-    pub lines-long : len ≤ 2097120
+    pub lines-long : size .len ≤ 2097120
     lines-long = let d = lines-done in omega (arith, d .4, d .5, f .short)
 
     pub sheet-done : (out mid : Bytes) (head w : ℕ) → PutAt 0 headLine head out mid → w ≡ min head (length mid)
         → lent ≡ take (length mid - w) (drop w mid)
-        → SheetTold (sheetOf big t) out (take w mid ++ (part ++ drop (length mid - w) (drop w mid))) (given (next, head + len))
+        → SheetTold (sheetOf big t) (importLines t) out (take w mid ++ (part ++ drop (length mid - w) (drop w mid))) (given (next, record { len = head + size .len; lines = size .lines }))
     sheet-done out mid head w p e₁ e₂ =
-        let (ls, is, put, there, long, within) = lines-done in (
+        let (ls, is, put, there, long, within, lines, each) = lines-done in (
           headLine ++ ended ls,
           sheet-lines big t ∙ ap sheet is,
-          put-lent headLine (ended ls) out (put-over headLine out p) e₁ (subst (λ (y : Bytes). PutFirst (ended ls) len y part) e₂ put) refl,
+          put-lent headLine (ended ls) out (put-over headLine out p) e₁ (subst (λ (y : Bytes). PutFirst (ended ls) (size .len) y part) e₂ put) refl,
+          lines,
         )
 
--- ── the outcome
+-- ── the conversion
 
-module _ (s : Bytes) (big : Bool) (out : Bytes) where
+module _ (s : Bytes) (big : Bool) where
   -- no schema sheet
-  pub import-unread : (k : SheetRead) (q : Reason) → k ≡ Unread q → sheetAnswer k ≡ sheetBody s → (o : Outcome) → o ≡ refusal (numberOf (refusalOf q)) out → o ≡ importOutcomeIn big s out
+  pub convert-unread : (out : Bytes) (k : SheetRead) (q : Reason) → k ≡ Unread q → sheetAnswer k ≡ sheetBody s → Converts big s out out (Refused q)
   unfolding imported
-  import-unread k q e h o c =
+  convert-unread out k q e h =
       let is : readSchemaSheet s ≡ refused (refusalOf q) = sheet-unread s (sym h ∙ ap sheetAnswer e) in
-      told-refused (imported big s) out out (refusalOf q) o (ap (λ (a : Answer Schema). a >>= λ t. toField big t >>= λ f. given (writeFieldSheet f)) is) c refl
+      ap (λ (a : Answer Schema). a >>= λ t. toField big t >>= λ f. given (writeFieldSheet f)) is
 
   module _ (k : SheetRead) (at : ℕ) (e : k ≡ Body at) (h : sheetAnswer k ≡ sheetBody s) where
     read : (t : Schema) × Opens s at t
@@ -98,15 +101,29 @@ module _ (s : Bytes) (big : Bool) (out : Bytes) where
     unfolding imported sheetOf
     of-sheet = ap (λ (o : Answer Schema). o >>= λ t. toField big t >>= λ f. given (writeFieldSheet f)) (read .1 .isRead)
 
-    module _ (mid : Bytes) (z : Step) (w : SheetWrote s at big out mid z) where
-      -- a refusal on the way
-      pub import-refused : (q : Reason) → z ≡ Refused q → length mid ≡ length out → (o : Outcome) → o ≡ refusal (numberOf (refusalOf q)) mid → o ≡ importOutcomeIn big s out
-      import-refused q d l o c =
-          let v : SheetWrote s at big out mid (Refused q) = subst (λ (y : Step). SheetWrote s at big out mid y) d w in
-          told-refused (imported big s) out mid (refusalOf q) o (of-sheet ∙ v (read .0) [] field-at) c l
+    of-lines : linesIn importLines (readSchemaSheet s) ≡ importLines (read .0)
+    of-lines = ap (λ (o : Answer Schema). linesIn importLines o) (read .1 .isRead)
 
-      -- the sheet is written, as far as it fits
-      pub import-done : (next len : ℕ) → z ≡ Done next len → (a : Answered) (out' : Bytes) → Tells mid len a out' → outcomeOf (a .number) (a .length) out' ≡ importOutcomeIn big s out
-      import-done next len d a out' c =
-          let v : SheetTold (imported big s) out mid (stepAnswer z) = subst (λ (a : Answer Bytes). SheetTold a out mid (stepAnswer z)) (sym of-sheet) (w (read .0) [] field-at) in
-          told-done (imported big s) out mid (stepAnswer z) next len (ap stepAnswer d) v a out' c
+    pub convert-read : (out mid : Bytes) (z : Step) → SheetWrote s at big out mid z → Converts big s out mid z
+    convert-read out mid z w =
+        subst (λ (n : ℕ). SheetTold (imported big s) n out mid (stepAnswer z)) (sym of-lines)
+        (subst (λ (a : Answer Bytes). SheetTold a (importLines (read .0)) out mid (stepAnswer z)) (sym of-sheet) (w (read .0) [] field-at))
+
+  -- ── the outcome, and the measure
+
+  module _ (out mid : Bytes) (z : Step) (w : Converts big s out mid z) where
+    refused-is : (q : Reason) → z ≡ Refused q → imported big s ≡ refused (refusalOf q)
+    refused-is q d = subst (λ (y : Step). Converts big s out mid y) d w
+
+    pub import-refused : (q : Reason) → z ≡ Refused q → length mid ≡ length out → (o : Outcome) → o ≡ refusal (numberOf (refusalOf q)) mid → o ≡ importOutcomeIn big s out
+    import-refused q d l o c = told-refused (imported big s) out mid (refusalOf q) o (refused-is q d) c l
+
+    -- the sheet is written, as far as it fits
+    pub import-done : (next : ℕ) (size : Size) → z ≡ Done next size → (a : Answered) (out' : Bytes) → Tells mid (size .len) a out' → outcomeOf (a .number) (a .length) out' ≡ importOutcomeIn big s out
+    import-done next size d a out' c = told-done (imported big s) out mid (linesIn importLines (readSchemaSheet s)) (stepAnswer z) next size (ap stepAnswer d) w a out' c
+
+    pub measure-turned : (q : Reason) → z ≡ Refused q → (m : Measure) → m ≡ refusedMeasure (refusalOf q) → m ≡ measureImportOutcome big s
+    measure-turned q d m c = measure-refused (imported big s) (linesIn importLines (readSchemaSheet s)) (refusalOf q) m (refused-is q d) c
+
+    pub measure-told : (next : ℕ) (size : Size) → z ≡ Done next size → (m : Measure) → m ≡ record { number = 0; size = size .len; lines = size .lines } → m ≡ measureImportOutcome big s
+    measure-told next size d m c = measure-done (imported big s) (linesIn importLines (readSchemaSheet s)) out mid (stepAnswer z) next size (ap stepAnswer d) w m c

@@ -1,14 +1,16 @@
-// Import: a schema sheet's bytes become a field sheet in a lent buffer.
+// Import: a schema sheet's bytes become a field sheet in a lent buffer; and how much buffer that takes.
 ghost use mathlib.Core.Path.{_≡_};
 ghost use Prim.Native.Nat.{_≤_};
 ghost use lib.ListN.{length};
-ghost use Rattle.sheets.specs.Outcome.{importOutcomeIn};
-ghost use Rattle.outcome.specs.Answers.{outcomeOf};
+ghost use Rattle.sheets.specs.Outcome.{importOutcomeIn, measureImportOutcome};
+ghost use Rattle.outcome.specs.Answers.{outcomeOf, measureOf};
 ghost use Rattle.node.specs.Info.{HasEntries};
-ghost use Rattle.import_sheet.specs.Sheets.{HasSheet, SheetWrote};
+ghost use Rattle.import_sheet.specs.Sheets.{HasSheet, SheetWrote, Converts};
 use import_field::Step;
 use import_field::Tree;
 use outcome::Answered;
+use outcome::Measured;
+use outcome::Size;
 use schema_sheet::SheetRead;
 
 // Writes the heading and the field's lines, as far as they fit.
@@ -33,10 +35,13 @@ fn put_sheet(
     };
     match import_field::to_first_field(s, tree, &mut out[w..], entries, spare) {
         Step::Refused(r) => Step::Refused(r),
-        Step::Done { next, len } => Step::Done {
-            next,
-            len: head + len,
-        },
+        Step::Done { next, size: below } => {
+            let size = Size {
+                len: head + below.len,
+                lines: below.lines,
+            };
+            Step::Done { next, size }
+        }
     }
 }
 
@@ -70,16 +75,35 @@ fn put_by_length(s: &[u8], at: usize, big: bool, out: &mut [u8]) -> Step
     put_long(s, at, big, out)
 }
 
+// Writes the field sheet of a schema sheet, as far as it fits.
+fn convert(s: &[u8], big: bool, out: &mut [u8]) -> Step
+    ensures { λ r. ⌜ Converts big (now (s .entry)) (now (out .entry)) (now (out .exit)) r ⌝ }
+{
+    match schema_sheet::read_sheet(s) {
+        SheetRead::Refused(r) => Step::Refused(r),
+        SheetRead::Body(at) => put_by_length(s, at, big, out),
+    }
+}
+
 // The field sheet of a schema sheet, whose metadata is big-endian (`big`) or not, written over the first bytes of out; or the number of its refusal, and
 // zeros.
 pub fn import(s: &[u8], big: bool, out: &mut [u8]) -> Answered
     ensures { λ r. ⌜ outcomeOf (r .number) (r .length) (now (out .exit)) ≡ importOutcomeIn big (now (s .entry)) (now (out .entry)) ⌝ }
 {
-    match schema_sheet::read_sheet(s) {
-        SheetRead::Refused(r) => outcome::refuse(out, r),
-        SheetRead::Body(at) => match put_by_length(s, at, big, out) {
-            Step::Refused(r) => outcome::refuse(out, r),
-            Step::Done { next: _, len } => outcome::written(out, len),
-        },
+    match convert(s, big, out) {
+        Step::Refused(r) => outcome::refuse(out, r),
+        Step::Done { next: _, size } => outcome::written(out, size.len),
+    }
+}
+
+// How long that field sheet is, and how many lines of the schema sheet are visited for it; or the number of its refusal. It is the same conversion, which
+// counts on where its buffer ends: here nothing is lent.
+pub fn measure_import(s: &[u8], big: bool) -> Measured
+    ensures { λ r. ⌜ measureOf r ≡ measureImportOutcome big (now (s .entry)) ⌝ }
+{
+    let mut none: [u8; 0] = [];
+    match convert(s, big, &mut none[..]) {
+        Step::Refused(r) => outcome::unmeasured(r),
+        Step::Done { next: _, size } => Measured { number: 0, size },
     }
 }

@@ -6,8 +6,8 @@ use Prim.Native.Nat.{ℕ, zero, suc, _-_}
 use lib.Dec.{eqb}
 use lib.ListN.{length, replicate}
 use Rattle.sheets.specs.Bytes.{Bytes, same}
-use Rattle.sheets.specs.Outcome.{Outcome, Places, YesNo, isYes, importOutcomeIn, exportOutcomeIn, plainOutcome, toPhysicalTypeOutcome, underlyingPhysicalTypeOutcome, toStorageOutcome, toStorageRecursiveOutcome, innerDtypeOutcome, getChildOutcome, isNestedOutcome, containsDictionaryOutcome, fromIntegerTypeOutcome, fromPrimitiveTypeOutcome, pageOutcome}
-use Rattle.recorded_list.specs.Codes.{importCall, exportCall, plainCall, toPhysicalTypeCall, underlyingPhysicalTypeCall, toStorageCall, toStorageRecursiveCall, innerDtypeCall, getChildCall, isNestedCall, containsDictionaryCall, fromIntegerTypeCall, pageCall}
+use Rattle.sheets.specs.Outcome.{Outcome, Measure, Places, YesNo, isYes, importOutcomeIn, exportOutcomeIn, plainOutcome, toPhysicalTypeOutcome, underlyingPhysicalTypeOutcome, toStorageOutcome, toStorageRecursiveOutcome, innerDtypeOutcome, getChildOutcome, isNestedOutcome, containsDictionaryOutcome, fromIntegerTypeOutcome, fromPrimitiveTypeOutcome, pageOutcome, measureImportOutcome, measureExportOutcome}
+use Rattle.recorded_list.specs.Codes.{importCall, exportCall, plainCall, toPhysicalTypeCall, underlyingPhysicalTypeCall, toStorageCall, toStorageRecursiveCall, innerDtypeCall, getChildCall, isNestedCall, containsDictionaryCall, fromIntegerTypeCall, pageCall, measureImportCall, measureExportCall}
 use Rattle.recorded_list.specs.ListText.{Record}
 use Rattle.recorded_list.specs.declared.records.Header.{Header}
 use Rattle.judge.specs.declared.Replayed.{Replayed}
@@ -58,7 +58,7 @@ sheetOutcome call argument s out =
 -- ── calls that answer numbers
 
 abbrev pub answersNumbers : ℕ → Bool
-answersNumbers call = eqb call toPhysicalTypeCall || (eqb call isNestedCall || eqb call containsDictionaryCall)
+answersNumbers call = eqb call toPhysicalTypeCall || (eqb call isNestedCall || (eqb call containsDictionaryCall || (eqb call measureImportCall || eqb call measureExportCall)))
 
 abbrev pub recordedNumbers : Header → Numbers
 recordedNumbers h = record { number = h .number; first = h .first; second = h .second }
@@ -76,11 +76,17 @@ placesNumbers p = record { number = p .number; first = p .place; second = p .inn
 abbrev pub yesNoNumbers : YesNo → Numbers
 yesNoNumbers y = record { number = y .number; first = y .answer; second = 0 }
 
-abbrev pub numbersOutcome : ℕ → Bytes → Numbers
-numbersOutcome call s =
+-- the length, and the lines as the second number
+abbrev pub measureNumbers : Measure → Numbers
+measureNumbers m = record { number = m .number; first = m .size; second = m .lines }
+
+abbrev pub numbersOutcome : ℕ → ℕ → Bytes → Numbers
+numbersOutcome call argument s =
     cond (eqb call toPhysicalTypeCall) (placesNumbers (toPhysicalTypeOutcome s))
     (cond (eqb call isNestedCall) (yesNoNumbers (isNestedOutcome s))
-    (yesNoNumbers (containsDictionaryOutcome s)))
+    (cond (eqb call containsDictionaryCall) (yesNoNumbers (containsDictionaryOutcome s))
+    (cond (eqb call measureImportCall) (measureNumbers (measureImportOutcome (isYes argument) s))
+    (measureNumbers (measureExportOutcome (isYes argument) s)))))
 
 -- ── a record
 
@@ -88,7 +94,7 @@ numbersOutcome call s =
 abbrev pub replayed : ℕ → Record → Option Numbers
 replayed room r =
     cond (answersNumbers (r .header .call))
-    (numbersDifference (numbersOutcome (r .header .call) (r .input)) (recordedNumbers (r .header)))
+    (numbersDifference (numbersOutcome (r .header .call) (r .header .argument) (r .input)) (recordedNumbers (r .header)))
     (difference (sheetOutcome (r .header .call) (r .header .argument) (r .input) (filled room)) (recorded (r .header) (r .output) room))
 
 -- the answer, case by case

@@ -104,7 +104,13 @@ pub fn answers_numbers(code: u64) -> bool
     if code == call::IS_NESTED {
         return true;
     }
-    code == call::CONTAINS_DICTIONARY
+    if code == call::CONTAINS_DICTIONARY {
+        return true;
+    }
+    if code == call::MEASURE_IMPORT {
+        return true;
+    }
+    code == call::MEASURE_EXPORT
 }
 
 // Whether the numbers are the recorded ones.

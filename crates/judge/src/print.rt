@@ -31,6 +31,8 @@ fn name(of: u64) {
         call::FROM_INTEGER_TYPE => put(b"from_integer_type"),
         call::FROM_PRIMITIVE_TYPE => put(b"from_primitive_type"),
         call::PAGE => put(b"page"),
+        call::MEASURE_IMPORT => put(b"measure_import"),
+        call::MEASURE_EXPORT => put(b"measure_export"),
         _ => put(b"no call"),
     }
 }

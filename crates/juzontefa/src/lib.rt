@@ -1,13 +1,14 @@
 // The calls for a host: over pointers and lengths, with nothing demanded of the caller. `include/juzontefa.h` declares them for C.
 ghost use mathlib.Core.Path.{_≡_};
-ghost use Rattle.sheets.specs.Outcome.{isYes, importOutcomeIn, exportOutcomeIn, importOutcome, exportOutcome, plainOutcome, pageOutcome, toPhysicalTypeOutcome, underlyingPhysicalTypeOutcome, toStorageOutcome, toStorageRecursiveOutcome, innerDtypeOutcome, getChildOutcome, isNestedOutcome, containsDictionaryOutcome, fromIntegerTypeOutcome, fromPrimitiveTypeOutcome};
+ghost use Rattle.sheets.specs.Outcome.{isYes, importOutcomeIn, exportOutcomeIn, importOutcome, exportOutcome, measureImportOutcome, measureExportOutcome, plainOutcome, pageOutcome, toPhysicalTypeOutcome, underlyingPhysicalTypeOutcome, toStorageOutcome, toStorageRecursiveOutcome, innerDtypeOutcome, getChildOutcome, isNestedOutcome, containsDictionaryOutcome, fromIntegerTypeOutcome, fromPrimitiveTypeOutcome};
 ghost use Rattle.sheets.specs.RoundTrip.{roundTripOutcomeIn, roundTripOutcome};
 ghost use Rattle.outcome.specs.Answers.{outcomeOf};
 ghost use Rattle.round_trips.specs.Trips.{four};
-ghost use Rattle.juzontefa.specs.Answers.{answerFor, placesTold, placesFor, yesNoTold, yesNoFor};
+ghost use Rattle.juzontefa.specs.Answers.{answerFor, measureTold, measureFor, placesTold, placesFor, yesNoTold, yesNoFor};
 ghost use Rattle.juzontefa.specs.Trips.{tripFor, hostTold, hostTrip};
 use mapping_calls::physical::PhysicalPlaces;
 use outcome::Answered;
+use outcome::Measured;
 use round_trips::RoundTrip;
 
 // The number, 0 for success, and the length of the answer.
@@ -56,6 +57,40 @@ pub extern "C" fn juzontefa_export_with_order(sheet: &[u8], big: u64, out: &mut 
     ensures { λ r. ⌜ outcomeOf (r .number) (r .length) (now (out .exit)) ≡ exportOutcomeIn (isYes big) (now (sheet .entry)) (now (out .entry)) ⌝ }
 {
     answer_of(field_calls::export(sheet, big != 0, out))
+}
+
+// The number, 0 for success, the length of what the conversion would write, and how many lines of the sheet it would visit.
+#[repr(C)]
+pub struct Measure {
+    pub number: u64,
+    pub length: u64,
+    pub lines: u64,
+}
+
+fn measure_of(m: Measured) -> Measure
+    ensures { λ r. ⌜ r ≡ measureFor m ⌝ }
+{
+    Measure {
+        number: m.number as u64,
+        length: m.size.len as u64,
+        lines: m.size.lines as u64,
+    }
+}
+
+// What the import of a schema sheet would write and visit, in the order that the caller says: big-endian unless the number is 0.
+#[no_mangle]
+pub extern "C" fn juzontefa_measure_import(sheet: &[u8], big: u64) -> Measure
+    ensures { λ r. ⌜ measureTold r ≡ measureImportOutcome (isYes big) (now (sheet .entry)) ⌝ }
+{
+    measure_of(import_sheet::measure_import(sheet, big != 0))
+}
+
+// What the export of a field sheet would write and visit, in the order that the caller says.
+#[no_mangle]
+pub extern "C" fn juzontefa_measure_export(sheet: &[u8], big: u64) -> Measure
+    ensures { λ r. ⌜ measureTold r ≡ measureExportOutcome (isYes big) (now (sheet .entry)) ⌝ }
+{
+    measure_of(field_calls::measure_export(sheet, big != 0))
 }
 
 // The plain form of a field sheet.

@@ -16,14 +16,14 @@ use Rattle.sheets.specs.FieldSheet.{Entry}
 use Rattle.sheets.specs.LineTrees.{tallest}
 use Rattle.sheets.specs.FieldTrees.{Head, isExtension, lineCost, typeShape, typeBelow, entryLevels, entryLines, fields}
 use Rattle.sheets.specs.TreeWalks.{HasTree, HasRow}
-use Rattle.sheets.specs.Walk.{levelsBelow, lineMeasure, rowMeasure, visit, Step, writes, lineWritten, typeWalk, rowWalk}
+use Rattle.sheets.specs.Walk.{levelsBelow, lineMeasure, rowMeasure, visit, Step, Walked, writes, lineWalked, typeWalked, rowWalked}
 use Rattle.sheets.proofs.FieldTrees.{fields-lawful}
 use Rattle.sheets.proofs.WalkLaws.{levels-below}
 use Rattle.buffer.specs.Over.{PutFirst}
 use Rattle.read_field_line.specs.FieldLines.{FieldLineAt}
 use Rattle.read_field_line.specs.declared.FieldLine.{FieldLine}
 use Rattle.field_sheet.proofs.SkipLaws.{line-row}
-use Rattle.walks.specs.Places.{ownLimit, TypeAt, RowAt, HasType, BeginsAs}
+use Rattle.walks.specs.Places.{ownLimit, TypeAt, RowAt, HasType, BeginsAs, oneLine}
 use Rattle.walks.specs.Answers.{begunAnswer}
 use Rattle.walks.specs.declared.LineBegun.the-variants.{Below}
 use Rattle.walks.specs.declared.Pending.the-variants.{Nothing}
@@ -69,22 +69,22 @@ module _ {s : Bytes} (tree : Subtree) {i : Option Info} {t : ArrowDataType} {es 
   abbrev visited : S
   visited = state (levelsBelow (typeShape t) (tree .inside) (tree .levels)) (isExtension (typeShape t))
 
-  abbrev lines : Answer (List Bytes)
-  lines = typeWalk step t i (state (tree .levels) (tree .inside))
+  abbrev walked : Walked
+  walked = typeWalked step t i (state (tree .levels) (tree .inside))
 
   abbrev left : Subtrees
   left = rowBelow tree l
 
   -- the line's own lines ls are written
-  pub all-visited : (ls : List Bytes) → lines ≡ lineWritten (given (writes (given ls) (visit visited))) (λ τ. rowWalk step (typeBelow t) τ) (entryLines (typeBelow t))
+  pub all-visited : (ls : List Bytes) → walked ≡ lineWalked 0 (given (writes (given ls) (visit visited))) (λ τ. rowWalked step (typeBelow t) τ) (entryLines (typeBelow t))
       → (out out' : Bytes) (len : ℕ) → PutFirst (ended ls) len out out' → len ≤ ownLimit → (w : Subtrees) → w ≡ rowBelow tree l
-      → BeginsAs step s (tree .at) (tree .levels) (tree .inside) lines es out out' (begunAnswer state (Below w len Nothing))
+      → BeginsAs step s (tree .at) (tree .levels) (tree .inside) walked es out out' (begunAnswer state (Below w (oneLine len) Nothing))
   all-visited ls o out out' len put short w e =
       let is : isExtension (typeShape t) ≡ eqb (l .kind) Kind.Extension = sym (line-extension (f .stands) k) in
-      subst (λ (y : Subtrees). BeginsAs step s (tree .at) (tree .levels) (tree .inside) lines es out out' (begunAnswer state (Below y len Nothing))) (sym e)
-      (begin-visit step s (tree .at) (tree .levels) (tree .inside) lines (writes (given ls) (visit visited)) (typeBelow t) es o
+      subst (λ (y : Subtrees). BeginsAs step s (tree .at) (tree .levels) (tree .inside) walked es out out' (begunAnswer state (Below y (oneLine len) Nothing))) (sym e)
+      (begin-visit step s (tree .at) (tree .levels) (tree .inside) walked (writes (given ls) (visit visited)) (typeBelow t) es 0 o
       (state (left .levels) (left .inside)) (λ x. visit (state (tree .levels - lineCost (tree .inside) (is x)) (is x)))
-      (l .end) (l .children) (left .levels) (left .inside) (row-below f k refl refl) (row-less f k refl refl) out out' len (given tt) put (omega (arith, k .there .low, short)))
+      (l .end) (l .children) (left .levels) (left .inside) (row-below f k refl refl) (row-less f k refl refl) out out' len (given tt) put (omega (arith, k .there .low, short)) (omega (arith, k .there .low)))
 
 -- ── what the functions ask
 

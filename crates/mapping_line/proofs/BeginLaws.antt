@@ -4,7 +4,7 @@ use mathlib.Core.Path.{_≡_, refl, sym, ap, subst, _∙_}
 use mathlib.Core.Bool.{Bool, true, false}
 use mathlib.Core.List.{List, [], _∷_}
 use mathlib.Core.Option.{Option, none}
-use Prim.Native.Nat.{ℕ, _<_}
+use Prim.Native.Nat.{ℕ, _+_, _<_}
 use native.Mathlib.Omega.{arith}
 use Rattle.sheets.specs.Refusal.{undefinedMapping}
 use Rattle.sheets.specs.Bytes.{Bytes}
@@ -16,10 +16,11 @@ use Rattle.sheets.specs.FieldSheet.{Entry, ofScalar, columns}
 use Rattle.sheets.specs.FieldTrees.{Head, typeShape, typeCount}
 use Rattle.sheets.specs.Mappings.{toStorage}
 use Rattle.sheets.specs.MappingSteps.{Borne, ownWritten, changeStep}
-use Rattle.sheets.specs.Walk.{headWith, headText, skip, writes, typeWalk}
+use Rattle.sheets.specs.Walk.{headWith, headText, skip, writes, Walked, typeWalked}
 use Rattle.buffer.specs.Over.{PutFirst}
 use Rattle.read_field_line.specs.FieldLines.{FieldLineAt}
 use Rattle.read_field_line.specs.declared.FieldLine.{FieldLine}
+use Rattle.outcome.specs.declared.Size.{Size}
 use Rattle.walks.specs.Places.{TypeAt, BeginsAs}
 use Rattle.walks.specs.Answers.{begunAnswer}
 use Rattle.walks.specs.declared.LineBegun.{LineBegun}
@@ -61,8 +62,12 @@ module _ {s : Bytes} (tree : Subtree) {i : Option Info} {t : ArrowDataType} {es 
     own-says = subst (λ (c : FieldColumns). Says s c i) (sym are) says
 
     module _ (change : Change) where
-      abbrev o : Answer (List Bytes)
-      o = typeWalk (changeStep (changeOf change)) t i none
+      abbrev o : Walked
+      o = typeWalked (changeStep (changeOf change)) t i none
+
+      -- so many bytes, for the line and the extensions that were passed
+      abbrev sized : ℕ → Size
+      sized len = record { len = len; lines = r .passed + 1 }
 
       abbrev Told : Bytes → Bytes → LineBegun → Type 0
       Told out out' z = BeginsAs (changeStep (changeOf change)) s (tree .at) (tree .levels) (tree .inside) o es out out' (begunAnswer {S = Borne} (λ (levels : ℕ) (inside : Bool). none) z)
@@ -73,12 +78,12 @@ module _ {s : Bytes} (tree : Subtree) {i : Option Info} {t : ArrowDataType} {es 
           subst (Becoming change (toStorage t) i) (sym (e ∙ λ z. lineChangeOf change (line-kind (g .type .stands) (g .line) z) (line-p (g .type .stands) (g .line) z)))
           (becoming i change (toStorage t) (storage-plain t) (line-rule (g .type .stands) (g .line)))
 
-      pub undefined : Undefined ≡ lineChangeOf change (r .line .kind) (r .line .p) → o ≡ refused undefinedMapping
-      undefined e = change-opened (changeOf change) t i (refused undefinedMapping) (by-line Undefined e)
+      pub undefined : Undefined ≡ lineChangeOf change (r .line .kind) (r .line .p) → o .0 ≡ refused undefinedMapping
+      undefined e = ap (λ (w : Walked). w .0) (change-opened (changeOf change) t i (refused undefinedMapping) (by-line Undefined e))
 
       -- the line stays
       pub stayed : Stays ≡ lineChangeOf change (r .line .kind) (r .line .p) → (w : Subtrees) → RowLeft s tree (r .line) false w → (out out' : Bytes) (len : ℕ) → LinePut s (r .at) (r .line) own out out' len
-          → Told out out' (B.Below w len Nothing)
+          → Told out out' (B.Below w (sized len) Nothing)
       stayed e w left out out' len put =
           let (below, step, leaves) = by-line Stays e in
           let (laid, short) = put (g .line) i own-says in
@@ -90,7 +95,7 @@ module _ {s : Bytes} (tree : Subtree) {i : Option Info} {t : ArrowDataType} {es 
 
       -- the line of a kind is left, and what is below it is skipped
       pub became : (kind : ℕ) → Becomes kind ≡ lineChangeOf change (r .line .kind) (r .line .p) → (w : Subtrees) → RowLeft s tree (r .line) true w → (out out' : Bytes) (len : ℕ) → KindPut s kind own out out' len
-          → Told out out' (B.Below w len Nothing)
+          → Told out out' (B.Below w (sized len) Nothing)
       became kind e w left out out' len put =
           let (laid, short) = put i own-says in
           begun tree f g (changeStep (changeOf change)) none o (writes (ownWritten (ofScalar (leaf kind 0)) i 0) skip)

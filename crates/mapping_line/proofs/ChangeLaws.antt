@@ -18,12 +18,12 @@ use Rattle.sheets.specs.Field.{bits128, bits32, bits64, bits256, Info, Scalar, 
 use Rattle.sheets.specs.FieldSheet.{Shape, ofScalar, ofNesting, ofGrouping, ofDictionary, ofExtension, columns, typeLines}
 use Rattle.sheets.specs.FieldTrees.{isExtension, shapeRule, typeShape, typeCount, typeBelow, entryLines}
 use Rattle.sheets.specs.Mappings.{LeafRow, rowAt, leafRows, intervalUnder, leafUnder, scalarUnder, toStorage}
-use Rattle.sheets.specs.Walk.{Below, visit, skip, Step, writes, lineWritten, typeWalk, rowWalk}
+use Rattle.sheets.specs.Walk.{Below, visit, skip, Step, writes, Walked, extensionsAround, lineWalked, typeWalked, rowWalked}
 use Rattle.sheets.specs.MappingSteps.{Borne, infoBorne, ownWritten, changeStepOf, changeStep}
 use Rattle.sheets.specs.MappingSteps.{Change as TypeChange}
 use Rattle.sheets.proofs.Tests.{never, meets, every, at-each, and-left, and-right}
 use Rattle.sheets.proofs.FieldTrees.{leaf-other, leaf-small}
-use Rattle.sheets.proofs.WalkLaws.{walk-opened, nothing-own}
+use Rattle.sheets.proofs.WalkLaws.{walked-opened, later, passed-own, later-walked}
 use Rattle.datatypes.specs.At.{firstAt}
 use Rattle.datatypes.proofs.AtLaws.{Rest, nowhere}
 use Rattle.storage_line.proofs.BelowLaws.{Leaves, visited, nothing}
@@ -206,17 +206,20 @@ index-small (ofExtension a m) h e = absurd (omega arith)
 -- ── the walk of a field, the extensions around its type passed
 
 module _ (c : TypeChange) where
-  borne-opened : (t : ArrowDataType) (i : Option Info) (b : Borne) → typeWalk (changeStep c) t i b
-      ≡ lineWritten (changeStepOf c (typeShape (toStorage t)) (typeCount (toStorage t)) (infoBorne b i)) (λ τ. rowWalk (changeStep c) (typeBelow (toStorage t)) τ) (entryLines (typeBelow (toStorage t)))
-  borne-opened (scalar s) i b = walk-opened (changeStep c) (scalar s) i b
-  borne-opened (nested n j t) i b = walk-opened (changeStep c) (nested n j t) i b
-  borne-opened (grouped g fs) i b = walk-opened (changeStep c) (grouped g fs) i b
-  borne-opened (dictionary ix ordered t) i b = walk-opened (changeStep c) (dictionary ix ordered t) i b
-  borne-opened (extension n m t) i b = nothing-own (typeWalk (changeStep c) t none (some (infoBorne b i))) ∙ borne-opened t none (some (infoBorne b i))
+  -- a line, after so many extensions, with the row below the type in all of them
+  abbrev inside : ArrowDataType → Answer (Step Borne) → Walked
+  inside t a = lineWalked (extensionsAround t) a (λ τ. rowWalked (changeStep c) (typeBelow (toStorage t)) τ) (entryLines (typeBelow (toStorage t)))
+
+  borne-opened : (t : ArrowDataType) (i : Option Info) (b : Borne) → typeWalked (changeStep c) t i b ≡ inside t (changeStepOf c (typeShape (toStorage t)) (typeCount (toStorage t)) (infoBorne b i))
+  borne-opened (scalar s) i b = walked-opened (changeStep c) (scalar s) i b
+  borne-opened (nested n j t) i b = walked-opened (changeStep c) (nested n j t) i b
+  borne-opened (grouped g fs) i b = walked-opened (changeStep c) (grouped g fs) i b
+  borne-opened (dictionary ix ordered t) i b = walked-opened (changeStep c) (dictionary ix ordered t) i b
+  borne-opened (extension n m t) i b =
+      passed-own (typeWalked (changeStep c) t none (some (infoBorne b i)))
+      ∙ ap later (borne-opened t none (some (infoBorne b i)))
+      ∙ later-walked (extensionsAround t) (changeStepOf c (typeShape (toStorage t)) (typeCount (toStorage t)) (infoBorne b i)) (λ τ. rowWalked (changeStep c) (typeBelow (toStorage t)) τ) (entryLines (typeBelow (toStorage t)))
 
   -- with the columns of the field's first line
-  pub change-opened : (t : ArrowDataType) (i : Option Info) (a : Answer (Step Borne)) → changeStepOf c (typeShape (toStorage t)) (typeCount (toStorage t)) i ≡ a
-      → typeWalk (changeStep c) t i none ≡ lineWritten a (λ τ. rowWalk (changeStep c) (typeBelow (toStorage t)) τ) (entryLines (typeBelow (toStorage t)))
-  change-opened t i a e =
-      borne-opened t i none
-      ∙ ap (λ (x : Answer (Step Borne)). lineWritten x (λ τ. rowWalk (changeStep c) (typeBelow (toStorage t)) τ) (entryLines (typeBelow (toStorage t)))) e
+  pub change-opened : (t : ArrowDataType) (i : Option Info) (a : Answer (Step Borne)) → changeStepOf c (typeShape (toStorage t)) (typeCount (toStorage t)) i ≡ a → typeWalked (changeStep c) t i none ≡ inside t a
+  change-opened t i a e = borne-opened t i none ∙ ap (inside t) e

@@ -7,6 +7,7 @@ ghost use Rattle.walks.specs.Places.{HasType};
 ghost use Rattle.mapping_line.specs.Begins.{ChangeBegins};
 use crate::change::Change;
 use crate::change::LineChange;
+use outcome::Size;
 use refusal::Refusal;
 use storage_line::below;
 use walks::LineBegun;
@@ -27,12 +28,26 @@ pub fn begin_change(change: Change, s: &[u8], tree: Subtree, out: &mut [u8]) -> 
         LineChange::Stays => {
             let row = below::row_below(s, tree, l, false);
             let len = crate::put::put_line(s, inner.at, l, own, out);
-            LineBegun::Below(row, len, Pending::Nothing)
+            LineBegun::Below(
+                row,
+                Size {
+                    len,
+                    lines: inner.passed + 1,
+                },
+                Pending::Nothing,
+            )
         }
         LineChange::Becomes(kind) => {
             let row = below::row_below(s, tree, l, true);
             let len = crate::put::put_kind_line(s, kind, own, out);
-            LineBegun::Below(row, len, Pending::Nothing)
+            LineBegun::Below(
+                row,
+                Size {
+                    len,
+                    lines: inner.passed + 1,
+                },
+                Pending::Nothing,
+            )
         }
     }
 }

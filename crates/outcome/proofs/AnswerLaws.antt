@@ -1,5 +1,5 @@
 -- The two ways out of `written`, and a refusal after something was written: the buffer's length is all that zeros are told by. From what the writer of a
--- sheet tells to the outcome of its call. Assumes nothing.
+-- sheet tells to the outcome of its call, and to its measure. Assumes nothing.
 use mathlib.Core.Path.{_≡_, sym, ap, subst, _∙_}
 use mathlib.Core.List.{_++_}
 use Prim.Native.Nat.{ℕ, _≤_, _<_}
@@ -8,11 +8,12 @@ use lib.ListN.{length, drop, replicate}
 use Rattle.sheets.specs.Bytes.{Bytes}
 use Rattle.sheets.specs.Refusal.{Refusal, numberOf, noRoom}
 use Rattle.sheets.specs.Answer.{Answer, refused, given}
-use Rattle.sheets.specs.Outcome.{Outcome, success, refusal, outcome}
+use Rattle.sheets.specs.Outcome.{Outcome, success, refusal, outcome, Measure, measure}
 use Rattle.sheets.proofs.OutcomeLaws.{turned, fits, fits-not}
 use Rattle.buffer.proofs.OverLaws.{over-fits, length-over}
-use Rattle.outcome.specs.Answers.{outcomeOf, Tells, SheetTold}
+use Rattle.outcome.specs.Answers.{outcomeOf, Tells, SheetTold, refusedMeasure}
 use Rattle.outcome.specs.declared.Answered.{Answered}
+use Rattle.outcome.specs.declared.Size.{Size}
 
 -- what was written before a refusal is not seen
 pub refusal-over : (n : ℕ) (mid out : Bytes) → length mid ≡ length out → refusal n mid ≡ refusal n out
@@ -39,8 +40,21 @@ module _ (a : Answer Bytes) (out mid : Bytes) where
   pub told-refused : (q : Refusal) (o : Outcome) → a ≡ refused q → o ≡ refusal (numberOf q) mid → length mid ≡ length out → o ≡ outcome a out
   told-refused q o i c l = c ∙ refusal-over (numberOf q) mid out l ∙ sym (turned q out) ∙ ap (λ (y : Answer Bytes). outcome y out) (sym i)
 
-  pub told-done : (z : Answer (ℕ × ℕ)) (next len : ℕ) → z ≡ given (next, len) → SheetTold a out mid z → (r : Answered) (out' : Bytes) → Tells mid len r out'
+  pub told-done : (n : ℕ) (z : Answer (ℕ × Size)) (next : ℕ) (size : Size) → z ≡ given (next, size) → SheetTold a n out mid z → (r : Answered) (out' : Bytes) → Tells mid (size .len) r out'
       → outcomeOf (r .number) (r .length) out' ≡ outcome a out
-  told-done z next len e h r out' c =
-      let (x, is, put) = subst (λ (y : Answer (ℕ × ℕ)). SheetTold a out mid y) e h in
+  told-done n z next size e h r out' c =
+      let (x, is, put, counted) = subst (λ (y : Answer (ℕ × Size)). SheetTold a n out mid y) e h in
       c x out put ∙ ap (λ (y : Answer Bytes). outcome y out) (sym is)
+
+-- ── the measure of a call that would answer the sheet a, for which n lines are visited
+
+module _ (a : Answer Bytes) (n : ℕ) where
+  pub measure-refused : (q : Refusal) (m : Measure) → a ≡ refused q → m ≡ refusedMeasure q → m ≡ measure a n
+  measure-refused q m i c = c ∙ ap (λ (y : Answer Bytes). measure y n) (sym i)
+
+  pub measure-done : (out mid : Bytes) (z : Answer (ℕ × Size)) (next : ℕ) (size : Size) → z ≡ given (next, size) → SheetTold a n out mid z
+      → (m : Measure) → m ≡ record { number = 0; size = size .len; lines = size .lines } → m ≡ measure a n
+  measure-done out mid z next size e h m c =
+      let (x, is, put, counted) = subst (λ (y : Answer (ℕ × Size)). SheetTold a n out mid y) e h in
+      let same : _≡_ {A = Measure} (record { number = 0; size = size .len; lines = size .lines }) (measure (given x) n) = λ i. record { number = 0; size = put .0 i; lines = counted i } in
+      c ∙ same ∙ ap (λ (y : Answer Bytes). measure y n) (sym is)

@@ -1,10 +1,16 @@
-// What a call that answers a sheet tells its caller, once for all of them: a number and a length.
+// What a call that answers a sheet tells its caller, once for all of them: a number and a length; and what a call tells that measures such a sheet.
 ghost use mathlib.Core.Path.{_≡_};
 ghost use Rattle.sheets.specs.Refusal.{numberOf};
 ghost use Rattle.sheets.specs.Outcome.{refusal};
 ghost use Rattle.refusal.specs.Refusals.{refusalOf};
-ghost use Rattle.outcome.specs.Answers.{outcomeOf, Tells};
+ghost use Rattle.outcome.specs.Answers.{outcomeOf, Tells, measureOf, refusedMeasure};
 use refusal::Refusal;
+
+// How many bytes an answer has, whether they fit or not, and how many lines of the sheet were visited for it.
+pub struct Size {
+    pub len: usize,
+    pub lines: usize,
+}
 
 // 0 and the sheet's length, or a refusal's number and 0.
 pub struct Answered {
@@ -37,5 +43,22 @@ pub fn written(out: &mut [u8], len: usize) -> Answered
     Answered {
         number: 0,
         length: len,
+    }
+}
+
+// What a call that measures tells: 0 and the size of what the conversion would write, or the number of its refusal, and no size.
+pub struct Measured {
+    pub number: u8,
+    pub size: Size,
+}
+
+// The conversion refuses the sheet for this reason.
+pub fn unmeasured(reason: Refusal) -> Measured
+    ensures { λ r. ⌜ measureOf r ≡ refusedMeasure (refusalOf reason) ⌝ }
+{
+    let none = Size { len: 0, lines: 0 };
+    Measured {
+        number: reason.number(),
+        size: none,
     }
 }

@@ -12,6 +12,7 @@ ghost use Rattle.walks.specs.Places.{HasType};
 use columns::Part;
 use field_leaf::FieldLeaf;
 use field_sheet::levels;
+use outcome::Size;
 use walks::LeafPut;
 use walks::LineBegun;
 use walks::Pending;
@@ -80,5 +81,5 @@ pub fn begin_page(s: &[u8], tree: Subtree, out: &mut [u8]) -> LineBegun
     let end = name.end;
     let len = crate::put::put_line(level, l.kind, mark, &s[start..end], out);
     let row = line_below::row_below(tree, l);
-    LineBegun::Below(row, len, Pending::Nothing)
+    LineBegun::Below(row, Size { len, lines: 1 }, Pending::Nothing)
 }

@@ -1,5 +1,5 @@
 -- What is known at each place of `begin_plain`: what is written for the line that was read and left below is what the step of plain form says, by
--- `walk-opened` and the laws of what is left (`walks`, `line_below`). Assumes nothing.
+-- `walked-opened` and the laws of what is left (`walks`, `line_below`). Assumes nothing.
 use mathlib.Core.Path.{_≡_, refl, sym, ap, subst, _∙_}
 use mathlib.Core.Bool.{Bool, true, false, _&&_, _||_, cond}
 use mathlib.Core.List.{List, [], _∷_, _++_}
@@ -18,12 +18,12 @@ use Rattle.sheets.specs.Field.{Info, leaf, ArrowDataType, scalar, nested, group
 use Rattle.sheets.specs.FieldSheet.{Entry, Shape, ofScalar, columns, noText}
 use Rattle.sheets.specs.FieldTrees.{isExtension, bareBelow, shapeRule, typeShape, typeBelow, entryHead, entryLines}
 use Rattle.sheets.specs.PlainSteps.{plainStep}
-use Rattle.sheets.specs.Walk.{headWith, headText, visit, skip, Step, writes, lineWritten, typeWalk, rowWalk}
+use Rattle.sheets.specs.Walk.{headWith, headText, visit, skip, Step, writes, lineWalked, typeWalked, rowWalked}
 use Rattle.sheets.proofs.Tests.{never}
 use Rattle.sheets.proofs.FieldTrees.{fields-lawful}
 use Rattle.sheets.proofs.LineTrees.{Lawful}
 use Rattle.sheets.proofs.TreeWalks.{below-fits}
-use Rattle.sheets.proofs.WalkLaws.{walk-opened, levels-below}
+use Rattle.sheets.proofs.WalkLaws.{walked-opened, levels-below}
 use Rattle.buffer.specs.Over.{PutAt, PutFirst}
 use Rattle.buffer.proofs.OverLaws.{put-over, over-nothing}
 use Rattle.read_field_line.specs.FieldLines.{FieldLineAt}
@@ -34,7 +34,7 @@ use Rattle.field_sheet.specs.declared.subtrees.Skipped.the-variants.{To, Deep}
 use Rattle.field_line.specs.Columns.{columnsPiece, ownPiece, endPiece}
 use Rattle.field_line.proofs.LengthLaws.{shape-short, bare-length, end-short}
 use Rattle.field_line.proofs.ColumnLaws.{bare-line}
-use Rattle.walks.specs.Places.{ownLimit, TypeAt, HasType, BeginsAs}
+use Rattle.walks.specs.Places.{ownLimit, TypeAt, HasType, BeginsAs, oneLine}
 use Rattle.walks.specs.Answers.{begunAnswer}
 use Rattle.walks.specs.declared.LineBegun.{LineBegun}
 use Rattle.walks.specs.declared.LineBegun.the-variants.{Below}
@@ -77,43 +77,43 @@ stays-only false e d h = refl
 -- ── what is written for a type, by what becomes of its line
 
 abbrev OpensAs : ArrowDataType → Option Info → Bool → Step Bool → Type 0
-OpensAs t i inside p = typeWalk plainStep t i inside ≡ lineWritten (given p) (λ τ. rowWalk plainStep (typeBelow t) τ) (entryLines (typeBelow t))
+OpensAs t i inside p = typeWalked plainStep t i inside ≡ lineWalked 0 (given p) (λ τ. rowWalked plainStep (typeBelow t) τ) (entryLines (typeBelow t))
 
 opens-vanished : (t : ArrowDataType) (i : Option Info) (inside : Bool) → inside ≡ true → isExtension (typeShape t) ≡ true → OpensAs t i inside (writes (given []) (visit (isExtension (typeShape t))))
 opens-vanished (scalar s) i inside b e = never e
 opens-vanished (nested n j t) i inside b e = never e
 opens-vanished (grouped g fs) i inside b e = never e
 opens-vanished (dictionary ix ordered t) i inside b e = never e
-opens-vanished (extension n m t) i true b e = walk-opened plainStep (extension n m t) i true
+opens-vanished (extension n m t) i true b e = walked-opened plainStep (extension n m t) i true
 opens-vanished (extension n m t) i false b e = never b
 
 opens-staying : (t : ArrowDataType) (i : Option Info) (inside : Bool) → (inside && bareBelow (typeShape t)) ≡ false
     → OpensAs t i inside (writes (given (headText (plainHead (entryHead (i, t))) ∷ [])) (visit (isExtension (typeShape t))))
-opens-staying (scalar s) i inside h = walk-opened plainStep (scalar s) i inside
-opens-staying (nested n j t) i inside h = walk-opened plainStep (nested n j t) i inside
-opens-staying (grouped g fs) i inside h = walk-opened plainStep (grouped g fs) i inside
+opens-staying (scalar s) i inside h = walked-opened plainStep (scalar s) i inside
+opens-staying (nested n j t) i inside h = walked-opened plainStep (nested n j t) i inside
+opens-staying (grouped g fs) i inside h = walked-opened plainStep (grouped g fs) i inside
 opens-staying (dictionary ix ordered t) i true h = never (sym h)
-opens-staying (dictionary ix ordered t) i false h = walk-opened plainStep (dictionary ix ordered t) i false
+opens-staying (dictionary ix ordered t) i false h = walked-opened plainStep (dictionary ix ordered t) i false
 opens-staying (extension n m t) i true h = never (sym h)
-opens-staying (extension n m t) i false h = walk-opened plainStep (extension n m t) i false
+opens-staying (extension n m t) i false h = walked-opened plainStep (extension n m t) i false
 
 module _ {s : Bytes} (tree : Subtree) {i : Option Info} {t : ArrowDataType} {es : List Entry} (f : TypeAt s (tree .at) (tree .levels) (tree .inside) i t es) {l : FieldLine} (k : FieldLineAt s (tree .at) l) where
   abbrev Told : Bytes → Bytes → LineBegun → Type 0
-  Told out out' r = BeginsAs plainStep s (tree .at) (tree .levels) (tree .inside) (typeWalk plainStep t i (tree .inside)) es out out' (begunAnswer (λ (levels : ℕ) (inside : Bool). inside) r)
+  Told out out' r = BeginsAs plainStep s (tree .at) (tree .levels) (tree .inside) (typeWalked plainStep t i (tree .inside)) es out out' (begunAnswer (λ (levels : ℕ) (inside : Bool). inside) r)
 
   -- what is below the line is visited
   row-left : (ls : List Bytes) → OpensAs t i (tree .inside) (writes (given ls) (visit (isExtension (typeShape t)))) → (out out' : Bytes) (len : ℕ) → PutFirst (ended ls) len out out' → len ≤ ownLimit
-      → (w : Subtrees) → w ≡ rowBelow tree l → Told out out' (Below w len Nothing)
+      → (w : Subtrees) → w ≡ rowBelow tree l → Told out out' (Below w (oneLine len) Nothing)
   row-left = all-visited tree f k plainStep (λ (levels : ℕ) (inside : Bool). inside)
 
   -- an extension vanishes
-  pub vanished : lineChangeOf (tree .inside) (l .kind) ≡ Vanishes → (out : Bytes) (w : Subtrees) → w ≡ rowBelow tree l → Told out out (Below w 0 Nothing)
+  pub vanished : lineChangeOf (tree .inside) (l .kind) ≡ Vanishes → (out : Bytes) (w : Subtrees) → w ≡ rowBelow tree l → Told out out (Below w (oneLine 0) Nothing)
   vanished h out w e =
       let c = vanishes-only (tree .inside) (eqb (l .kind) Kind.Extension) (eqb (l .kind) Kind.Dictionary) h in
       row-left [] (opens-vanished t i (tree .inside) (c .0) (sym (line-extension (f .stands) k) ∙ c .1)) out out 0 (refl, sym (over-nothing out)) (omega arith) w e
 
   -- a line stays
-  pub stayed : lineChangeOf (tree .inside) (l .kind) ≡ Stays → (out out' : Bytes) (len : ℕ) → LinePut s (tree .at) l out out' len → (w : Subtrees) → w ≡ rowBelow tree l → Told out out' (Below w len Nothing)
+  pub stayed : lineChangeOf (tree .inside) (l .kind) ≡ Stays → (out out' : Bytes) (len : ℕ) → LinePut s (tree .at) l out out' len → (w : Subtrees) → w ≡ rowBelow tree l → Told out out' (Below w (oneLine len) Nothing)
   stayed h out out' len put w e =
       let c = stays-only (tree .inside) (eqb (l .kind) Kind.Extension) (eqb (l .kind) Kind.Dictionary) h in
       let (at-end, short) = put k in
@@ -156,8 +156,8 @@ module _ {s : Bytes} (tree : Subtree) {i : Option Info} {t : ArrowDataType} {es 
         go (extension a m u) c e b n y = never (sym n)
         go (dictionary ix ordered u) false e b n y = never y
         go (dictionary ix ordered u) true e b n y =
-            walk-opened plainStep (dictionary ix ordered u) i true
-            ∙ ap (λ (x : ℕ). lineWritten (given (writes (given (headText (headWith (ofScalar (leaf (x + Kind.Int8) 0)) none 0) ∷ [])) skip)) (λ τ. rowWalk plainStep (typeBelow (dictionary ix ordered u)) τ) (entryLines (typeBelow (dictionary ix ordered u)))) (sym e)
+            walked-opened plainStep (dictionary ix ordered u) i true
+            ∙ ap (λ (x : ℕ). lineWalked 0 (given (writes (given (headText (headWith (ofScalar (leaf (x + Kind.Int8) 0)) none 0) ∷ [])) skip)) (λ τ. rowWalked plainStep (typeBelow (dictionary ix ordered u)) τ) (entryLines (typeBelow (dictionary ix ordered u)))) (sym e)
 
     module _ (r : Skipped) (skips : SkipsRow s (l .end) (l .children) false (tree .levels - 1) (skipAnswer r)) where
       told : (q : Skipped) → r ≡ q → SkipsRow s (l .end) (l .children) false (tree .levels - 1) (skipAnswer q)
@@ -173,12 +173,12 @@ module _ {s : Bytes} (tree : Subtree) {i : Option Info} {t : ArrowDataType} {es 
           omega (arith, m, rw none-inside at d)
 
       pub index-begun : (next : ℕ) → r ≡ To next → (out out' : Bytes) (len : ℕ) → PutAt 0 (indexLine (l .p)) len out out' → len ≤ ownLimit
-          → Told out out' (Below (record { at = next; count = 0; levels = tree .levels - 1; inside = false }) len Nothing)
+          → Told out out' (Below (record { at = next; count = 0; levels = tree .levels - 1; inside = false }) (oneLine len) Nothing)
       index-begun next e out out' len put short =
           let m = told (To next) e (typeBelow t) es (line-opened (f .stands) k .1) many in
           let falls = row-smaller f in
-          begin-skip plainStep s (tree .at) (tree .levels) (tree .inside) (typeWalk plainStep t i (tree .inside)) (writes (given (headText (headWith (ofScalar (leaf (l .p + Kind.Int8) 0)) none 0) ∷ [])) skip) (typeBelow t) es opens-index
-          false next (tree .levels - 1) false (rw none-inside at falls) (m .1) (m .3) (f .short) refl out out' len (given tt)
+          begin-skip plainStep s (tree .at) (tree .levels) (tree .inside) (typeWalked plainStep t i (tree .inside)) (writes (given (headText (headWith (ofScalar (leaf (l .p + Kind.Int8) 0)) none 0) ∷ [])) skip) (typeBelow t) es 0 opens-index
+          false next (tree .levels - 1) false (rw none-inside at falls) (m .1) (m .3) (f .short) (omega (arith, k .there .low, m .2)) refl out out' len (given tt)
           (put-over (indexLine (l .p)) out put) (omega (arith, k .there .low, m .2, short))
 
 -- ── what a line that stays is written by

@@ -9,6 +9,7 @@ ghost use Rattle.walks.specs.Places.{HasType};
 ghost use Rattle.plain_line.specs.Begins.{lineChangeOf, indexLine, HasIndex, PlainBegins};
 use datatypes::kind;
 use field_sheet::subtrees::Skipped;
+use outcome::Size;
 use read_field_line::FieldLine;
 use refusal::Refusal;
 use walks::LineBegun;
@@ -67,7 +68,7 @@ fn begin_index(s: &[u8], tree: Subtree, l: FieldLine, out: &mut [u8]) -> LineBeg
         levels: left,
         inside: false,
     };
-    LineBegun::Below(row, len, Pending::Nothing)
+    LineBegun::Below(row, Size { len, lines: 1 }, Pending::Nothing)
 }
 
 // Writes the plain form of the line at `tree.at`, as far as it fits.
@@ -79,13 +80,13 @@ pub fn begin_plain(s: &[u8], tree: Subtree, out: &mut [u8]) -> LineBegun
     match line_change(tree.inside, l.kind) {
         LineChange::Vanishes => {
             let row = line_below::row_below(tree, l);
-            LineBegun::Below(row, 0, Pending::Nothing)
+            LineBegun::Below(row, Size { len: 0, lines: 1 }, Pending::Nothing)
         }
         LineChange::BecomesIndex => begin_index(s, tree, l, out),
         LineChange::Stays => {
             let row = line_below::row_below(tree, l);
             let len = crate::line::put_line(s, tree.at, l, out);
-            LineBegun::Below(row, len, Pending::Nothing)
+            LineBegun::Below(row, Size { len, lines: 1 }, Pending::Nothing)
         }
     }
 }

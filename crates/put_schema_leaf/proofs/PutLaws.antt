@@ -1,7 +1,7 @@
 -- A leaf's schema line written as words, and its field line copied: each piece, and then the whole line, which is that of the node that `ArrowSchema::new`
 -- makes of the leaf, or that of its plain form. Assumes nothing.
 use mathlib.Core.Path.{_≡_, refl, sym, ap, ap₂, subst, _∙_}
-use mathlib.Core.Bool.{Bool, true, false, not, _&&_, and-false}
+use mathlib.Core.Bool.{Bool, true, false, not, _&&_, _||_, and-false}
 use mathlib.Core.List.{[], _∷_, _++_, append-assoc, append-nil}
 use mathlib.Core.Option.{Option, none, some}
 use Prim.Native.Nat.{ℕ, zero, suc, _+_, _*_, _-_, _/_, _%_, _^_, _≤_, _<_, min}
@@ -25,8 +25,8 @@ use Rattle.sheets.specs.Format.{rows, rowOf}
 use Rattle.sheets.specs.Export.{flag, schemaNew}
 use Rattle.sheets.proofs.Tests.{when-met}
 use Rattle.hex.proofs.PartLaws.{length-hex}
-use Rattle.buffer.specs.Over.{over, overAt, PutAt}
-use Rattle.buffer.proofs.OverLaws.{Written, none-yet, and-then, length-written, whole, stored, overAt-nothing, length-overAt}
+use Rattle.buffer.specs.Over.{over, overAt, PutAt, PutFirst}
+use Rattle.buffer.proofs.OverLaws.{over-empty, Written, none-yet, and-then, length-written, whole, stored, overAt-nothing, length-overAt}
 use Rattle.words.specs.Words.{lowBytes}
 use Rattle.words.proofs.WordLaws.{length-low, put-both, word-put}
 use Rattle.columns.specs.Columns.{part}
@@ -181,6 +181,43 @@ tail-size : (n : ℕ) → length (schemaTail n) ≡ 9
 unfolding schemaTail
 tail-size n = refl
 
+module _ {s : Bytes} {at kind from e n low high len : ℕ} (k : FieldLeafAt s at kind from e n) (f : Format kind low high len) where
+  abbrev text : Bytes
+  text = schemaText (digitsText low high len) (part s from e) n
+
+  text-size : length text ≡ e - from + len + 10
+  text-size =
+      omega (
+        arith,
+        length-append ((digitsText low high len ++ (32 ∷ [])) ++ part s from e) (schemaTail n),
+        length-append (digitsText low high len ++ (32 ∷ [])) (part s from e),
+        length-append (digitsText low high len) (32 ∷ []),
+        digits-size low high len,
+        name-size k,
+        tail-size n,
+      )
+
+  line-written : (out r : Bytes) (size : ℕ) → PutFirst text size out r → SchemaLeafWritten s at out r (e + 7) size
+  line-written out r size p =
+      let is : text ≡ ended (schemaLines (schema (leafNode (f .row .name) (k .bytes) n) end absent)) =
+      ap₂ (λ (x y : Bytes). schemaText x y n) (f .is) (k .name) ∙ line-text (f .row .name) (k .bytes) n (f .some) (k .some) (k .flag) in
+      record {
+        kind = kind;
+        from = from;
+        e = e;
+        nullable = n;
+        leaf = k;
+        node = leafNode (f .row .name) (k .bytes) n;
+        made = made kind low high len (k .bytes) n f (k .nonzero);
+        after = refl;
+        put = (p .0 ∙ ap length is, p .1 ∙ ap (λ (b : Bytes). over b out) is);
+        short = omega (arith, p .0, text-size, format-size f .1);
+      }
+
+  -- no byte is lent
+  pub schema-counted : (out : Bytes) → length out ≡ 0 → SchemaLeafWritten s at out out (e + 7) (e - from + len + 10)
+  schema-counted out h = line-written out out (e - from + len + 10) (sym text-size, over-empty text out h)
+
 module _ {s : Bytes} {at kind from e n low high len : ℕ} (k : FieldLeafAt s at kind from e n) (f : Format kind low high len) (out : Bytes) (fits : e - from ≤ length out) (room : len + 10 ≤ length out - (e - from)) where
   pub name-can : (l : Bytes) (to : ℕ) → PutAt 0 (digitsText low high len ++ (32 ∷ [])) to out l → CanCopy l to s from e
   name-can l to p =
@@ -205,20 +242,7 @@ module _ {s : Bytes} {at kind from e n low high len : ℕ} (k : FieldLeafAt s at
   schema-written l m r to stop size p q t =
       let v : Written 0 (digitsText low high len ++ (32 ∷ [])) out to l = record { place = p .0; holds = p .1 } in
       let all = whole (and-then (schemaTail n) (and-then (part s from e) v q) t) in
-      let text : schemaText (digitsText low high len) (part s from e) n ≡ ended (schemaLines (schema (leafNode (f .row .name) (k .bytes) n) end absent)) =
-      ap₂ (λ (x y : Bytes). schemaText x y n) (f .is) (k .name) ∙ line-text (f .row .name) (k .bytes) n (f .some) (k .some) (k .flag) in
-      record {
-        kind = kind;
-        from = from;
-        e = e;
-        nullable = n;
-        leaf = k;
-        node = leafNode (f .row .name) (k .bytes) n;
-        made = made kind low high len (k .bytes) n f (k .nonzero);
-        after = refl;
-        put = (all .0 ∙ ap length text, all .1 ∙ ap (λ (b : Bytes). over b out) text);
-        short = omega (arith, p .0, q .0, t .0, length-append (digitsText low high len) (32 ∷ []), digits-size low high len, name-size k, tail-size n, format-size f .1);
-      }
+      line-written k f out r size (all .0, all .1)
 
 -- ── dates
 
@@ -246,9 +270,10 @@ module _ (s : Bytes) (at : ℕ) (out : Bytes) (r : FieldLeaf) (h : leafOption r 
       pub no-format : q ≡ Nothing → schemaFits out (fieldLeafIn s at) ≡ false
       no-format nothing = fits-here ∙ ap (formatFits out (e - from)) (sym g ∙ ap digitsOption nothing)
 
-      pub no-room : (low high len : ℕ) → q ≡ Are low high len → length out < len + 10 + (e - from) → schemaFits out (fieldLeafIn s at) ≡ false
-      no-room low high len are l =
+      pub no-room : (low high len : ℕ) → q ≡ Are low high len → (length out ≡ 0 → ⊥) → length out < len + 10 + (e - from) → schemaFits out (fieldLeafIn s at) ≡ false
+      no-room low high len are lent l =
           fits-here ∙ ap (formatFits out (e - from)) (sym g ∙ ap digitsOption are)
+          ∙ ap (λ (b : Bool). b || leb (length (digitsText low high len) + 10 + (e - from)) (length out)) (ne-eqb (length out) 0 lent)
           ∙ lt-leb (length (digitsText low high len) + 10 + (e - from)) (length out) (omega (arith, digits-size low high len))
 
     module _ (dates : Bool) where

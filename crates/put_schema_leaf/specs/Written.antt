@@ -43,10 +43,10 @@ pub record SchemaLeafWritten (s : Bytes) (at : ℕ) (out out' : Bytes) (next len
   pub put : PutFirst (ended (schemaLines (schema node end absent))) len out out'
   pub short : len ≤ 24 + (e - from)
 
--- there is room for the line, ten bytes longer than its format and its name
+-- no byte is lent, or there is room for the line, ten bytes longer than its format and its name
 abbrev pub formatFits : Bytes → ℕ → Option Bytes → Bool
 formatFits out name none = false
-formatFits out name (some format) = leb (length format + 10 + name) (length out)
+formatFits out name (some format) = eqb (length out) 0 || leb (length format + 10 + name) (length out)
 
 -- a line that is written at once: short, with a format and with room
 abbrev pub schemaFits : Bytes → Option Told → Bool

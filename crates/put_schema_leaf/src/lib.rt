@@ -71,7 +71,8 @@ fn put_tail(out: &mut [u8], at: usize, nullable: u64) -> usize
     end
 }
 
-// Writes the schema line of the leaf whose field line stands at `at`, if it is recognised, its type has a format and the line fits.
+// Writes the schema line of the leaf whose field line stands at `at`, if it is recognised, its type has a format and the line fits; where no byte is lent, as
+// by a call that measures, it is only counted.
 pub fn put_schema_leaf(s: &[u8], at: usize, out: &mut [u8]) -> LeafPut
     ensures { λ r. ⌜ SchemaLeafPuts (now (s .entry)) at (now (out .entry)) (now (out .exit)) r ⌝ }
 {
@@ -83,6 +84,9 @@ pub fn put_schema_leaf(s: &[u8], at: usize, out: &mut [u8]) -> LeafPut
     };
     let name = e - from;
     if out.len() < name {
+        if out.len() == 0 {
+            return LeafPut::Put(e + 7, name + len + 10);
+        }
         return LeafPut::Other;
     }
     if out.len() - name < len + 10 {

@@ -1,15 +1,16 @@
 -- A schema line written piece by piece is the line of document 01; what is written at once is the same pieces. Assumes nothing.
 use mathlib.Core.Path.{_≡_, refl, sym, ap, ap₂, subst, _∙_}
-use mathlib.Core.Bool.{Bool, true, false, _&&_, _||_, cond, true≢false}
+use mathlib.Core.Bool.{Bool, true, false, not, _&&_, _||_, cond, true≢false}
 use mathlib.Core.List.{[], _∷_, _++_, append-assoc}
 use mathlib.Core.Option.{Option, none, some}
-use Prim.Native.Nat.{ℕ, _+_, _*_, _≤_, _<_, _^_}
+use Prim.Native.Nat.{ℕ, suc, _+_, _*_, _≤_, _<_, _^_}
+use Prim.Native.Nat.{zero as first}
 use native.Mathlib.Nat.{zero-add}
 use native.Mathlib.Omega.{arith}
 use lib.Dec.{eqb, leb, ltb}
 use lib.IntN.{pos}
 use lib.ListN.{length, length-append}
-use borrow.Author.Tests.{eqb-true, eqb-false, ne-eqb, leb-true, ltb-true, lt-ltb}
+use borrow.Author.Tests.{eqb-true, eqb-false, ne-eqb, leb-true, ltb-true, ltb-false, lt-ltb}
 use Rattle.sheets.specs.Bytes.{Bytes, lineEnd, space, same}
 use Rattle.sheets.specs.Answer.{Answer, refused, given}
 use Rattle.sheets.specs.Number.{decimal}
@@ -27,7 +28,7 @@ use Rattle.sheets.specs.Schema.{schemaLine, lineOf}
 use Rattle.sheets.specs.Export.{flag, sortedFlag, valuesInfo}
 use Rattle.sheets.proofs.Tests.{same-given, not-given, and-left, and-right}
 use Rattle.buffer.specs.Over.{over, overAt, PutAt}
-use Rattle.buffer.proofs.OverLaws.{Written, none-yet, and-then, overAt-zero, over-append}
+use Rattle.buffer.proofs.OverLaws.{over-empty, Written, none-yet, and-then, overAt-zero, over-append}
 use Rattle.hex.proofs.PartLaws.{length-hex}
 use Rattle.words.specs.Words.{lowBytes}
 use Rattle.words.proofs.WordLaws.{low-is, length-low}
@@ -113,6 +114,17 @@ module _ (n : LineNumbers) (pairs extension : Bytes) where
         no-metadata (n .big) pairs extension more at (record { column = h .column; short = h .short; named = h .extended; metadata = h .metadata; low = omega (arith, h .low) }) (firstPlace pairs) refl
         (and-left (same extension (126 ∷ [])) _ after-pairs) (leb-true (length pairs) (firstPlace pairs) (and-left (leb (length pairs) (firstPlace pairs)) _ e))
 
+-- where no byte is lent, nothing is written
+nothing-lent : (at : ℕ) (t out : Bytes) → length out ≡ 0 → out ≡ overAt at t out
+unfolding overAt
+nothing-lent first t out h = over-empty t out h
+nothing-lent (suc at) t [] h = refl
+nothing-lent (suc at) t (o ∷ out) h = absurd (omega arith)
+
+-- else there is room up to the place that the bytes do not end before
+pub room-to : (room end : ℕ) → (not (eqb room 0) && ltb room end) ≡ false → (room ≡ 0 → ⊥) → end ≤ room
+room-to room end h lent = ltb-false room end (sym (ap (λ (b : Bool). not b && ltb room end) (ne-eqb room 0 lent)) ∙ h)
+
 one-digit : (k : ℕ) → k < 10 → decimal k ≡ (48 + k) ∷ []
 one-digit k h = decimal-start k ∙ first-digit k [] h
 
@@ -140,6 +152,11 @@ module _ (n : LineNumbers) (f : n .flags ≤ 9) (c : n .children ≤ 9) (d : n .
       let one : Written at (lowBytes 8 w) old (at + 8) mid = and-then (lowBytes 8 w) (none-yet at old) (ap (λ (k : ℕ). at + k) (sym (length-low 8 w)), e) in
       let two = and-then (10 ∷ []) one p in
       (two .place ∙ ap (λ (t : Bytes). at + length t) plain-tail, two .holds ∙ ap (λ (t : Bytes). overAt at t old) plain-tail)
+
+  pub plain-counted : (at : ℕ) (out : Bytes) → length out ≡ 0 → PutAt at (tailPiece n (126 ∷ [])) (at + 9) out out
+  plain-counted at out h =
+      let nine : length (tailPiece n (126 ∷ [])) ≡ 9 = sym (ap length plain-tail) ∙ length-append (lowBytes 8 w) (10 ∷ []) ∙ ap (λ (k : ℕ). k + 1) (length-low 8 w) in
+      (omega (arith, nine), nothing-lent at (tailPiece n (126 ∷ [])) out h)
 
 -- ── the pieces are the line
 

@@ -117,7 +117,7 @@ pub record CanPutPlain (n : LineNumbers) (out : Bytes) (at : ℕ) : Type 0 where
   pub flags : n .flags ≤ 9
   pub children : n .children ≤ 9
   pub dictionary : n .dictionary < 10
-  pub room : at + 9 ≤ length out
+  pub room : (length out ≡ 0 → ⊥) → at + 9 ≤ length out
   pub low : at < 2 ^ 61
 
 pub record CanPutRest (name pairs extension more : Bytes) (at : ℕ) : Type 0 where

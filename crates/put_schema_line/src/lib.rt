@@ -1,6 +1,8 @@
 // One line of a schema sheet, written from columns of a field sheet: `format name flags metadata children dictionary`.
 ghost use mathlib.Core.Path.{_≡_};
+ghost use mathlib.Core.Bool.{not, _&&_};
 ghost use mathlib.Core.List.{[], _∷_};
+ghost use lib.Dec.{eqb, ltb};
 ghost use Rattle.buffer.specs.Over.{PutAt};
 ghost use Rattle.column_text.specs.ColumnText.{TextColumn};
 ghost use Rattle.put_metadata.specs.Pairs.{PairsColumn};
@@ -114,14 +116,27 @@ fn is_plain(n: LineNumbers, pairs: &[u8], extension: &[u8]) -> bool
     n.dictionary < 10
 }
 
-// Such a tail, ` 0 ~ 0 0` with these digits and byte 10, written at once.
+// Such a tail, ` 0 ~ 0 0` with these digits and byte 10, written at once; or counted, where no byte is lent.
 fn put_plain(out: &mut [u8], at: usize, n: LineNumbers) -> usize
     requires { ⌜ CanPutPlain n (now out) at ⌝ }
     ensures { λ r. ⌜ PutAt at (tailPiece n (126 ∷ [])) r (now (out .entry)) (now (out .exit)) ⌝ }
 {
+    if out.len() == 0 {
+        return at + 9;
+    }
     let digits = n.flags * 0x100 + n.children * 0x10000000000 + n.dictionary * 0x100000000000000;
     words::put_word8(out, at, 0x302030207e203020 + digits);
     buffer::put_byte(out, at + 8, b'\n')
+}
+
+// Whether bytes are lent, and they end before this place.
+fn ends_before(room: usize, end: usize) -> bool
+    ensures { λ r. ⌜ r ≡ (not (eqb room 0) && ltb room end) ⌝ }
+{
+    if room == 0 {
+        return false;
+    }
+    room < end
 }
 
 fn put_tail(
@@ -135,7 +150,7 @@ fn put_tail(
     requires { ⌜ CanPutTail (now pairs) (now extension) (now more) at ⌝ }
     ensures { λ r. ⌜ PutAt at (tailPiece n (metadataColumn (n .big) (now (pairs .entry)) (now (extension .entry)) (now (more .entry)))) r (now (out .entry)) (now (out .exit)) ⌝ }
 {
-    if out.len() < at + 9 {
+    if ends_before(out.len(), at + 9) {
         return put_any(out, at, n, pairs, extension, more);
     }
     if !is_plain(n, pairs, extension) {

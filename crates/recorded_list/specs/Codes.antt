@@ -43,6 +43,12 @@ fromPrimitiveTypeCall = 12
 abbrev pub pageCall : ℕ
 pageCall = 13
 
+abbrev pub measureImportCall : ℕ
+measureImportCall = 14
+
+abbrev pub measureExportCall : ℕ
+measureExportCall = 15
+
 -- the codes are the numbers below this
 abbrev pub calls : ℕ
-calls = 14
+calls = 16

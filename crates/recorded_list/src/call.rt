@@ -27,5 +27,9 @@ pub const FROM_PRIMITIVE_TYPE: u64 = 12;
 
 pub const PAGE: u64 = 13;
 
+pub const MEASURE_IMPORT: u64 = 14;
+
+pub const MEASURE_EXPORT: u64 = 15;
+
 // The codes are the numbers below this.
-pub const CALLS: usize = 14;
+pub const CALLS: usize = 16;

@@ -2,11 +2,11 @@
 // replayed and how many differ, and in full the first that does; or at which record the list is malformed. Records are counted from 0.
 ghost use mathlib.Core.Path.{_≡_};
 ghost use lib.ListN.{length};
-ghost use Rattle.outcome.specs.Answers.{outcomeOf};
+ghost use Rattle.outcome.specs.Answers.{outcomeOf, measureOf};
 ghost use Rattle.mapping_calls.specs.Answers.{placesOf, yesNoOf};
 ghost use Rattle.recorded_list.specs.Answers.{recordIn};
 ghost use Rattle.recorded_list.specs.Moving.{longestPart, Within};
-ghost use Rattle.judge.specs.Judging.{filled, recorded, difference, sheetOutcome, placesNumbers, yesNoNumbers, numbersOutcome, replayed, replayedOption};
+ghost use Rattle.judge.specs.Judging.{filled, recorded, difference, sheetOutcome, placesNumbers, yesNoNumbers, measureNumbers, numbersOutcome, replayed, replayedOption};
 ghost use Rattle.replay.specs.Turns.{longestBuffer, recordOf, Lendable, proper, turnOption, ReplaysNext};
 use judge::Numbers;
 use judge::Replayed;
@@ -14,6 +14,7 @@ use judge::tally::COUNTS;
 use mapping_calls::YesNo;
 use mapping_calls::physical::PhysicalPlaces;
 use outcome::Answered;
+use outcome::Measured;
 use recorded_list::Next;
 use recorded_list::Start;
 use recorded_list::call;
@@ -92,16 +93,28 @@ fn yes_no_numbers(y: YesNo) -> Numbers
     }
 }
 
+fn measure_numbers(m: Measured) -> Numbers
+    ensures { λ r. ⌜ r ≡ measureNumbers (measureOf m) ⌝ }
+{
+    Numbers {
+        number: m.number as u64,
+        first: m.size.len as u64,
+        second: m.size.lines as u64,
+    }
+}
+
 // The answer of a call that answers numbers. The last one has the code that is left.
-fn ask_numbers(code: u64, s: &[u8]) -> Numbers
-    ensures { λ r. ⌜ r ≡ numbersOutcome code (now (s .entry)) ⌝ }
+fn ask_numbers(code: u64, argument: u64, s: &[u8]) -> Numbers
+    ensures { λ r. ⌜ r ≡ numbersOutcome code argument (now (s .entry)) ⌝ }
 {
     match code {
         call::TO_PHYSICAL_TYPE => {
             physical_numbers(mapping_calls::physical::to_physical_type(s).places())
         }
         call::IS_NESTED => yes_no_numbers(mapping_calls::is_nested(s)),
-        _ => yes_no_numbers(mapping_calls::contains_dictionary(s)),
+        call::CONTAINS_DICTIONARY => yes_no_numbers(mapping_calls::contains_dictionary(s)),
+        call::MEASURE_IMPORT => measure_numbers(import_sheet::measure_import(s, argument != 0)),
+        _ => measure_numbers(field_calls::measure_export(s, argument != 0)),
     }
 }
 
@@ -110,7 +123,7 @@ fn replay(h: Header, input: &[u8], output: &[u8], lent: &mut [u8]) -> Replayed
     ensures { λ r. ⌜ replayedOption r ≡ replayed (length (now (lent .entry))) (recordOf h (now (input .entry)) (now (output .entry))) ⌝ }
 {
     if judge::answers_numbers(h.call) {
-        return judge::judge_numbers(ask_numbers(h.call, input), h);
+        return judge::judge_numbers(ask_numbers(h.call, h.argument, input), h);
     }
     replay_sheet(h, input, output, lent)
 }

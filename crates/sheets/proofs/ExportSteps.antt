@@ -5,6 +5,8 @@ use mathlib.Core.Bool.{Bool, true, false}
 use mathlib.Core.List.{List, [], _++_, append-nil}
 use mathlib.Core.Option.{Option, none, some}
 use Prim.Native.Nat.{ℕ, suc}
+use native.Mathlib.Omega.{arith}
+use lib.ListN.{length, length-append}
 use Rattle.sheets.specs.Refusal.{Refusal, zeroByte}
 use Rattle.sheets.specs.Rule.{_and_, passes}
 use Rattle.sheets.specs.Bytes.{Bytes, lacks}
@@ -12,7 +14,7 @@ use Rattle.sheets.specs.Answer.{Answer, refused, given, _>>=_, decide}
 use Rattle.sheets.specs.Flags.{ORDERED}
 use Rattle.sheets.specs.Sheet.{writeSheet}
 use Rattle.sheets.specs.Schema.{Schema, Schemas, end, _&_, Dictionary, absent, present, countSchemas, countDictionary, schemaLines, childrenLines, dictionaryLines, schemaHeading}
-use Rattle.sheets.specs.Field.{Info, ArrowDataType, scalar, nested, grouped, dictionary, extension, Fields, nil, add, countFields}
+use Rattle.sheets.specs.Field.{Info, ArrowDataType, scalar, nested, grouped, dictionary, extension, Fields, nil, add, Field, countFields}
 use Rattle.sheets.specs.FieldSheet.{typeLines, fieldsLines, readFieldSheet}
 use Rattle.sheets.specs.FieldTrees.{typeShape, typeCount, typeBelow, entryLines}
 use Rattle.sheets.specs.Format.{scalarFormat, nestingFormat, groupingFormat, indexFormat}
@@ -20,10 +22,12 @@ use Rattle.sheets.specs.Metadata.{Extension}
 use Rattle.sheets.specs.Export.{flag, sortedFlag, valuesInfo, outermost, schemaNode, schemaNewOf, schemaChildren, schemaNew}
 use Rattle.sheets.specs.Mappings.{toStorage}
 use Rattle.sheets.specs.Outcome.{exported}
-use Rattle.sheets.specs.Walk.{visit, skip, Step, writes, lineWritten, typeWalk, fieldsWalk, rowWalk, sheetWalk}
+use Rattle.sheets.specs.Walk.{visit, skip, Step, writes, lineWritten, typeWalk, fieldsWalk, sheetWalk}
+use Rattle.sheets.specs.Walk.{Walked, extensionsAround, lineVisits, lineWalked, typeVisits, fieldsVisits, typeWalked, rowWalked}
+use Rattle.sheets.specs.Visits.{exportVisits, visitsOfFields, exportLines}
 use Rattle.sheets.specs.ExportSteps.{schemaWritten, childrenWritten, Bearer, orValues, infoOf, extensionOf, schemaOwn, schemaStepOf, schemaStep, extensionIn}
-use Rattle.sheets.proofs.Tests.{chained, chain-same}
-use Rattle.sheets.proofs.WalkLaws.{nothing-own, walk-opened, sheet-walked}
+use Rattle.sheets.proofs.Tests.{chained, chain-same, first-gave, not-given}
+use Rattle.sheets.proofs.WalkLaws.{nothing-own, later, passed-own, later-walked, walked-opened, scalar-visits, sheet-walked}
 
 -- a test, and what follows
 test-same : {A B C : Type 0} (r : Refusal) (b : Bool) (x : A) (y : B) (f : A → Answer C) (g : B → Answer C) → f x ≡ g y → (decide r b x >>= f) ≡ (decide r b y >>= g)
@@ -123,34 +127,86 @@ module _ (big : Bool) where
 
   -- ── extensions
 
+  -- a line, after so many extensions, with the row below the type in all of them
+  abbrev inside : ArrowDataType → Answer (Step (Option Bearer)) → Walked
+  inside t a = lineWalked (extensionsAround t) a (λ τ. rowWalked (schemaStep big) (typeBelow (toStorage t)) τ) (entryLines (typeBelow (toStorage t)))
+
+  one-more : (t : ArrowDataType) (a : Answer (Step (Option Bearer)))
+      → later (inside t a) ≡ lineWalked (suc (extensionsAround t)) a (λ τ. rowWalked (schemaStep big) (typeBelow (toStorage t)) τ) (entryLines (typeBelow (toStorage t)))
+  one-more t a = later-walked (extensionsAround t) a (λ τ. rowWalked (schemaStep big) (typeBelow (toStorage t)) τ) (entryLines (typeBelow (toStorage t)))
+
   -- the lines of a type in extensions, where both parts of the state came from the first line of the field
-  around : (t : ArrowDataType) (j : Option Info) (w : Bearer) → typeWalk (schemaStep big) t j (some w)
-      ≡ lineWritten (schemaStepOf big (typeShape (toStorage t)) (typeCount (toStorage t)) (w .info) (some (w .extension))) (λ τ. rowWalk (schemaStep big) (typeBelow (toStorage t)) τ) (entryLines (typeBelow (toStorage t)))
-  around (scalar s) j w = walk-opened (schemaStep big) (scalar s) j (some w)
-  around (nested n k t) j w = walk-opened (schemaStep big) (nested n k t) j (some w)
-  around (grouped g fs) j w = walk-opened (schemaStep big) (grouped g fs) j (some w)
-  around (dictionary ix ordered t) j w = walk-opened (schemaStep big) (dictionary ix ordered t) j (some w)
-  around (extension n m t) j w = nothing-own (typeWalk (schemaStep big) t none (some w)) ∙ around t none w
+  around : (t : ArrowDataType) (j : Option Info) (w : Bearer)
+      → typeWalked (schemaStep big) t j (some w) ≡ inside t (schemaStepOf big (typeShape (toStorage t)) (typeCount (toStorage t)) (w .info) (some (w .extension)))
+  around (scalar s) j w = walked-opened (schemaStep big) (scalar s) j (some w)
+  around (nested n k t) j w = walked-opened (schemaStep big) (nested n k t) j (some w)
+  around (grouped g fs) j w = walked-opened (schemaStep big) (grouped g fs) j (some w)
+  around (dictionary ix ordered t) j w = walked-opened (schemaStep big) (dictionary ix ordered t) j (some w)
+  around (extension n m t) j w = passed-own (typeWalked (schemaStep big) t none (some w)) ∙ ap later (around t none w) ∙ one-more t (schemaStepOf big (typeShape (toStorage t)) (typeCount (toStorage t)) (w .info) (some (w .extension)))
 
   -- A field's walk, the extensions around its type passed: the line of the type in all of them, with the columns and the extension of the field's first
   -- line, then the row below it.
-  pub export-opened : (t : ArrowDataType) (i : Option Info) → typeWalk (schemaStep big) t i none
-      ≡ lineWritten (schemaStepOf big (typeShape (toStorage t)) (typeCount (toStorage t)) (orValues i) (extensionIn (typeShape t))) (λ τ. rowWalk (schemaStep big) (typeBelow (toStorage t)) τ) (entryLines (typeBelow (toStorage t)))
-  export-opened (scalar s) i = walk-opened (schemaStep big) (scalar s) i none
-  export-opened (nested n j t) i = walk-opened (schemaStep big) (nested n j t) i none
-  export-opened (grouped g fs) i = walk-opened (schemaStep big) (grouped g fs) i none
-  export-opened (dictionary ix ordered t) i = walk-opened (schemaStep big) (dictionary ix ordered t) i none
+  pub export-opened : (t : ArrowDataType) (i : Option Info)
+      → typeWalked (schemaStep big) t i none ≡ inside t (schemaStepOf big (typeShape (toStorage t)) (typeCount (toStorage t)) (orValues i) (extensionIn (typeShape t)))
+  export-opened (scalar s) i = walked-opened (schemaStep big) (scalar s) i none
+  export-opened (nested n j t) i = walked-opened (schemaStep big) (nested n j t) i none
+  export-opened (grouped g fs) i = walked-opened (schemaStep big) (grouped g fs) i none
+  export-opened (dictionary ix ordered t) i = walked-opened (schemaStep big) (dictionary ix ordered t) i none
   export-opened (extension n m t) i =
       let w : Bearer = record { info = orValues i; extension = (n, m) } in
-      nothing-own (typeWalk (schemaStep big) t none (some w)) ∙ around t none w
+      passed-own (typeWalked (schemaStep big) t none (some w)) ∙ ap later (around t none w) ∙ one-more t (schemaStepOf big (typeShape (toStorage t)) (typeCount (toStorage t)) (orValues i) (some (n, m)))
 
-  -- refused at once, and not: what is left of the walk
-  pub export-refused : (t : ArrowDataType) (i : Option Info) (r : Refusal) → schemaStepOf big (typeShape (toStorage t)) (typeCount (toStorage t)) (orValues i) (extensionIn (typeShape t)) ≡ refused r
-      → typeWalk (schemaStep big) t i none ≡ refused r
-  export-refused t i r e =
-      export-opened t i ∙ ap (λ (a : Answer (Step (Option Bearer))). lineWritten a (λ τ. rowWalk (schemaStep big) (typeBelow (toStorage t)) τ) (entryLines (typeBelow (toStorage t)))) e
+  -- ── the lines that are visited (document 02, #105)
 
-  pub export-given : (t : ArrowDataType) (i : Option Info) (p : Step (Option Bearer)) → schemaStepOf big (typeShape (toStorage t)) (typeCount (toStorage t)) (orValues i) (extensionIn (typeShape t)) ≡ given p
-      → typeWalk (schemaStep big) t i none ≡ lineWritten (given p) (λ τ. rowWalk (schemaStep big) (typeBelow (toStorage t)) τ) (entryLines (typeBelow (toStorage t)))
-  export-given t i p e =
-      export-opened t i ∙ ap (λ (a : Answer (Step (Option Bearer))). lineWritten a (λ τ. rowWalk (schemaStep big) (typeBelow (toStorage t)) τ) (entryLines (typeBelow (toStorage t)))) e
+  -- whether the line stands directly in an extension
+  abbrev borne : Option Bearer → Bool
+  borne none = false
+  borne (some w) = true
+
+  mutual
+    -- where the walk answers, they are those of the definition
+    visited : (t : ArrowDataType) (i : Option Info) (u : Option Bearer) (ls : List Bytes) → typeWalk (schemaStep big) t i u ≡ given ls → typeVisits (schemaStep big) t i u ≡ length (exportVisits t i (borne u))
+    visited (scalar s) i u ls e = scalar-visits (schemaStep big) s i u ls e
+    visited (nested n j t) i u ls e =
+        let below = first-gave (typeWalk (schemaStep big) t (some j) none) (λ b. schemaOwn big (infoOf u i) (extensionOf u) (nestingFormat n) (sortedFlag n) 1 0 >>= λ o. given (o ++ b)) ls e in
+        ap suc (visited t (some j) none (below .0) (below .1))
+    visited (grouped g fs) i u ls e = format (groupingFormat g (countFields fs)) (λ ks k. all-visited fs ks k) e
+      where
+        format : (a : Answer Bytes) → ((ks : List Bytes) → fieldsWalk (schemaStep big) fs none ≡ given ks → fieldsVisits (schemaStep big) fs none ≡ length (visitsOfFields fs))
+            → lineWritten (a >>= λ f. given (writes (schemaOwn big (infoOf u i) (extensionOf u) f 0 (countFields fs) 0) (visit none))) (λ τ. fieldsWalk (schemaStep big) fs τ) (fieldsLines fs) ≡ given ls
+            → lineVisits (a >>= λ f. given (writes (schemaOwn big (infoOf u i) (extensionOf u) f 0 (countFields fs) 0) (visit none))) (λ τ. fieldsVisits (schemaStep big) fs τ) ≡ suc (length (visitsOfFields fs))
+        format (refused r) next k = not-given k
+        format (given f) next k =
+            let below = first-gave (fieldsWalk (schemaStep big) fs none) (λ b. schemaOwn big (infoOf u i) (extensionOf u) f 0 (countFields fs) 0 >>= λ o. given (o ++ b)) ls k in
+            ap suc (next (below .0) (below .1))
+    visited (dictionary ix ordered t) i none ls e = format (indexFormat ix) (λ ks k. visited t none none ks k) e
+      where
+        format : (a : Answer Bytes) → ((ks : List Bytes) → typeWalk (schemaStep big) t none none ≡ given ks → typeVisits (schemaStep big) t none none ≡ length (exportVisits t none false))
+            → lineWritten (a >>= λ f. given (writes (schemaOwn big (orValues i) none f (flag ordered ORDERED) 0 1) (visit none))) (λ τ. typeWalk (schemaStep big) t none τ) (typeLines t none) ≡ given ls
+            → lineVisits (a >>= λ f. given (writes (schemaOwn big (orValues i) none f (flag ordered ORDERED) 0 1) (visit none))) (λ τ. typeVisits (schemaStep big) t none τ) ≡ suc (length (exportVisits t none false))
+        format (refused r) next k = not-given k
+        format (given f) next k =
+            let below = first-gave (typeWalk (schemaStep big) t none none) (λ b. schemaOwn big (orValues i) none f (flag ordered ORDERED) 0 1 >>= λ o. given (o ++ b)) ls k in
+            ap suc (next (below .0) (below .1))
+    visited (dictionary ix ordered t) i (some w) ls e = format (indexFormat ix) e
+      where
+        format : (a : Answer Bytes)
+            → lineWritten (a >>= λ f. given (writes (schemaOwn big (w .info) (some (w .extension)) f 0 0 0) skip)) (λ τ. typeWalk (schemaStep big) t none τ) (typeLines t none) ≡ given ls
+            → lineVisits (a >>= λ f. given (writes (schemaOwn big (w .info) (some (w .extension)) f 0 0 0) skip)) (λ τ. typeVisits (schemaStep big) t none τ) ≡ 1
+        format (refused r) k = not-given k
+        format (given f) k = refl
+    visited (extension n m t) i u ls e =
+        let w : Option Bearer = some (record { info = infoOf u i; extension = outermost (extensionOf u) (n, m) }) in
+        ap suc (visited t none w ls (sym (nothing-own (typeWalk (schemaStep big) t none w)) ∙ e))
+
+    all-visited : (fs : Fields) (ls : List Bytes) → fieldsWalk (schemaStep big) fs none ≡ given ls → fieldsVisits (schemaStep big) fs none ≡ length (visitsOfFields fs)
+    all-visited nil ls e = refl
+    all-visited (add i t fs) ls e =
+        let first = first-gave (typeWalk (schemaStep big) t (some i) none) (λ a. fieldsWalk (schemaStep big) fs none >>= λ b. given (a ++ b)) ls e in
+        let rest = first-gave (fieldsWalk (schemaStep big) fs none) (λ b. given (first .0 ++ b)) ls (first .2) in
+        omega (arith, visited t (some i) none (first .0) (first .1), all-visited fs (rest .0) (rest .1), length-append (exportVisits t (some i) false) (visitsOfFields fs))
+
+  -- of a field
+  pub lines-visited : (f : Field) (ls : List Bytes) → typeWalk (schemaStep big) (f .type) (some (f .info)) none ≡ given ls → typeVisits (schemaStep big) (f .type) (some (f .info)) none ≡ exportLines f
+  unfolding exportLines
+  lines-visited f ls e = visited (f .type) (some (f .info)) none ls e

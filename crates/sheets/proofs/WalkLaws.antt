@@ -5,19 +5,19 @@ use mathlib.Core.Path.{_≡_, refl, sym, _∙_, ap}
 use mathlib.Core.Bool.{Bool, true, false}
 use mathlib.Core.List.{List, [], _∷_, _++_, append-nil, append-assoc}
 use mathlib.Core.Option.{Option, none, some}
-use Prim.Native.Nat.{ℕ, _+_, _-_, _≤_, _<_}
+use Prim.Native.Nat.{ℕ, suc, _+_, _-_, _≤_, _<_}
 use native.Mathlib.Omega.{arith}
 use lib.ListN.{drop}
-use Rattle.sheets.specs.Refusal.{Refusal}
 use Rattle.sheets.specs.Bytes.{Bytes}
 use Rattle.sheets.specs.Answer.{Answer, refused, given, _>>=_}
 use Rattle.sheets.specs.Sheet.{ended, writeSheet}
-use Rattle.sheets.specs.Field.{Info, ArrowDataType, scalar, nested, grouped, dictionary, extension, Fields, nil, add, Field, typeLevels}
-use Rattle.sheets.specs.FieldSheet.{Entry, Shape, fieldLine, columnsOf, ownOf, childrenOf, readShape, readInfo, typeLines, fieldsLines, readFieldSheet}
+use Rattle.sheets.specs.Field.{Info, Scalar, ArrowDataType, scalar, nested, grouped, dictionary, extension, Fields, nil, add, Field, typeLevels}
+use Rattle.sheets.specs.FieldSheet.{Entry, Shape, ofScalar, fieldLine, columnsOf, ownOf, childrenOf, readShape, readInfo, typeLines, fieldsLines, readFieldSheet}
 use Rattle.sheets.specs.LineTrees.{tallest, Standing}
 use Rattle.sheets.specs.FieldTrees.{Head, readHead, isExtension, lineCost, pushFields, typeShape, typeBelow, entryHead, entryLevels, entryLines, fields}
-use Rattle.sheets.specs.Walk.{headText, levelsBelow, lineMeasure, rowMeasure, Below, visit, copy, skip, Step, belowWritten, lineWritten, typeWalk, fieldsWalk, rowWalk, sheetWalk}
-use Rattle.sheets.proofs.Tests.{first-gave, same-given, chain-same}
+use Rattle.sheets.specs.Walk.{headWith, headText, levelsBelow, lineMeasure, rowMeasure, Below, visit, copy, skip, Step, belowWritten, lineWritten, typeWalk, fieldsWalk, rowWalk, sheetWalk}
+use Rattle.sheets.specs.Walk.{Walked, belowVisits, lineVisits, lineWalked, typeVisits, fieldsVisits, rowVisits, typeWalked, rowWalked}
+use Rattle.sheets.proofs.Tests.{first-gave, same-given, chain-same, not-given}
 use Rattle.sheets.proofs.SheetLaws.{ended-append}
 use Rattle.sheets.proofs.FieldSheetLaws.{fields-lines, field-line-read, line-parts, shape-read, info-read}
 use Rattle.sheets.proofs.FieldTrees.{fields-lawful, standing-lines}
@@ -67,10 +67,31 @@ written-same {S} (given p) v w ls ks h e = ap (λ (m : Answer (List Bytes)). m >
     go copy = ap given e
     go skip = refl
 
+visits-same : {S : Type 0} (a : Answer (Step S)) (v w : S → ℕ) → ((σ : S) → v σ ≡ w σ) → lineVisits a v ≡ lineVisits a w
+visits-same (refused r) v w h = refl
+visits-same {S} (given p) v w h = ap suc (go (p .below))
+  where
+    go : (x : Below S) → belowVisits x v ≡ belowVisits x w
+    go (visit σ) = h σ
+    go copy = refl
+    go skip = refl
+
 -- a line that writes nothing of its own
 pub nothing-own : (a : Answer (List Bytes)) → (a >>= λ b. given ([] ++ b)) ≡ a
 nothing-own (refused r) = refl
 nothing-own (given b) = refl
+
+-- a line that writes nothing of its own, and counts
+abbrev pub later : Walked → Walked
+later w = (w .0, suc (w .1))
+
+pub passed-own : (w : Walked) → _≡_ {A = Walked} (w .0 >>= λ b. given ([] ++ b), suc (w .1)) (later w)
+passed-own w = λ x. (nothing-own (w .0) x, suc (w .1))
+
+pub later-walked : {S : Type 0} (n : ℕ) (a : Answer (Step S)) (visited : S → Walked) (ls : List Bytes) → later (lineWalked n a visited ls) ≡ lineWalked (suc n) a visited ls
+later-walked n a visited ls =
+    let many : suc (lineVisits a (λ τ. visited τ .1) + n) ≡ lineVisits a (λ τ. visited τ .1) + suc n = omega arith in
+    λ x. (lineWritten a (λ τ. visited τ .0) ls, many x)
 
 one-written : (a : Answer (List Bytes)) → a ≡ (a >>= λ x. given (x ++ []))
 one-written (refused r) = refl
@@ -93,12 +114,39 @@ module _ {S : Type 0} (step : S → Head → Answer (Step S)) where
   walk-opened (dictionary ix ordered t) i σ = one-below (step σ (entryHead (i, dictionary ix ordered t))) t none
   walk-opened (extension n m t) i σ = one-below (step σ (entryHead (i, extension n m t))) t none
 
-  -- a line that is refused at once, and one that is not: what is left of the walk
-  pub walk-refused : (t : ArrowDataType) (i : Option Info) (σ : S) (r : Refusal) → step σ (entryHead (i, t)) ≡ refused r → typeWalk step t i σ ≡ refused r
-  walk-refused t i σ r e = walk-opened t i σ ∙ ap (λ (a : Answer (Step S)). lineWritten a (λ τ. rowWalk step (typeBelow t) τ) (entryLines (typeBelow t))) e
+  -- the lines that are visited, in the same way
+  fields-visited : (fs : Fields) (σ : S) → fieldsVisits step fs σ ≡ rowVisits step (pushFields fs []) σ
+  fields-visited nil σ = refl
+  fields-visited (add i t fs) σ = ap (λ (n : ℕ). typeVisits step t (some i) σ + n) (fields-visited fs σ)
 
-  pub walk-given : (t : ArrowDataType) (i : Option Info) (σ : S) (p : Step S) → step σ (entryHead (i, t)) ≡ given p → typeWalk step t i σ ≡ lineWritten (given p) (λ τ. rowWalk step (typeBelow t) τ) (entryLines (typeBelow t))
-  walk-given t i σ p e = walk-opened t i σ ∙ ap (λ (a : Answer (Step S)). lineWritten a (λ τ. rowWalk step (typeBelow t) τ) (entryLines (typeBelow t))) e
+  one-visited : (a : Answer (Step S)) (t : ArrowDataType) (i : Option Info) → lineVisits a (λ τ. typeVisits step t i τ) ≡ lineVisits a (λ τ. rowVisits step ((i, t) ∷ []) τ)
+  one-visited a t i = visits-same a (λ τ. typeVisits step t i τ) (λ τ. rowVisits step ((i, t) ∷ []) τ) (λ τ. omega arith)
+
+  visits-opened : (t : ArrowDataType) (i : Option Info) (σ : S) → typeVisits step t i σ ≡ lineVisits (step σ (entryHead (i, t))) (λ τ. rowVisits step (typeBelow t) τ)
+  visits-opened (scalar s) i σ = refl
+  visits-opened (nested n j t) i σ = one-visited (step σ (entryHead (i, nested n j t))) t (some j)
+  visits-opened (grouped g fs) i σ = visits-same (step σ (entryHead (i, grouped g fs))) (λ τ. fieldsVisits step fs τ) (λ τ. rowVisits step (pushFields fs []) τ) (λ τ. fields-visited fs τ)
+  visits-opened (dictionary ix ordered t) i σ = one-visited (step σ (entryHead (i, dictionary ix ordered t))) t none
+  visits-opened (extension n m t) i σ = one-visited (step σ (entryHead (i, extension n m t))) t none
+
+  -- both, where no line was passed before
+  pub walked-opened : (t : ArrowDataType) (i : Option Info) (σ : S) → typeWalked step t i σ ≡ lineWalked 0 (step σ (entryHead (i, t))) (λ τ. rowWalked step (typeBelow t) τ) (entryLines (typeBelow t))
+  walked-opened t i σ =
+      let many : typeVisits step t i σ ≡ lineVisits (step σ (entryHead (i, t))) (λ τ. rowVisits step (typeBelow t) τ) + 0 = omega (arith, visits-opened t i σ) in
+      λ x. (walk-opened t i σ x, many x)
+
+  -- a type of one line that is not refused
+  pub scalar-visits : (c : Scalar) (i : Option Info) (σ : S) (ls : List Bytes) → typeWalk step (scalar c) i σ ≡ given ls → typeVisits step (scalar c) i σ ≡ 1
+  scalar-visits c i σ ls = go (step σ (headWith (ofScalar c) i 0))
+    where
+      go : (a : Answer (Step S)) → lineWritten a (λ τ. given []) [] ≡ given ls → lineVisits a (λ τ. 0) ≡ 1
+      go (refused r) e = not-given e
+      go (given p) e = below (p .below)
+        where
+          below : (x : Below S) → suc (belowVisits x (λ τ. 0)) ≡ 1
+          below (visit τ) = refl
+          below copy = refl
+          below skip = refl
 
   -- a sheet, with the heading: what is written for each field that is read
   pub sheet-walked : (σ : S) (heading b : Bytes) (write : Field → Answer (List Bytes)) → ((f : Field) → typeWalk step (f .type) (some (f .info)) σ ≡ write f)

@@ -30,6 +30,7 @@ pub mod Import
 pub mod Source
 pub mod ImportLines
 pub mod Export
+pub mod Visits
 pub mod Plain
 pub mod Mappings
 pub mod Walk

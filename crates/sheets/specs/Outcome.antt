@@ -15,6 +15,7 @@ use Rattle.sheets.specs.Field.{ArrowDataType}
 use Rattle.sheets.specs.FieldSheet.{readFieldSheet, writeFieldSheet, writeBareSheet, toNat}
 use Rattle.sheets.specs.Import.{toField}
 use Rattle.sheets.specs.Export.{schemaNew}
+use Rattle.sheets.specs.Visits.{importLines, exportLines}
 use Rattle.sheets.specs.Plain.{plain}
 use Rattle.sheets.specs.Page.{page}
 use Rattle.sheets.specs.Mappings.{PhysicalType, withDtype, toPhysicalType, underlyingPhysicalType, toStorage, toStorageRecursive, innerDtype, getChild, isNested, containsDictionary, fromIntegerType, fromPrimitiveType}
@@ -158,3 +159,27 @@ isNestedOutcome b = yesNo (readFieldSheet b >>= λ f. given (isNested (f .type))
 
 abbrev pub containsDictionaryOutcome : Bytes → YesNo
 containsDictionaryOutcome b = yesNo (readFieldSheet b >>= λ f. given (containsDictionary (f .type)))
+
+-- ── calls that measure (document 02, #105): "for a sheet, the exact length the import or export would write and the number of lines it would visit,
+-- without writing"
+
+pub record Measure : Type 0 where
+  pub number : ℕ
+  pub size : ℕ
+  pub lines : ℕ
+
+-- "An input that the conversion refuses for another cause gets that same number here, with both counts 0"
+abbrev pub measure : Answer Bytes → ℕ → Measure
+measure (refused r) n = record { number = numberOf r; size = 0; lines = 0 }
+measure (given x) n = record { number = 0; size = length x; lines = n }
+
+-- the lines of what was read
+abbrev pub linesIn : {A : Type 0} → (A → ℕ) → Answer A → ℕ
+linesIn lines (refused r) = 0
+linesIn lines (given a) = lines a
+
+abbrev pub measureImportOutcome : Bool → Bytes → Measure
+measureImportOutcome big b = measure (imported big b) (linesIn importLines (readSchemaSheet b))
+
+abbrev pub measureExportOutcome : Bool → Bytes → Measure
+measureExportOutcome big b = measure (exported big b) (linesIn exportLines (readFieldSheet b))

@@ -5,9 +5,9 @@
 use mathlib.Core.Bool.{Bool, cond}
 use mathlib.Core.List.{List, [], _∷_, _++_}
 use mathlib.Core.Option.{Option, none, some}
-use Prim.Native.Nat.{ℕ, _+_, _-_, _*_}
+use Prim.Native.Nat.{ℕ, suc, _+_, _-_, _*_}
 use Rattle.sheets.specs.Bytes.{Bytes}
-use Rattle.sheets.specs.Answer.{Answer, given, _>>=_}
+use Rattle.sheets.specs.Answer.{Answer, refused, given, _>>=_}
 use Rattle.sheets.specs.Sheet.{writeSheet}
 use Rattle.sheets.specs.Field.{Info, ArrowDataType, scalar, nested, grouped, dictionary, extension, Fields, nil, add, countFields}
 use Rattle.sheets.specs.FieldSheet.{Entry, Shape, ofScalar, ofNesting, ofGrouping, ofDictionary, ofExtension, fieldLine, lineOf, typeLines, fieldsLines, readFieldSheet}
@@ -62,6 +62,33 @@ belowWritten skip visited ls = given []
 abbrev pub lineWritten : {S : Type 0} → Answer (Step S) → (S → Answer (List Bytes)) → List Bytes → Answer (List Bytes)
 lineWritten step visited ls = step >>= λ p. belowWritten (p .below) visited ls >>= λ b. p .own >>= λ a. given (a ++ b)
 
+-- ── the lines that are visited
+
+-- what is written, and how many lines are visited for it
+abbrev pub Walked : Type 0
+Walked = Answer (List Bytes) × ℕ
+
+abbrev pub belowVisits : {S : Type 0} → Below S → (S → ℕ) → ℕ
+belowVisits (visit σ) visits = visits σ
+belowVisits copy visits = 0
+belowVisits skip visits = 0
+
+abbrev pub lineVisits : {S : Type 0} → Answer (Step S) → (S → ℕ) → ℕ
+lineVisits (refused r) visits = 0
+lineVisits (given p) visits = suc (belowVisits (p .below) visits)
+
+-- the extensions directly around a type
+abbrev pub extensionsAround : ArrowDataType → ℕ
+extensionsAround (scalar s) = 0
+extensionsAround (nested n j t) = 0
+extensionsAround (grouped g fs) = 0
+extensionsAround (dictionary ix ordered t) = 0
+extensionsAround (extension n m t) = suc (extensionsAround t)
+
+-- a line and the row below it, after so many lines that write nothing
+abbrev pub lineWalked : {S : Type 0} → ℕ → Answer (Step S) → (S → Walked) → List Bytes → Walked
+lineWalked passed step visited ls = (lineWritten step (λ τ. visited τ .0) ls, lineVisits step (λ τ. visited τ .1) + passed)
+
 -- ── the walk
 
 module _ {S : Type 0} (step : S → Head → Answer (Step S)) where
@@ -82,6 +109,31 @@ module _ {S : Type 0} (step : S → Head → Answer (Step S)) where
   abbrev pub rowWalk : List Entry → S → Answer (List Bytes)
   rowWalk [] σ = given []
   rowWalk (x ∷ xs) σ = typeWalk (x .1) (x .0) σ >>= λ a. rowWalk xs σ >>= λ b. given (a ++ b)
+
+  -- How many lines the walk of a type visits (document 02, #105): each line that is not refused at once, and those below it that are visited and not copied
+  -- or skipped.
+  abbrev mutual
+    pub typeVisits : ArrowDataType → Option Info → S → ℕ
+    typeVisits (scalar s) i σ = lineVisits (step σ (headWith (ofScalar s) i 0)) (λ τ. 0)
+    typeVisits (nested n j t) i σ = lineVisits (step σ (headWith (ofNesting n) i 1)) (λ τ. typeVisits t (some j) τ)
+    typeVisits (grouped g fs) i σ = lineVisits (step σ (headWith (ofGrouping g) i (countFields fs))) (λ τ. fieldsVisits fs τ)
+    typeVisits (dictionary ix ordered t) i σ = lineVisits (step σ (headWith (ofDictionary ix ordered) i 1)) (λ τ. typeVisits t none τ)
+    typeVisits (extension n m t) i σ = lineVisits (step σ (headWith (ofExtension n m) i 1)) (λ τ. typeVisits t none τ)
+
+    pub fieldsVisits : Fields → S → ℕ
+    fieldsVisits nil σ = 0
+    fieldsVisits (add i t fs) σ = typeVisits t (some i) σ + fieldsVisits fs σ
+
+  abbrev pub rowVisits : List Entry → S → ℕ
+  rowVisits [] σ = 0
+  rowVisits (x ∷ xs) σ = typeVisits (x .1) (x .0) σ + rowVisits xs σ
+
+  -- both
+  abbrev pub typeWalked : ArrowDataType → Option Info → S → Walked
+  typeWalked t i σ = (typeWalk t i σ, typeVisits t i σ)
+
+  abbrev pub rowWalked : List Entry → S → Walked
+  rowWalked us σ = (rowWalk us σ, rowVisits us σ)
 
   -- of a field sheet: 1, 2 and 3, then the heading of the answer and the lines
   abbrev pub sheetWalk : S → Bytes → Bytes → Answer Bytes

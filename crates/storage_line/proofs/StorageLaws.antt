@@ -4,7 +4,7 @@ use mathlib.Core.Path.{_≡_, refl, sym, subst, _∙_}
 use mathlib.Core.Bool.{Bool, true, false}
 use mathlib.Core.List.{List, _∷_, _++_}
 use mathlib.Core.Option.{Option, none}
-use Prim.Native.Nat.{ℕ, _-_, _≤_, _<_}
+use Prim.Native.Nat.{ℕ, suc, _+_, _-_, _≤_, _<_}
 use native.Mathlib.Omega.{arith}
 use lib.ListN.{drop}
 use borrow.Author.Tests.{eq-eqb, ne-eqb}
@@ -16,7 +16,7 @@ use Rattle.sheets.specs.LineTrees.{Standing}
 use Rattle.sheets.specs.TreeWalks.{HasTree}
 use Rattle.sheets.specs.FieldTrees.{isExtension, lineCost, typeShape, typeBelow, fields}
 use Rattle.sheets.specs.Mappings.{toStorage}
-use Rattle.sheets.specs.Walk.{lineMeasure}
+use Rattle.sheets.specs.Walk.{lineMeasure, extensionsAround}
 use Rattle.sheets.proofs.Tests.{never}
 use Rattle.sheets.proofs.StorageLaws.{storage-levels}
 use Rattle.read_field_line.specs.FieldLines.{FieldLineAt}
@@ -34,6 +34,7 @@ record Inner (s : Bytes) (tree : Subtree) (end : ℕ) (t : ArrowDataType) (es : 
   type : ArrowDataType
   there : TypeAt s end (tree .levels - lineCost (tree .inside) true) true none type es
   same : toStorage type ≡ toStorage t
+  more : extensionsAround t ≡ suc (extensionsAround type)
 
 module _ {s : Bytes} (tree : Subtree) {first : FieldLine} (k : FieldLineAt s (tree .at) first) where
   abbrev There : Option Info → ArrowDataType → List Entry → Type 0
@@ -41,7 +42,7 @@ module _ {s : Bytes} (tree : Subtree) {first : FieldLine} (k : FieldLineAt s (tr
 
   -- ── no extension
 
-  pub storage-here : (first .kind ≡ Kind.Extension → ⊥) → StorageTold s tree (record { at = tree .at; line = first })
+  pub storage-here : (first .kind ≡ Kind.Extension → ⊥) → StorageTold s tree (record { at = tree .at; line = first; passed = 0 })
   storage-here n i t es f =
       let plain : isExtension (typeShape t) ≡ false = sym (line-extension (f .stands) k) ∙ ne-eqb (first .kind) Kind.Extension n in
       record {
@@ -53,9 +54,17 @@ module _ {s : Bytes} (tree : Subtree) {first : FieldLine} (k : FieldLineAt s (tr
               short = f .short;
             };
         line = k;
+        passed = none-around t plain;
         low = omega arith;
       }
     where
+      none-around : (v : ArrowDataType) → isExtension (typeShape v) ≡ false → 0 ≡ extensionsAround v
+      none-around (scalar c) h = refl
+      none-around (nested g j v) h = refl
+      none-around (grouped g fs) h = refl
+      none-around (dictionary ix ordered v) h = refl
+      none-around (extension a m v) h = never (sym h)
+
       same : (v : ArrowDataType) → isExtension (typeShape v) ≡ false → v ≡ toStorage v
       same (scalar c) h = refl
       same (nested g j v) h = refl
@@ -78,7 +87,7 @@ module _ {s : Bytes} (tree : Subtree) {first : FieldLine} (k : FieldLineAt s (tr
         go (nested g j v) d h w = never h
         go (grouped g fs) d h w = never h
         go (dictionary ix ordered v) d h w = never h
-        go (extension a m v) d h w = record { type = v; there = record { stands = w; deep = one-less (tree .inside) v a m d; short = f .short }; same = refl }
+        go (extension a m v) d h w = record { type = v; there = record { stands = w; deep = one-less (tree .inside) v a m d; short = f .short }; same = refl; more = refl }
 
     pub inner-tree : HasType s (tree .at) (tree .levels) (tree .inside) → HasTree fields s (first .end)
     inner-tree h = let v = inner (h .3) in ((none, v .type), h .2, v .there .stands)
@@ -100,8 +109,16 @@ module _ {s : Bytes} (tree : Subtree) {first : FieldLine} (k : FieldLineAt s (tr
             go true e = omega (arith, some-level (h .3))
             go false e = omega arith
 
+      -- no more lines are passed than there are bytes
+      pub passed-few : (r : StorageLine) → StorageTold s (record { at = first .end; levels = tree .levels - cost; inside = true }) r → HasType s (tree .at) (tree .levels) (tree .inside) → r .passed ≤ 65535
+      passed-few r told h =
+          let v = inner-type h in
+          let w = told (v .0) (v .1) (v .2) (v .3) in
+          omega (arith, w .low, w .line .there .low, w .line .there .high, h .3 .short)
+
       -- what is told of the inner type is told of this one
-      pub storage-inside : (r : StorageLine) → StorageTold s (record { at = first .end; levels = tree .levels - cost; inside = true }) r → StorageTold s tree r
+      pub storage-inside : (r : StorageLine) → StorageTold s (record { at = first .end; levels = tree .levels - cost; inside = true }) r
+          → StorageTold s tree (record { at = r .at; line = r .line; passed = r .passed + 1 })
       storage-inside r told i t es f =
           let v = inner f in
           let w = told none (v .type) es (subst (λ (n : ℕ). TypeAt s (first .end) (tree .levels - n) true none (v .type) es) (sym costs) (v .there)) in
@@ -114,5 +131,6 @@ module _ {s : Bytes} (tree : Subtree) {first : FieldLine} (k : FieldLineAt s (tr
                   short = f .short;
                 };
             line = w .line;
+            passed = omega (arith, w .passed, v .more);
             low = omega (arith, w .low, k .there .low);
           }

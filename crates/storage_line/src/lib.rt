@@ -9,10 +9,11 @@ use field_sheet::levels;
 use read_field_line::FieldLine;
 use walks::Subtree;
 
-// The line, and the place where it stands.
+// The line, the place where it stands, and how many extensions' lines stand before it.
 pub struct StorageLine {
     pub at: usize,
     pub line: FieldLine,
+    pub passed: usize,
 }
 
 // An extension's inner type stands in the next line, directly inside it. `first` is the line at `tree.at`.
@@ -24,6 +25,7 @@ pub fn storage_line(s: &[u8], tree: Subtree, first: FieldLine) -> StorageLine
         return StorageLine {
             at: tree.at,
             line: first,
+            passed: 0,
         };
     }
     let inner = read_field_line::field_line_at(s, first.end);
@@ -33,5 +35,11 @@ pub fn storage_line(s: &[u8], tree: Subtree, first: FieldLine) -> StorageLine
         levels: tree.levels - cost,
         inside: true,
     };
-    storage_line(s, below, inner)
+    let found = storage_line(s, below, inner);
+    let line = found.line;
+    StorageLine {
+        at: found.at,
+        line,
+        passed: found.passed + 1,
+    }
 }

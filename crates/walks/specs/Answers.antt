@@ -3,6 +3,7 @@ use mathlib.Core.Bool.{Bool}
 use Prim.Native.Nat.{ℕ}
 use Rattle.sheets.specs.Answer.{Answer, refused, given}
 use Rattle.refusal.specs.Refusals.{refusalOf}
+use Rattle.outcome.specs.declared.Size.{Size}
 use Rattle.walks.specs.Places.{Begun}
 use Rattle.walks.specs.declared.Pending.{Pending}
 use Rattle.walks.specs.declared.Pending.the-variants as P
@@ -19,16 +20,16 @@ abbrev pub pendingAnswer : Pending → Answer (Unit {0})
 pendingAnswer P.Nothing = given tt
 pendingAnswer (P.Refused r) = refused (refusalOf r)
 
--- where the reading goes on and how many bytes were written, or the refusal
-abbrev pub stepAnswer : Step → Answer (ℕ × ℕ)
-stepAnswer (S.Done next len) = given (next, len)
+-- where the reading goes on and the size of what was written, or the refusal
+abbrev pub stepAnswer : Step → Answer (ℕ × Size)
+stepAnswer (S.Done next size) = given (next, size)
 stepAnswer (S.Refused r) = refused (refusalOf r)
 
 -- what is left after a line, or the refusal; the state of the types below is told by the levels left for them and by whether they stand directly in an
 -- extension
 abbrev pub begunAnswer : {S : Type 0} → (ℕ → Bool → S) → LineBegun → Answer (Begun S)
-begunAnswer state (B.Below w len p) =
-    given (record { from = w .at; count = w .count; levels = w .levels; inside = w .inside; state = state (w .levels) (w .inside); len = len; pending = pendingAnswer p })
+begunAnswer state (B.Below w size p) =
+    given (record { from = w .at; count = w .count; levels = w .levels; inside = w .inside; state = state (w .levels) (w .inside); size = size; pending = pendingAnswer p })
 begunAnswer state (B.Refused r) = refused (refusalOf r)
 
 -- where the reading goes on and how many bytes were written, if the line was written at once

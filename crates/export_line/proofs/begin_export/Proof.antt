@@ -1,5 +1,5 @@
 -- `begin_export` meets its contract: the two lines say what the field's walk writes and what is left of it. Assumes nothing.
-use Rattle.storage_line.proofs.BelowLaws.{row-there}
+use Rattle.storage_line.proofs.BelowLaws.{row-there, passed-few}
 use Rattle.export_line.proofs.BelowLaws.{index-fits, can-put, begins}
 use borrow.Author.Needs.{needs}
 use Rattle.export_line.proofs.begin_export.Statement.{statement}
@@ -42,7 +42,10 @@ put-schema-line-requires c κs =
     can-put (st .args .big) (st .args .tree) f _ k g _ (c .before .before .before .before .before .is-alone .ensures) _ _ (c .before .before .before .line-columns .ensures) (c .before .line-numbers .ensures)
 
 line-begun-requires : tie.Need-line-begun-requires
-line-begun-requires c κs = search needs
+line-begun-requires c κs =
+    let st = c .before .before .before .before .before .before .before .before .before .before .before .before .before .before in
+    let (i, t, es, f) = st .pre in
+    passed-few (st .args .tree) f (c .before .before .before .before .before .before .before .before .before .before .storage-line .ensures i t es f)
 
 same-length : tie.Need-same-length
 same-length c = search needs

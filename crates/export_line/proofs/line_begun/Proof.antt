@@ -1,5 +1,7 @@
 -- `line_begun` meets its contract: by the cases of what was written. Assumes nothing.
 use mathlib.Core.Path.{sym, ap, _∙_}
+use Prim.Native.Nat.{_+_}
+use native.Mathlib.Omega.{arith}
 use mathlib.Core.Option.{Option, none}
 use Rattle.sheets.specs.Answer.{Answer, given}
 use Rattle.sheets.specs.ExportSteps.{Bearer}
@@ -17,18 +19,22 @@ enum-known-line c = search needs
 enum-known-line-2 : tie.Need-enum-known-line-2
 enum-known-line-2 c = search needs
 
+add-t8 : tie.Need-add-t8
+add-t8 c = omega (arith, c .before .before .before .pre)
+
 pending-of-requires : tie.Need-pending-of-requires
 pending-of-requires c κs = search needs
 
 returns : tie.Need-returns
-returns c = ap (λ (e : Exported). begunWith (c .before .before .before .args .row) (exportedAnswer e)) (sym (c .before .line .given .1))
+returns c = let a = c .before .before .before .args in ap (λ (e : Exported). begunWith (a .row) (a .passed) (exportedAnswer e)) (sym (c .before .line .given .1))
 
 returns-2 : tie.Need-returns-2
 returns-2 c =
-    let w = c .before .before .before .before .args .row in
-    let f : Answer (Unit {0}) → Answer (Begun (Option Bearer)) = λ p. given (record { from = w .at; count = w .count; levels = w .levels; inside = w .inside; state = none; len = c .before .before .line2 .given .0 .0; pending = p }) in
-    ap f (c .pending-of .ensures) ∙ ap (λ (e : Exported). begunWith w (exportedAnswer e)) (sym (c .before .before .line2 .given .1))
+    let a = c .before .before .before .before .args in
+    let w = a .row in
+    let f : Answer (Unit {0}) → Answer (Begun (Option Bearer)) = λ p. given (record { from = w .at; count = w .count; levels = w .levels; inside = w .inside; state = none; size = record { len = c .before .before .line2 .given .0 .0; lines = a .passed + 1 }; pending = p }) in
+    ap f (c .pending-of .ensures) ∙ ap (λ (e : Exported). begunWith w (a .passed) (exportedAnswer e)) (sym (c .before .before .line2 .given .1))
 
 pub line-begun-spec : {M : Type 1} → statement M
 line-begun-spec =
-    tie.close (tie.spec enum-known-line enum-known-line-2 pending-of-requires returns returns-2)
+    tie.close (tie.spec enum-known-line enum-known-line-2 add-t8 pending-of-requires returns returns-2)

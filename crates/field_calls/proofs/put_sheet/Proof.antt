@@ -33,9 +33,9 @@ enum-known-next c = search needs
 
 add-t19 : tie.Need-add-t19
 add-t19 c =
-    let start = c .before .before .before .before .before .before .before .before .before .before .before .before .before .before in
-    let r = c .before .before .before .before .before .walk-first in
-    omega (arith, lines-long (start .args .call) (now (start .args .s)) (start .args .at) _ (r .last .1 .1 .1 .0) (r .result) (r .ensures) _ _ (c .before .next .given .1) (start .pre), c .before .before .before .before .before .before .before .before .before .before .put-opening .ensures .0, opening-short (start .args .call))
+    let start = c .before .before .before .before .before .before .before .before .before .before .before .before .before .before .before in
+    let r = c .before .before .before .before .before .before .walk-first in
+    omega (arith, lines-long (start .args .call) (now (start .args .s)) (start .args .at) _ (r .last .1 .1 .1 .0) (r .result) (r .ensures) _ _ (c .before .before .next .given .1) (start .pre), c .before .before .before .before .before .before .before .before .before .before .before .put-opening .ensures .0, opening-short (start .args .call))
 
 same-length : tie.Need-same-length
 same-length c = search needs
@@ -51,11 +51,11 @@ same-length-2 c = search needs
 
 returns-2 : tie.Need-returns-2
 returns-2 c =
-    let a = c .before .before .before .before .before .before .before .before .before .before .before .before .before .before .args in
-    let r = c .before .before .before .before .before .walk-first in
-    let w = c .before .before .before .before .before .before .before .within in
-    let h = c .before .before .before .before .before .before .before .before .before .before .put-opening in
-    lines-done (a .call) (now (a .s)) (a .at) _ (r .last .1 .1 .1 .0) (r .result) (r .ensures) _ _ (c .before .next .given .1) (now (a .out)) (h .last .1 .0) (h .result) (w .result) (h .ensures) (w .ensures) refl
+    let a = c .before .before .before .before .before .before .before .before .before .before .before .before .before .before .before .args in
+    let r = c .before .before .before .before .before .before .walk-first in
+    let w = c .before .before .before .before .before .before .before .before .within in
+    let h = c .before .before .before .before .before .before .before .before .before .before .before .put-opening in
+    lines-done (a .call) (now (a .s)) (a .at) _ (r .last .1 .1 .1 .0) (r .result) (r .ensures) _ _ (c .before .before .next .given .1) (now (a .out)) (h .last .1 .0) (h .result) (w .result) (h .ensures) (w .ensures) refl
 
 pub put-sheet-spec : {M : Type 1} → statement M
 put-sheet-spec =

@@ -10,7 +10,7 @@ use Rattle.walks.specs.declared.LineBegun.{LineBegun}
 use Rattle.walks.specs.declared.LineBegun.the-variants.{Below}
 use Rattle.walks.specs.declared.Pending.{Pending}
 use Rattle.field_walk.specs.Calls.{CallBegins}
-use Rattle.field_walk.proofs.InnerLaws.{innerOf, has-inner, inner-refused, inner-short, inner-begun}
+use Rattle.field_walk.proofs.InnerLaws.{innerOf, has-inner, inner-refused, inner-short, inner-few, inner-begun}
 use borrow.Author.Needs.{needs}
 use Rattle.field_walk.proofs.begin_line.Statement.{statement}
 use Rattle.field_walk.proofs.begin_line.Tie as tie
@@ -72,14 +72,25 @@ enum-known-next c = search needs
 
 add-t31 : tie.Need-add-t31
 add-t31 c =
-    let a = c .before .before .before .before .before .before .before .before .before .before .before .before .before .before .before .before .before .before .before .before .before .args in
-    let r = c .before .before .before .before .before .before .before .before .before .before .before .before .before .before .before .before .before .begin-one in
-    let b = c .before .before .before .before .before .before .before .before .before .before .before .before .before .row in
-    let first = subst (λ (x : LineBegun). CallBegins (a .call) (now (a .s)) (a .tree) (now (a .out)) (r .last .1 .1 .1 .0) x) (b .given .1 ∙ ap (λ (p : Pending). Below (b .given .0 .0) (b .given .0 .1 .0) p) (c .before .before .before .before .before .before .before .before .before .before .enum-told .given .1)) (r .ensures) in
-    let q = c .before .before .before .before .before .begin-one2 in
-    let w = c .before .before .before .before .before .before .before .within .result in
-    let n = c .before .next in
-    omega (arith, inner-short (a .call) (now (a .s)) (a .tree) (now (a .out)) (r .last .1 .1 .1 .0) (b .given .0 .0) (b .given .0 .1 .0) (sym (c .before .before .before .before .before .before .before .before .before .is-inner .ensures) ∙ not-false _ (c .before .before .before .before .before .before .before .before .if1 .left)) first (take (length (r .last .1 .1 .1 .0) - w) (drop w (r .last .1 .1 .1 .0))) (q .last .1 .1 .1 .0) (n .given .0 .0) (n .given .0 .1 .0) (n .given .0 .1 .1 .0) (subst (λ (x : LineBegun). CallBegins (a .call) (now (a .s)) (innerOf (b .given .0 .0)) (take (length (r .last .1 .1 .1 .0) - w) (drop w (r .last .1 .1 .1 .0))) (q .last .1 .1 .1 .0) x) (n .given .1) (q .ensures)) (c .before .before .before .before .before .before .before .before .before .before .before .before .before .before .before .before .before .before .before .before .before .pre))
+    let a = c .before .before .before .before .before .before .before .before .before .before .before .before .before .before .before .before .before .before .before .before .before .before .before .args in
+    let r = c .before .before .before .before .before .before .before .before .before .before .before .before .before .before .before .before .before .before .before .begin-one in
+    let b = c .before .before .before .before .before .before .before .before .before .before .before .before .before .before .before .row in
+    let first = subst (λ (x : LineBegun). CallBegins (a .call) (now (a .s)) (a .tree) (now (a .out)) (r .last .1 .1 .1 .0) x) (b .given .1 ∙ ap (λ (p : Pending). Below (b .given .0 .0) (b .given .0 .1 .0) p) (c .before .before .before .before .before .before .before .before .before .before .before .before .enum-told .given .1)) (r .ensures) in
+    let q = c .before .before .before .before .before .before .before .begin-one2 in
+    let w = c .before .before .before .before .before .before .before .before .before .within .result in
+    let n = c .before .before .before .next in
+    omega (arith, inner-short (a .call) (now (a .s)) (a .tree) (now (a .out)) (r .last .1 .1 .1 .0) (b .given .0 .0) (b .given .0 .1 .0) (sym (c .before .before .before .before .before .before .before .before .before .before .before .is-inner .ensures) ∙ not-false _ (c .before .before .before .before .before .before .before .before .before .before .if1 .left)) first (take (length (r .last .1 .1 .1 .0) - w) (drop w (r .last .1 .1 .1 .0))) (q .last .1 .1 .1 .0) (n .given .0 .0) (n .given .0 .1 .0) (n .given .0 .1 .1 .0) (subst (λ (x : LineBegun). CallBegins (a .call) (now (a .s)) (innerOf (b .given .0 .0)) (take (length (r .last .1 .1 .1 .0) - w) (drop w (r .last .1 .1 .1 .0))) (q .last .1 .1 .1 .0) x) (n .given .1) (q .ensures)) (c .before .before .before .before .before .before .before .before .before .before .before .before .before .before .before .before .before .before .before .before .before .before .before .pre))
+
+add-t32 : tie.Need-add-t32
+add-t32 c =
+    let a = c .before .before .before .before .before .before .before .before .before .before .before .before .before .before .before .before .before .before .before .before .before .before .before .before .before .args in
+    let r = c .before .before .before .before .before .before .before .before .before .before .before .before .before .before .before .before .before .before .before .before .before .begin-one in
+    let b = c .before .before .before .before .before .before .before .before .before .before .before .before .before .before .before .before .before .row in
+    let first = subst (λ (x : LineBegun). CallBegins (a .call) (now (a .s)) (a .tree) (now (a .out)) (r .last .1 .1 .1 .0) x) (b .given .1 ∙ ap (λ (p : Pending). Below (b .given .0 .0) (b .given .0 .1 .0) p) (c .before .before .before .before .before .before .before .before .before .before .before .before .before .before .enum-told .given .1)) (r .ensures) in
+    let q = c .before .before .before .before .before .before .before .before .before .begin-one2 in
+    let w = c .before .before .before .before .before .before .before .before .before .before .before .within .result in
+    let n = c .before .before .before .before .before .next in
+    omega (arith, inner-few (a .call) (now (a .s)) (a .tree) (now (a .out)) (r .last .1 .1 .1 .0) (b .given .0 .0) (b .given .0 .1 .0) (sym (c .before .before .before .before .before .before .before .before .before .before .before .before .before .is-inner .ensures) ∙ not-false _ (c .before .before .before .before .before .before .before .before .before .before .before .before .if1 .left)) first (take (length (r .last .1 .1 .1 .0) - w) (drop w (r .last .1 .1 .1 .0))) (q .last .1 .1 .1 .0) (n .given .0 .0) (n .given .0 .1 .0) (n .given .0 .1 .1 .0) (subst (λ (x : LineBegun). CallBegins (a .call) (now (a .s)) (innerOf (b .given .0 .0)) (take (length (r .last .1 .1 .1 .0) - w) (drop w (r .last .1 .1 .1 .0))) (q .last .1 .1 .1 .0) x) (n .given .1) (q .ensures)) (c .before .before .before .before .before .before .before .before .before .before .before .before .before .before .before .before .before .before .before .before .before .before .before .before .before .pre))
 
 same-length-2 : tie.Need-same-length-2
 same-length-2 c = search needs
@@ -118,14 +129,14 @@ same-length-5 c = search needs
 
 returns-5 : tie.Need-returns-5
 returns-5 c =
-    let a = c .before .before .before .before .before .before .before .before .before .before .before .before .before .before .before .before .before .before .before .before .before .args in
-    let r = c .before .before .before .before .before .before .before .before .before .before .before .before .before .before .before .before .before .begin-one in
-    let b = c .before .before .before .before .before .before .before .before .before .before .before .before .before .row in
-    let first = subst (λ (x : LineBegun). CallBegins (a .call) (now (a .s)) (a .tree) (now (a .out)) (r .last .1 .1 .1 .0) x) (b .given .1 ∙ ap (λ (p : Pending). Below (b .given .0 .0) (b .given .0 .1 .0) p) (c .before .before .before .before .before .before .before .before .before .before .enum-told .given .1)) (r .ensures) in
-    let q = c .before .before .before .before .before .begin-one2 in
-    let w = c .before .before .before .before .before .before .before .within .result in
-    let n = c .before .next in
-    inner-begun (a .call) (now (a .s)) (a .tree) (now (a .out)) (r .last .1 .1 .1 .0) (b .given .0 .0) (b .given .0 .1 .0) (sym (c .before .before .before .before .before .before .before .before .before .is-inner .ensures) ∙ not-false _ (c .before .before .before .before .before .before .before .before .if1 .left)) first (take (length (r .last .1 .1 .1 .0) - w) (drop w (r .last .1 .1 .1 .0))) (q .last .1 .1 .1 .0) (n .given .0 .0) (n .given .0 .1 .0) (n .given .0 .1 .1 .0) (subst (λ (x : LineBegun). CallBegins (a .call) (now (a .s)) (innerOf (b .given .0 .0)) (take (length (r .last .1 .1 .1 .0) - w) (drop w (r .last .1 .1 .1 .0))) (q .last .1 .1 .1 .0) x) (n .given .1) (q .ensures)) (c .before .before .before .before .before .before .before .within .result) (c .before .before .before .before .before .before .before .within .ensures) refl
+    let a = c .before .before .before .before .before .before .before .before .before .before .before .before .before .before .before .before .before .before .before .before .before .before .before .before .before .args in
+    let r = c .before .before .before .before .before .before .before .before .before .before .before .before .before .before .before .before .before .before .before .before .before .begin-one in
+    let b = c .before .before .before .before .before .before .before .before .before .before .before .before .before .before .before .before .before .row in
+    let first = subst (λ (x : LineBegun). CallBegins (a .call) (now (a .s)) (a .tree) (now (a .out)) (r .last .1 .1 .1 .0) x) (b .given .1 ∙ ap (λ (p : Pending). Below (b .given .0 .0) (b .given .0 .1 .0) p) (c .before .before .before .before .before .before .before .before .before .before .before .before .before .before .enum-told .given .1)) (r .ensures) in
+    let q = c .before .before .before .before .before .before .before .before .before .begin-one2 in
+    let w = c .before .before .before .before .before .before .before .before .before .before .before .within .result in
+    let n = c .before .before .before .before .before .next in
+    inner-begun (a .call) (now (a .s)) (a .tree) (now (a .out)) (r .last .1 .1 .1 .0) (b .given .0 .0) (b .given .0 .1 .0) (sym (c .before .before .before .before .before .before .before .before .before .before .before .before .before .is-inner .ensures) ∙ not-false _ (c .before .before .before .before .before .before .before .before .before .before .before .before .if1 .left)) first (take (length (r .last .1 .1 .1 .0) - w) (drop w (r .last .1 .1 .1 .0))) (q .last .1 .1 .1 .0) (n .given .0 .0) (n .given .0 .1 .0) (n .given .0 .1 .1 .0) (subst (λ (x : LineBegun). CallBegins (a .call) (now (a .s)) (innerOf (b .given .0 .0)) (take (length (r .last .1 .1 .1 .0) - w) (drop w (r .last .1 .1 .1 .0))) (q .last .1 .1 .1 .0) x) (n .given .1) (q .ensures)) (c .before .before .before .before .before .before .before .before .before .before .before .within .result) (c .before .before .before .before .before .before .before .before .before .before .before .within .ensures) refl
 
 pub begin-line-spec : {M : Type 1} → statement M
 begin-line-spec =
@@ -147,6 +158,7 @@ begin-line-spec =
     enum-known-r-2
     enum-known-next
     add-t31
+    add-t32
     same-length-2
     returns-2
     same-length-3

@@ -10,10 +10,11 @@ use denote.Ref.{now}
 use borrow.Author.Needs.{needs}
 use Rattle.sheets.specs.Schema.{nodeOf, Schemas, Schema, schema}
 use Rattle.sheets.specs.ImportLines.{typeWritten}
+use Rattle.sheets.specs.Visits.{belowLines}
 use Rattle.buffer.proofs.OverLaws.{length-lent}
 use Rattle.import_field.specs.declared.TypeBegun.the-variants.{Row}
 use Rattle.import_field.specs.Contracts.{FieldsAt, typeLength, LineBegins, TypeBegins}
-use Rattle.import_field.proofs.OwnLaws.{room-kept, some-level, node-there, type-there, type-turned, field-long, field-next, field-ended}
+use Rattle.import_field.proofs.OwnLaws.{room-kept, some-level, node-there, type-there, type-turned, field-long, field-each, field-next, field-ended}
 use Rattle.import_field.proofs.TypeLaws.{type-short, fields-there, fields-refused, left-there, both-long, type-ended}
 use Rattle.import_field.proofs.FieldsLaws.{Going, going-none, going-field, going-more, going-refused, going-all}
 use Rattle.import_field.proofs.LeafLaws.{leaf-done, leaf-other}
@@ -149,7 +150,7 @@ own : (t : ℕ) (c : to-dtype-lts.After-known-told2 (to-dtype-calls t) (to-dtype
     let p = c .before .before .before .before .before .before .before .before .before .before .before .before .pre .1 .0 in
     let r = c .before .before .before .before .before .begin-type in
     let u = c .before .from .given .0 in
-    LineBegins (a .shown .big) (now (a .s)) (a .line) (a .levels) (typeWritten (a .shown .big) (p .info) (schema (nodeOf (p .line)) (p .children) (p .dictionary))) (typeLength (now (a .s)) (a .line) (a .shown) (now (a .entries))) (p .after)
+    LineBegins (a .shown .big) (now (a .s)) (a .line) (a .levels) (typeWritten (a .shown .big) (p .info) (schema (nodeOf (p .line)) (p .children) (p .dictionary))) (belowLines (schema (nodeOf (p .line)) (p .children) (p .dictionary))) (typeLength (now (a .s)) (a .line) (a .shown) (now (a .entries))) (p .after)
     (now (a .out)) (r .last .1 .1 .1 .1 .0) (u .0) (u .1 .0) (u .1 .1 .0)
 own t c = let p = c .before .before .before .before .before .before .before .before .before .before .before .before .pre .1 .0 in begun t c (p .line) (p .children) (p .dictionary) (p .after) (p .info) (p .there) (p .shows)
 
@@ -185,15 +186,15 @@ to-dtype-enum-known-r-2 t c = search needs
 to-dtype-enum-known-next : (t : ℕ) → to-dtype-lts.Need-enum-known-next (to-dtype-calls t) (to-dtype-at t) to-dtype.Post
 to-dtype-enum-known-next t c = search needs
 
-to-dtype-add-end-type : (t : ℕ) → to-dtype-lts.Need-add-end-type (to-dtype-calls t) (to-dtype-at t) to-dtype.Post
-to-dtype-add-end-type t c =
-    let r = c .before .before .before .before .before .before .before .before .before .to-fields in
-    omega (arith, type-short (c .before .before .before .before .before .before .before .before .before .before .before .before .before .before .before .before .before .before .before .before .before .before .before .before .before .before .pre .1 .0), both-long (own t (c .before .before .before .before .before .before .before .before .before .before .before .before .before .before)) _ (r .last .1 .1 .0) (r .result) _ _ (c .before .next .given .1) (r .ensures))
+to-dtype-add-t34 : (t : ℕ) → to-dtype-lts.Need-add-t34 (to-dtype-calls t) (to-dtype-at t) to-dtype.Post
+to-dtype-add-t34 t c =
+    let r = c .before .before .before .before .before .before .before .before .before .before .to-fields in
+    omega (arith, type-short (c .before .before .before .before .before .before .before .before .before .before .before .before .before .before .before .before .before .before .before .before .before .before .before .before .before .before .before .pre .1 .0), both-long (own t (c .before .before .before .before .before .before .before .before .before .before .before .before .before .before .before)) _ (r .last .1 .1 .0) (r .result) _ _ (c .before .before .next .given .1) (r .ensures))
 
 to-dtype-end-type-requires : (t : ℕ) → to-dtype-lts.Need-end-type-requires (to-dtype-calls t) (to-dtype-at t) to-dtype.Post
 to-dtype-end-type-requires t c κs =
-    let r = c .before .before .before .before .before .before .before .before .before .to-fields in
-    left-there (own t (c .before .before .before .before .before .before .before .before .before .before .before .before .before .before)) _ (r .last .1 .1 .0) (r .result) _ _ (c .before .next .given .1) (r .ensures)
+    let r = c .before .before .before .before .before .before .before .before .before .before .to-fields in
+    left-there (own t (c .before .before .before .before .before .before .before .before .before .before .before .before .before .before .before)) _ (r .last .1 .1 .0) (r .result) _ _ (c .before .before .next .given .1) (r .ensures)
 
 to-dtype-same-length : (t : ℕ) → to-dtype-lts.Need-same-length (to-dtype-calls t) (to-dtype-at t) to-dtype.Post
 to-dtype-same-length t c = c .before .before .before .before .before .begin-type .kept .1 .1 .1 .1 .0
@@ -226,21 +227,21 @@ to-dtype-returns-2 t c =
 
 to-dtype-same-length-6 : (t : ℕ) → to-dtype-lts.Need-same-length-6 (to-dtype-calls t) (to-dtype-at t) to-dtype.Post
 to-dtype-same-length-6 t c =
-    let r = c .before .before .before .before .before .before .before .before .before .before .before .before .before .before .before .before .before .before .before .before .begin-type in
-    let called = c .before .before .before .before .before .before .before .before .before .before .to-fields in
-    length-lent (c .before .before .before .before .before .before .before .before .before .before .before .before .before .before .within .result) (r .last .1 .1 .1 .1 .0) (called .last .1 .1 .0) (called .kept .1 .1 .0) ∙ r .kept .1 .1 .1 .1 .0
+    let r = c .before .before .before .before .before .before .before .before .before .before .before .before .before .before .before .before .before .before .before .before .before .begin-type in
+    let called = c .before .before .before .before .before .before .before .before .before .before .before .to-fields in
+    length-lent (c .before .before .before .before .before .before .before .before .before .before .before .before .before .before .before .within .result) (r .last .1 .1 .1 .1 .0) (called .last .1 .1 .0) (called .kept .1 .1 .0) ∙ r .kept .1 .1 .1 .1 .0
 
 to-dtype-same-length-7 : (t : ℕ) → to-dtype-lts.Need-same-length-7 (to-dtype-calls t) (to-dtype-at t) to-dtype.Post
-to-dtype-same-length-7 t c = c .before .before .before .before .before .before .before .before .before .before .to-fields .kept .1 .1 .1 .0
+to-dtype-same-length-7 t c = c .before .before .before .before .before .before .before .before .before .before .before .to-fields .kept .1 .1 .1 .0
 
 to-dtype-same-length-8 : (t : ℕ) → to-dtype-lts.Need-same-length-8 (to-dtype-calls t) (to-dtype-at t) to-dtype.Post
-to-dtype-same-length-8 t c = c .before .before .before .before .before .before .before .before .before .before .to-fields .kept .1 .1 .1 .1 .0
+to-dtype-same-length-8 t c = c .before .before .before .before .before .before .before .before .before .before .before .to-fields .kept .1 .1 .1 .1 .0
 
 to-dtype-returns-3 : (t : ℕ) → to-dtype-lts.Need-returns-3 (to-dtype-calls t) (to-dtype-at t) to-dtype.Post
 to-dtype-returns-3 t c =
-    let r = c .before .before .before .before .before .before .before .before .before .before .to-fields in
-    let w = c .before .before .before .before .before .before .before .before .before .before .before .before .before .before .within in
-    λ x cs d ts j h shows. type-ended (begun t (c .before .before .before .before .before .before .before .before .before .before .before .before .before .before .before) x cs d ts j h shows) _ (r .last .1 .1 .0) (r .result) _ _ (c .before .before .next .given .1) (r .ensures)
+    let r = c .before .before .before .before .before .before .before .before .before .before .before .to-fields in
+    let w = c .before .before .before .before .before .before .before .before .before .before .before .before .before .before .before .within in
+    λ x cs d ts j h shows. type-ended (begun t (c .before .before .before .before .before .before .before .before .before .before .before .before .before .before .before .before) x cs d ts j h shows) _ (r .last .1 .1 .0) (r .result) _ _ (c .before .before .before .next .given .1) (r .ensures)
     (w .result) (w .ensures) refl (c .end-type .result) (c .end-type .ensures)
 
 to-field-line-at-requires : (t : ℕ) → to-field-lts.Need-line-at-requires (to-field-calls t) (to-field-at t) to-field.Post
@@ -279,14 +280,23 @@ to-field-enum-known-r t c = search needs
 to-field-enum-known-next : (t : ℕ) → to-field-lts.Need-enum-known-next (to-field-calls t) (to-field-at t) to-field.Post
 to-field-enum-known-next t c = search needs
 
-to-field-add-end-field : (t : ℕ) → to-field-lts.Need-add-end-field (to-field-calls t) (to-field-at t) to-field.Post
-to-field-add-end-field t c =
-    let p = line-told _ _ (c .before .before .before .before .before .before .before .before .before .before .before .before .before .before .before .before .before .before .before .before .before .before .before .before .before .before .before .line-at .ensures) in
-    let f = c .before .before .before .before .before .before .before .before .before .before .before .before .before .before .before .before .before .before .before .before .before .before .before .before .before .before .before .before .before .before .before .before .pre .1 .0 .2 in
-    let r = c .before .before .before .before .before .before .before .before .before .before .to-dtype in
-    let e = c .before .before .next .given .1 in
-    let b = c .before .before .before .before .before .before .before .before .before .before .before .before .before .before .before .before .before .before .before .before .before .before .before .begin-field .ensures in
+to-field-add-t32 : (t : ℕ) → to-field-lts.Need-add-t32 (to-field-calls t) (to-field-at t) to-field.Post
+to-field-add-t32 t c =
+    let p = line-told _ _ (c .before .before .before .before .before .before .before .before .before .before .before .before .before .before .before .before .before .before .before .before .before .before .before .before .before .before .before .before .line-at .ensures) in
+    let f = c .before .before .before .before .before .before .before .before .before .before .before .before .before .before .before .before .before .before .before .before .before .before .before .before .before .before .before .before .before .before .before .before .before .pre .1 .0 .2 in
+    let r = c .before .before .before .before .before .before .before .before .before .before .before .to-dtype in
+    let e = c .before .before .before .next .given .1 in
+    let b = c .before .before .before .before .before .before .before .before .before .before .before .before .before .before .before .before .before .before .before .before .before .before .before .before .begin-field .ensures in
     omega (arith, f .short, field-long p f b _ (r .last .1 .1 .1 .1 .0) (r .result) (r .ensures) _ _ e, field-next p f b _ (r .last .1 .1 .1 .1 .0) (r .result) (r .ensures) _ _ e)
+
+to-field-add-t33 : (t : ℕ) → to-field-lts.Need-add-t33 (to-field-calls t) (to-field-at t) to-field.Post
+to-field-add-t33 t c =
+    let p = line-told _ _ (c .before .before .before .before .before .before .before .before .before .before .before .before .before .before .before .before .before .before .before .before .before .before .before .before .before .before .before .before .before .line-at .ensures) in
+    let f = c .before .before .before .before .before .before .before .before .before .before .before .before .before .before .before .before .before .before .before .before .before .before .before .before .before .before .before .before .before .before .before .before .before .before .pre .1 .0 .2 in
+    let r = c .before .before .before .before .before .before .before .before .before .before .before .before .to-dtype in
+    let e = c .before .before .before .before .next .given .1 in
+    let b = c .before .before .before .before .before .before .before .before .before .before .before .before .before .before .before .before .before .before .before .before .before .before .before .before .before .begin-field .ensures in
+    omega (arith, f .short, field-each p f b _ (r .last .1 .1 .1 .1 .0) (r .result) (r .ensures) _ _ e, field-next p f b _ (r .last .1 .1 .1 .1 .0) (r .result) (r .ensures) _ _ e)
 
 to-field-end-field-requires : (t : ℕ) → to-field-lts.Need-end-field-requires (to-field-calls t) (to-field-at t) to-field.Post
 to-field-end-field-requires t c κs = search needs
@@ -310,41 +320,41 @@ to-field-returns t c =
 
 to-field-same-length-4 : (t : ℕ) → to-field-lts.Need-same-length-4 (to-field-calls t) (to-field-at t) to-field.Post
 to-field-same-length-4 t c =
-    let r = c .before .before .before .before .before .before .before .before .before .before .before .before .before .before .before .before .before .before .before .before .before .before .before .before .begin-field in
-    let called = c .before .before .before .before .before .before .before .before .before .before .before .to-dtype in
-    length-lent (c .before .before .before .before .before .before .before .before .before .before .before .before .before .before .before .before .within .result) (r .last .1 .1 .1 .1 .0) (called .last .1 .1 .1 .1 .0) (called .kept .1 .1 .1 .1 .0) ∙ r .kept .1 .1 .1 .1 .0
+    let r = c .before .before .before .before .before .before .before .before .before .before .before .before .before .before .before .before .before .before .before .before .before .before .before .before .before .before .begin-field in
+    let called = c .before .before .before .before .before .before .before .before .before .before .before .before .before .to-dtype in
+    length-lent (c .before .before .before .before .before .before .before .before .before .before .before .before .before .before .before .before .before .before .within .result) (r .last .1 .1 .1 .1 .0) (called .last .1 .1 .1 .1 .0) (called .kept .1 .1 .1 .1 .0) ∙ r .kept .1 .1 .1 .1 .0
 
 to-field-same-length-5 : (t : ℕ) → to-field-lts.Need-same-length-5 (to-field-calls t) (to-field-at t) to-field.Post
-to-field-same-length-5 t c = c .before .before .before .before .before .before .before .before .before .before .before .to-dtype .kept .1 .1 .1 .1 .1 .0 ∙ c .before .before .before .before .before .before .before .before .before .before .before .before .before .before .before .before .before .before .before .before .before .before .before .before .begin-field .kept .1 .1 .1 .1 .1 .0
+to-field-same-length-5 t c = c .before .before .before .before .before .before .before .before .before .before .before .before .before .to-dtype .kept .1 .1 .1 .1 .1 .0 ∙ c .before .before .before .before .before .before .before .before .before .before .before .before .before .before .before .before .before .before .before .before .before .before .before .before .before .before .begin-field .kept .1 .1 .1 .1 .1 .0
 
 to-field-same-length-6 : (t : ℕ) → to-field-lts.Need-same-length-6 (to-field-calls t) (to-field-at t) to-field.Post
-to-field-same-length-6 t c = c .before .before .before .before .before .before .before .before .before .before .before .to-dtype .kept .1 .1 .1 .1 .1 .1 .0 ∙ c .before .before .before .before .before .before .before .before .before .before .before .before .before .before .before .before .before .before .before .before .before .before .before .before .begin-field .kept .1 .1 .1 .1 .1 .1 .0
+to-field-same-length-6 t c = c .before .before .before .before .before .before .before .before .before .before .before .before .before .to-dtype .kept .1 .1 .1 .1 .1 .1 .0 ∙ c .before .before .before .before .before .before .before .before .before .before .before .before .before .before .before .before .before .before .before .before .before .before .before .before .before .before .begin-field .kept .1 .1 .1 .1 .1 .1 .0
 
 to-field-returns-2 : (t : ℕ) → to-field-lts.Need-returns-2 (to-field-calls t) (to-field-at t) to-field.Post
 to-field-returns-2 t c =
-    let r = c .before .before .before .before .before .before .before .before .before .before .before .to-dtype in
-    let w = c .before .before .before .before .before .before .before .before .before .before .before .before .before .before .before .before .within in
-    λ u ts f. field-ended (line-told _ _ (c .before .before .before .before .before .before .before .before .before .before .before .before .before .before .before .before .before .before .before .before .before .before .before .before .before .before .before .before .line-at .ensures)) f (c .before .before .before .before .before .before .before .before .before .before .before .before .before .before .before .before .before .before .before .before .before .before .before .before .begin-field .ensures) _ (r .last .1 .1 .1 .1 .0) (r .result) (r .ensures) _ _ (c .before .before .before .next .given .1)
+    let r = c .before .before .before .before .before .before .before .before .before .before .before .before .before .to-dtype in
+    let w = c .before .before .before .before .before .before .before .before .before .before .before .before .before .before .before .before .before .before .within in
+    λ u ts f. field-ended (line-told _ _ (c .before .before .before .before .before .before .before .before .before .before .before .before .before .before .before .before .before .before .before .before .before .before .before .before .before .before .before .before .before .before .line-at .ensures)) f (c .before .before .before .before .before .before .before .before .before .before .before .before .before .before .before .before .before .before .before .before .before .before .before .before .before .before .begin-field .ensures) _ (r .last .1 .1 .1 .1 .0) (r .result) (r .ensures) _ _ (c .before .before .before .before .before .next .given .1)
     (w .result) (w .ensures) refl (c .end-field .result) (c .end-field .ensures)
 
 abbrev to-fields-Inv-loop : to-fields-lts.InvT-loop
-to-fields-Inv-loop s row out₀ entries₀ spare₀ here₀ sum₀ i₀ out entries spare here sum i =
+to-fields-Inv-loop s row out₀ entries₀ spare₀ here₀ sum₀ lines₀ i₀ out entries spare here sum lines i =
     (i ≤ row .count)
     × (length out ≡ length out₀)
     × (length entries ≡ length entries₀)
     × (length spare ≡ length spare₀)
     × ((us : Schemas) (ts : List Schema) → FieldsAt s (row .at) (row .count) (row .levels) us ts
-    → Going s (row .at) (row .count) (row .levels) (row .bare) (row .big) out₀ out here sum i us ts)
+    → Going s (row .at) (row .count) (row .levels) (row .bare) (row .big) out₀ out here sum lines i us ts)
 
 abbrev to-fields-μ-loop : to-fields-lts.MeasureT-loop
-to-fields-μ-loop s row out₀ entries₀ spare₀ here₀ sum₀ i₀ out entries spare here sum i = row .count - i
+to-fields-μ-loop s row out₀ entries₀ spare₀ here₀ sum₀ lines₀ i₀ out entries spare here sum lines i = row .count - i
 
 -- what the invariant says in a turn, of the trees that the contract requires
 going : (t : ℕ) (c : to-fields-lts.Then1 (to-fields-calls t) (to-fields-at t) to-fields.Post to-fields-Inv-loop to-fields-μ-loop)
     → let a = c .before .before .before .before .before .before .before .args in
     let p = c .before .before .before .before .before .before .before .pre .1 .0 in
     let l = c .before .before .loop in
-    Going (now (a .s)) (a .row .at) (a .row .count) (a .row .levels) (a .row .bare) (a .row .big) (now (a .out)) (l .out) (l .here) (l .sum) (l .i) (p .0) (p .1)
+    Going (now (a .s)) (a .row .at) (a .row .count) (a .row .levels) (a .row .bare) (a .row .big) (now (a .out)) (l .out) (l .here) (l .sum) (l .lines) (l .i) (p .0) (p .1)
 going t c = let p = c .before .before .before .before .before .before .before .pre .1 .0 in c .before .before .loop .inv .4 (p .0) (p .1) (p .2)
 
 -- and after it, of any trees that stood there
@@ -356,11 +366,11 @@ gone : (t : ℕ) (c : to-fields-lts.After-known-told2 (to-fields-calls t) (to-fi
     let u = c .before .next .given .0 in
     (us : Schemas) (ts : List Schema) → FieldsAt (now (a .s)) (a .row .at) (a .row .count) (a .row .levels) us ts
     → Going (now (a .s)) (a .row .at) (a .row .count) (a .row .levels) (a .row .bare) (a .row .big) (now (a .out))
-    (take w (l .out) ++ (r .last .1 .1 .0 ++ drop (length (l .out) - w) (drop w (l .out)))) (u .0) (l .sum + u .1 .0) (l .i + 1) us ts
+    (take w (l .out) ++ (r .last .1 .1 .0 ++ drop (length (l .out) - w) (drop w (l .out)))) (u .0) (l .sum + u .1 .0 .len) (l .lines + u .1 .0 .lines) (l .i + 1) us ts
 gone t c us ts h =
     let w = c .before .before .before .before .before .before .before .before .before .before .before .before .before .within in
     let r = c .before .before .before .before .before .before .before .before .before .next-field in
-    going-more _ _ _ _ _ _ _ _ _ _ _ _ _ (c .before .before .before .before .before .before .before .before .before .before .before .before .before .before .before .before .loop .inv .4 us ts h) (c .before .before .before .before .before .before .before .before .before .before .before .before .before .before .if1 .taken)
+    going-more _ _ _ _ _ _ _ _ _ _ _ _ _ _ (c .before .before .before .before .before .before .before .before .before .before .before .before .before .before .before .before .loop .inv .4 us ts h) (c .before .before .before .before .before .before .before .before .before .before .before .before .before .before .if1 .taken)
     (w .result) (w .ensures) (r .last .1 .1 .0) _ _ _ (c .before .next .given .1) (r .ensures)
 
 to-fields-loop-holds : (t : ℕ) → to-fields-lts.Need-loop-holds (to-fields-calls t) (to-fields-at t) to-fields.Post to-fields-Inv-loop to-fields-μ-loop
@@ -383,7 +393,7 @@ to-fields-next-field-requires t c κs =
     let start = c .before .before .before .before .before .before .before .before .before .before .before in
     let inv = c .before .before .before .before .before .before .loop .inv in (
       omega (arith, start .pre .0),
-      (going-field _ _ _ _ _ _ _ _ _ _ _ _ _ (going t (c .before .before .before .before)) (c .before .before .before .before .if1 .taken), room-kept (start .pre .1 .1) (inv .2) (inv .3)),
+      (going-field _ _ _ _ _ _ _ _ _ _ _ _ _ _ (going t (c .before .before .before .before)) (c .before .before .before .before .if1 .taken), room-kept (start .pre .1 .1) (inv .2) (inv .3)),
     )
 
 to-fields-enum-known-r : (t : ℕ) → to-fields-lts.Need-enum-known-r (to-fields-calls t) (to-fields-at t) to-fields.Post to-fields-Inv-loop to-fields-μ-loop
@@ -404,16 +414,22 @@ to-fields-same-length-3 t c = c .before .before .before .before .before .before 
 to-fields-returns : (t : ℕ) → to-fields-lts.Need-returns (to-fields-calls t) (to-fields-at t) to-fields.Post to-fields-Inv-loop to-fields-μ-loop
 to-fields-returns t c =
     let r = c .before .before .before .before .before .before .before .before .before .next-field in
-    λ us ts h. going-refused _ _ _ _ _ _ _ _ _ _ _ _ _ (c .before .before .before .before .before .before .before .before .before .before .before .before .before .before .before .before .loop .inv .4 us ts h) (c .before .before .before .before .before .before .before .before .before .before .before .before .before .before .if1 .taken) _ (r .last .1 .1 .0) _ _ (c .before .r .given .1) (r .ensures)
+    λ us ts h. going-refused _ _ _ _ _ _ _ _ _ _ _ _ _ _ (c .before .before .before .before .before .before .before .before .before .before .before .before .before .before .before .before .loop .inv .4 us ts h) (c .before .before .before .before .before .before .before .before .before .before .before .before .before .before .if1 .taken) _ (r .last .1 .1 .0) _ _ (c .before .r .given .1) (r .ensures)
 
 to-fields-enum-known-next : (t : ℕ) → to-fields-lts.Need-enum-known-next (to-fields-calls t) (to-fields-at t) to-fields.Post to-fields-Inv-loop to-fields-μ-loop
 to-fields-enum-known-next t c = search needs
 
 to-fields-add-sum : (t : ℕ) → to-fields-lts.Need-add-sum (to-fields-calls t) (to-fields-at t) to-fields.Post to-fields-Inv-loop to-fields-μ-loop
 to-fields-add-sum t c =
-    let p = c .before .before .before .before .before .before .before .before .before .before .before .before .before .before .before .before .before .before .before .before .before .pre .1 .0 in
-    let g = gone t c (p .0) (p .1) (p .2) in
+    let p = c .before .before .before .before .before .before .before .before .before .before .before .before .before .before .before .before .before .before .before .before .before .before .pre .1 .0 in
+    let g = gone t (c .before) (p .0) (p .1) (p .2) in
     omega (arith, g .long, g .left .within, g .left .short)
+
+to-fields-add-lines : (t : ℕ) → to-fields-lts.Need-add-lines (to-fields-calls t) (to-fields-at t) to-fields.Post to-fields-Inv-loop to-fields-μ-loop
+to-fields-add-lines t c =
+    let p = c .before .before .before .before .before .before .before .before .before .before .before .before .before .before .before .before .before .before .before .before .before .before .before .pre .1 .0 in
+    let g = gone t (c .before .before) (p .0) (p .1) (p .2) in
+    omega (arith, g .each, g .left .within, g .left .short)
 
 to-fields-add-i : (t : ℕ) → to-fields-lts.Need-add-i (to-fields-calls t) (to-fields-at t) to-fields.Post to-fields-Inv-loop to-fields-μ-loop
 to-fields-add-i t c = omega arith
@@ -423,13 +439,13 @@ to-fields-loop-less t c = omega arith
 
 to-fields-loop-again : (t : ℕ) → to-fields-lts.Need-loop-again (to-fields-calls t) (to-fields-at t) to-fields.Post to-fields-Inv-loop to-fields-μ-loop
 to-fields-loop-again t c =
-    let l = c .before .before .before .before .before .before .before .before .before .before .before .before .before .before .before .before .loop in
-    let r = c .before .before .before .before .before .before .before .before .before .next-field in (
+    let l = c .before .before .before .before .before .before .before .before .before .before .before .before .before .before .before .before .before .before .loop in
+    let r = c .before .before .before .before .before .before .before .before .before .before .before .next-field in (
       omega arith,
-      length-lent (c .before .before .before .before .before .before .before .before .before .before .before .before .before .within .result) (l .out) (r .last .1 .1 .0) (r .kept .1 .1 .0) ∙ l .inv .1,
+      length-lent (c .before .before .before .before .before .before .before .before .before .before .before .before .before .before .before .within .result) (l .out) (r .last .1 .1 .0) (r .kept .1 .1 .0) ∙ l .inv .1,
       r .kept .1 .1 .1 .0 ∙ l .inv .2,
       r .kept .1 .1 .1 .1 .0 ∙ l .inv .3,
-      gone t c,
+      gone t (c .before .before),
     )
 
 to-fields-same-length-4 : (t : ℕ) → to-fields-lts.Need-same-length-4 (to-fields-calls t) (to-fields-at t) to-fields.Post to-fields-Inv-loop to-fields-μ-loop
@@ -442,7 +458,7 @@ to-fields-same-length-6 : (t : ℕ) → to-fields-lts.Need-same-length-6 (to-fie
 to-fields-same-length-6 t c = c .before .before .loop .inv .3
 
 to-fields-returns-2 : (t : ℕ) → to-fields-lts.Need-returns-2 (to-fields-calls t) (to-fields-at t) to-fields.Post to-fields-Inv-loop to-fields-μ-loop
-to-fields-returns-2 t c = λ us ts h. going-all _ _ _ _ _ _ _ _ _ _ _ _ _ (c .before .before .loop .inv .4 us ts h) (c .if1 .left)
+to-fields-returns-2 t c = λ us ts h. going-all _ _ _ _ _ _ _ _ _ _ _ _ _ _ (c .before .before .loop .inv .4 us ts h) (c .if1 .left)
 
 pub +next-field+to-dtype+to-field+to-fields-spec : {M : Type 1} → statement M
 +next-field+to-dtype+to-field+to-fields-spec =
@@ -454,18 +470,18 @@ pub +next-field+to-dtype+to-field+to-fields-spec : {M : Type 1} → statement M
     (λ t. to-dtype-lts.spec (to-dtype-calls t) (to-dtype-at t) to-dtype.Post
     (to-dtype-begin-type-requires t) (to-dtype-enum-known-r t) (to-dtype-enum-known-from t) (to-dtype-within-requires t) (to-dtype-sub-to-fields t)
     (to-dtype-part-to-fields-start t) (to-dtype-part-to-fields-end t) (to-dtype-to-fields-requires t) (to-dtype-enum-known-r-2 t)
-    (to-dtype-enum-known-next t) (to-dtype-add-end-type t) (to-dtype-end-type-requires t) (to-dtype-same-length t) (to-dtype-same-length-2 t)
+    (to-dtype-enum-known-next t) (to-dtype-add-t34 t) (to-dtype-end-type-requires t) (to-dtype-same-length t) (to-dtype-same-length-2 t)
     (to-dtype-returns t) (to-dtype-same-length-3 t) (to-dtype-same-length-4 t) (to-dtype-same-length-5 t) (to-dtype-returns-2 t)
     (to-dtype-same-length-6 t) (to-dtype-same-length-7 t) (to-dtype-same-length-8 t) (to-dtype-returns-3 t))
     (λ t. to-field-lts.spec (to-field-calls t) (to-field-at t) to-field.Post
     (to-field-line-at-requires t) (to-field-begin-field-requires t) (to-field-within-requires t) (to-field-sub-to-dtype t) (to-field-sub-to-dtype-2 t)
     (to-field-part-to-dtype-start t) (to-field-part-to-dtype-end t) (to-field-to-dtype-requires t) (to-field-enum-known-r t)
-    (to-field-enum-known-next t) (to-field-add-end-field t) (to-field-end-field-requires t) (to-field-same-length t) (to-field-same-length-2 t)
+    (to-field-enum-known-next t) (to-field-add-t32 t) (to-field-add-t33 t) (to-field-end-field-requires t) (to-field-same-length t) (to-field-same-length-2 t)
     (to-field-same-length-3 t) (to-field-returns t) (to-field-same-length-4 t) (to-field-same-length-5 t) (to-field-same-length-6 t)
     (to-field-returns-2 t))
     λ t. to-fields-lts.spec (to-fields-calls t) (to-fields-at t) to-fields.Post to-fields-Inv-loop to-fields-μ-loop
     (to-fields-loop-holds t) (to-fields-within-requires t) (to-fields-sub-next-field t) (to-fields-part-next-field-start t)
     (to-fields-part-next-field-end t) (to-fields-next-field-requires t) (to-fields-enum-known-r t) (to-fields-same-length t)
-    (to-fields-same-length-2 t) (to-fields-same-length-3 t) (to-fields-returns t) (to-fields-enum-known-next t) (to-fields-add-sum t)
+    (to-fields-same-length-2 t) (to-fields-same-length-3 t) (to-fields-returns t) (to-fields-enum-known-next t) (to-fields-add-sum t) (to-fields-add-lines t)
     (to-fields-add-i t) (to-fields-loop-less t) (to-fields-loop-again t) (to-fields-same-length-4 t) (to-fields-same-length-5 t)
     (to-fields-same-length-6 t) (to-fields-returns-2 t)

@@ -31,11 +31,11 @@ enum-known-r c = search needs
 enum-known-next : tie.Need-enum-known-next
 enum-known-next c = search needs
 
-add-t25 : tie.Need-add-t25
-add-t25 c =
-    let h = c .before .before .before .before .before .before .before .before .before .before .before .before .before .before .before .before .before .before .before .before .before .before .pre .0 in
-    let r = c .before .before .before .before .before .before .before .before .before .to-first-field in
-    omega (arith, lines-long _ _ _ _ _ (h .2) _ (r .last .1 .1 .0) _ _ _ (c .before .next .given .1) (r .ensures), c .before .before .before .before .before .before .before .before .before .before .before .before .before .before .before .before .put-heading .ensures .0)
+add-t26 : tie.Need-add-t26
+add-t26 c =
+    let h = c .before .before .before .before .before .before .before .before .before .before .before .before .before .before .before .before .before .before .before .before .before .before .before .pre .0 in
+    let r = c .before .before .before .before .before .before .before .before .before .before .to-first-field in
+    omega (arith, lines-long _ _ _ _ _ (h .2) _ (r .last .1 .1 .0) _ _ _ (c .before .before .next .given .1) (r .ensures), c .before .before .before .before .before .before .before .before .before .before .before .before .before .before .before .before .before .put-heading .ensures .0)
 
 same-length : tie.Need-same-length
 same-length c = search needs
@@ -62,11 +62,11 @@ same-length-6 c = search needs
 
 returns-2 : tie.Need-returns-2
 returns-2 c =
-    let r = c .before .before .before .before .before .before .before .before .before .to-first-field in
-    let w = c .before .before .before .before .before .before .before .before .before .before .before .before .before .within in
-    let h = c .before .before .before .before .before .before .before .before .before .before .before .before .before .before .before .before .put-heading in
-    λ t ts f. sheet-done _ _ _ t ts f _ (r .last .1 .1 .0) _ _ _ (c .before .next .given .1) (r .ensures)
-    (now (c .before .before .before .before .before .before .before .before .before .before .before .before .before .before .before .before .before .before .before .before .before .before .args .out)) (h .last .0) (h .result) (w .result) (h .ensures) (w .ensures) refl
+    let r = c .before .before .before .before .before .before .before .before .before .before .to-first-field in
+    let w = c .before .before .before .before .before .before .before .before .before .before .before .before .before .before .within in
+    let h = c .before .before .before .before .before .before .before .before .before .before .before .before .before .before .before .before .before .put-heading in
+    λ t ts f. sheet-done _ _ _ t ts f _ (r .last .1 .1 .0) _ _ _ (c .before .before .next .given .1) (r .ensures)
+    (now (c .before .before .before .before .before .before .before .before .before .before .before .before .before .before .before .before .before .before .before .before .before .before .before .args .out)) (h .last .0) (h .result) (w .result) (h .ensures) (w .ensures) refl
 
 pub put-sheet-spec : {M : Type 1} → statement M
 put-sheet-spec =
@@ -80,7 +80,7 @@ put-sheet-spec =
     to-first-field-requires
     enum-known-r
     enum-known-next
-    add-t25
+    add-t26
     same-length
     same-length-2
     same-length-3

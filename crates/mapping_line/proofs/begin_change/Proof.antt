@@ -1,6 +1,7 @@
 -- `begin_change` meets its contract: the first line and the line of the type in all extensions say what the walk writes and what is left of it. Assumes nothing.
+use native.Mathlib.Omega.{arith}
 use mathlib.Core.Path.{sym, _∙_}
-use Rattle.storage_line.proofs.BelowLaws.{row-there}
+use Rattle.storage_line.proofs.BelowLaws.{row-there, passed-few}
 use Rattle.mapping_line.proofs.BeginLaws.{index-fits, can-put, can-put-kind, undefined, stayed, became}
 use borrow.Author.Needs.{needs}
 use Rattle.mapping_line.proofs.begin_change.Statement.{statement}
@@ -64,6 +65,18 @@ put-kind-line-requires c κs =
     let g = c .before .before .before .before .before .before .before .before .storage-line .ensures i t es f in
     can-put-kind (st .args .tree) f k g _ (c .before .before .before .before .before .before .before .field-columns .ensures)
 
+add-t19 : tie.Need-add-t19
+add-t19 c =
+    let st = c .before .before .before .before .before .before .before .before .before .before .before .before .before .before .before in
+    let (i, t, es, f) = st .pre in
+    omega (arith, passed-few (st .args .tree) f (c .before .before .before .before .before .before .before .before .before .before .before .storage-line .ensures i t es f))
+
+add-t24 : tie.Need-add-t24
+add-t24 c =
+    let st = c .before .before .before .before .before .before .before .before .before .before .before .before .before .before .before .before in
+    let (i, t, es, f) = st .pre in
+    omega (arith, passed-few (st .args .tree) f (c .before .before .before .before .before .before .before .before .before .before .before .before .storage-line .ensures i t es f))
+
 returns : tie.Need-returns
 returns c =
     λ i t es f.
@@ -78,10 +91,10 @@ same-length c = search needs
 returns-2 : tie.Need-returns-2
 returns-2 c =
     λ i t es f.
-    let st = c .before .before .before .before .before .before .before .before .before .before .before .before .before .before in
-    let k = c .before .before .before .before .before .before .before .before .before .before .before .field-line-at .ensures in
-    let g = c .before .before .before .before .before .before .before .before .before .before .storage-line .ensures i t es f in
-    stayed (st .args .tree) f k g _ (c .before .before .before .before .before .before .before .before .before .field-columns .ensures) (st .args .change) (sym (c .before .before .before .before .before .enum-told2 .given .1) ∙ c .before .before .before .before .before .before .before .line-change .ensures) _ (c .before .before .before .before .row-below .ensures) _ _ _ (c .before .before .put-line .ensures)
+    let st = c .before .before .before .before .before .before .before .before .before .before .before .before .before .before .before in
+    let k = c .before .before .before .before .before .before .before .before .before .before .before .before .field-line-at .ensures in
+    let g = c .before .before .before .before .before .before .before .before .before .before .before .storage-line .ensures i t es f in
+    stayed (st .args .tree) f k g _ (c .before .before .before .before .before .before .before .before .before .before .field-columns .ensures) (st .args .change) (sym (c .before .before .before .before .before .before .enum-told2 .given .1) ∙ c .before .before .before .before .before .before .before .before .line-change .ensures) _ (c .before .before .before .before .before .row-below .ensures) _ _ _ (c .before .before .before .put-line .ensures)
 
 same-length-2 : tie.Need-same-length-2
 same-length-2 c = search needs
@@ -89,10 +102,10 @@ same-length-2 c = search needs
 returns-3 : tie.Need-returns-3
 returns-3 c =
     λ i t es f.
-    let st = c .before .before .before .before .before .before .before .before .before .before .before .before .before .before .before in
-    let k = c .before .before .before .before .before .before .before .before .before .before .before .before .field-line-at .ensures in
-    let g = c .before .before .before .before .before .before .before .before .before .before .before .storage-line .ensures i t es f in
-    became (st .args .tree) f k g _ (c .before .before .before .before .before .before .before .before .before .before .field-columns .ensures) (st .args .change) _ (sym (c .before .before .before .before .before .before .kind .given .1) ∙ c .before .before .before .before .before .before .before .before .line-change .ensures) _ (c .before .before .before .before .row-below2 .ensures) _ _ _ (c .before .before .put-kind-line .ensures)
+    let st = c .before .before .before .before .before .before .before .before .before .before .before .before .before .before .before .before in
+    let k = c .before .before .before .before .before .before .before .before .before .before .before .before .before .field-line-at .ensures in
+    let g = c .before .before .before .before .before .before .before .before .before .before .before .before .storage-line .ensures i t es f in
+    became (st .args .tree) f k g _ (c .before .before .before .before .before .before .before .before .before .before .before .field-columns .ensures) (st .args .change) _ (sym (c .before .before .before .before .before .before .before .kind .given .1) ∙ c .before .before .before .before .before .before .before .before .before .line-change .ensures) _ (c .before .before .before .before .before .row-below2 .ensures) _ _ _ (c .before .before .before .put-kind-line .ensures)
 
 pub begin-change-spec : {M : Type 1} → statement M
 begin-change-spec =
@@ -106,9 +119,11 @@ begin-change-spec =
     enum-told-2
     row-below-requires
     put-line-requires
+    add-t19
     enum-known-kind
     row-below-requires-2
     put-kind-line-requires
+    add-t24
     returns
     same-length
     returns-2

@@ -1,7 +1,7 @@
 -- `storage_line` meets its contract. The measure is that of a line with its levels left: it falls as it does for every walk (`lineMeasure`). Assumes nothing.
 use borrow.Author.Needs.{needs}
 use native.Mathlib.Omega.{arith}
-use Rattle.storage_line.proofs.StorageLaws.{storage-here, inner-tree, inner-type, cost-fits, inner-smaller, storage-inside}
+use Rattle.storage_line.proofs.StorageLaws.{storage-here, inner-tree, inner-type, cost-fits, inner-smaller, passed-few, storage-inside}
 use Rattle.sheets.specs.Walk.{lineMeasure}
 use Prim.Native.Nat.{ℕ, _<_}
 use borrow.Fn.Kinds.{In}
@@ -41,8 +41,8 @@ storage-line-field-line-at-requires t c κs = let a = c .before .before .before 
 storage-line-line-cost-requires : (t : ℕ) → storage-line-lts.Need-line-cost-requires (storage-line-calls t) (storage-line-at t) storage-line.Post
 storage-line-line-cost-requires t c κs = search needs
 
-storage-line-sub-t8 : (t : ℕ) → storage-line-lts.Need-sub-t8 (storage-line-calls t) (storage-line-at t) storage-line.Post
-storage-line-sub-t8 t c = let a = c .before .before .before .before .before .before .args in cost-fits (a .tree) (c .before .before .before .before .before .before .pre .1 .1) (c .before .before .before .if1 .left) _ (c .before .line-cost .ensures) (c .before .before .before .before .before .before .pre .1 .0)
+storage-line-sub-t10 : (t : ℕ) → storage-line-lts.Need-sub-t10 (storage-line-calls t) (storage-line-at t) storage-line.Post
+storage-line-sub-t10 t c = let a = c .before .before .before .before .before .before .args in cost-fits (a .tree) (c .before .before .before .before .before .before .pre .1 .1) (c .before .before .before .if1 .left) _ (c .before .line-cost .ensures) (c .before .before .before .before .before .before .pre .1 .0)
 
 storage-line-storage-line-requires : (t : ℕ) → storage-line-lts.Need-storage-line-requires (storage-line-calls t) (storage-line-at t) storage-line.Post
 storage-line-storage-line-requires t c κs =
@@ -52,8 +52,11 @@ storage-line-storage-line-requires t c κs =
     let h = c .before .before .before .before .before .before .pre .1 .0 in
     (omega (arith, c .before .before .before .before .before .before .pre .0, inner-smaller (a .tree) k e _ (c .before .line-cost .ensures) h), (inner-type (a .tree) k e _ (c .before .line-cost .ensures) h, c .before .before .field-line-at .ensures))
 
+storage-line-add-t10 : (t : ℕ) → storage-line-lts.Need-add-t10 (storage-line-calls t) (storage-line-at t) storage-line.Post
+storage-line-add-t10 t c = omega (arith, passed-few (c .before .before .before .before .before .before .before .before .before .args .tree) (c .before .before .before .before .before .before .before .before .before .pre .1 .1) (c .before .before .before .before .before .before .if1 .left) _ (c .before .before .before .before .line-cost .ensures) (c .before .before .storage-line .result) (c .before .before .storage-line .ensures) (c .before .before .before .before .before .before .before .before .before .pre .1 .0))
+
 storage-line-returns-2 : (t : ℕ) → storage-line-lts.Need-returns-2 (storage-line-calls t) (storage-line-at t) storage-line.Post
-storage-line-returns-2 t c = let a = c .before .before .before .before .before .before .before .args in storage-inside (a .tree) (c .before .before .before .before .before .before .before .pre .1 .1) (c .before .before .before .before .if1 .left) _ (c .before .before .line-cost .ensures) (c .storage-line .result) (c .storage-line .ensures)
+storage-line-returns-2 t c = storage-inside (c .before .before .before .before .before .before .before .before .before .args .tree) (c .before .before .before .before .before .before .before .before .before .pre .1 .1) (c .before .before .before .before .before .before .if1 .left) _ (c .before .before .before .before .line-cost .ensures) (c .before .before .storage-line .result) (c .before .before .storage-line .ensures)
 
 pub +storage-line-spec : {M : Type 1} → statement M
 +storage-line-spec = close μ-storage-line λ t. storage-line-lts.spec (storage-line-calls t) (storage-line-at t)
@@ -61,6 +64,7 @@ pub +storage-line-spec : {M : Type 1} → statement M
     (storage-line-returns t)
     (storage-line-field-line-at-requires t)
     (storage-line-line-cost-requires t)
-    (storage-line-sub-t8 t)
+    (storage-line-sub-t10 t)
     (storage-line-storage-line-requires t)
+    (storage-line-add-t10 t)
     (storage-line-returns-2 t)
