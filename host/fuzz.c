@@ -1,6 +1,7 @@
-/* A fuzzer's entry: any bytes are put to import or, compiled with READS_field, to the calls that read a field sheet; but for the last byte, which says the
- * order to those that take one. The sheet ends and each buffer ends where a page that cannot be touched begins, so that a read or a write past either ends
- * the run; the promises of the header are tested. `host/fuzz` links it with libFuzzer's main and the library's code with coverage counters. */
+/* A fuzzer's entry: any bytes are put to import and its measure or, compiled with READS_field, to the calls that read a field sheet; but for the last
+ * byte, which says the order to those that take one. The sheet ends and each buffer ends where a page that cannot be touched begins, so that a read or a
+ * write past either ends the run; the promises of the header are tested. `host/fuzz` links it with libFuzzer's main and the library's code with coverage
+ * counters. */
 #define _GNU_SOURCE
 #include <stdint.h>
 #include <stdlib.h>
@@ -76,11 +77,43 @@ static void comes_again(call *with, call *without, const uint8_t *sheet, size_t 
     require(memcmp(end[3] - answer.length, end[4] - answer.length, answer.length) == 0);
 }
 
+typedef struct juzontefa_measure measure(const uint8_t *sheet, size_t sheet_len, uint64_t big);
+
+/* How many of the lines have this text at their start. */
+static size_t lines_with(const char *start, const uint8_t *bytes, size_t size) {
+    size_t count = 0, length = strlen(start);
+    for (const uint8_t *line = bytes, *stop = bytes + size; line < stop; line++) {
+        count += (size_t)(stop - line) >= length && memcmp(line, start, length) == 0;
+        line = memchr(line, '\n', (size_t)(stop - line));
+        if (line == NULL) break;
+    }
+    return count;
+}
+
+/* The measure under the order at hand is what the conversion answered with a buffer that held any answer; for every number but 0 as for 1. */
+static struct juzontefa_measure measures(measure *measure, const uint8_t *sheet, size_t size, struct juzontefa_answer converted) {
+    struct juzontefa_measure m = measure(sheet, size, big), again = measure(sheet, size, big != 0);
+    require(m.number == converted.number && m.length == converted.length);
+    require(m.number == 0 ? m.lines >= 1 && m.lines < lines_with("", sheet, size) : m.lines == 0);
+    require(again.number == m.number && again.length == m.length && again.lines == m.lines);
+    return m;
+}
+
 #ifndef READS_field
+
+/* Each line that is visited becomes one, and each extension of metadata one more. */
+static void measured(const uint8_t *sheet, size_t size, struct juzontefa_answer imported) {
+    struct juzontefa_measure m = measures(juzontefa_measure_import, sheet, size, imported);
+    if (m.number != 0) return;
+    ask(import, 1, sheet, size, m.length);
+    const uint8_t *field = end[4] - m.length;
+    require(m.lines == lines_with("", field, m.length) - 1 - lines_with("37 ", field, m.length));
+}
 
 static void calls(const uint8_t *sheet, size_t size) {
     struct juzontefa_answer imported = ask_all(import, 0x10fff, sheet, size, JUZONTEFA_IMPORT_ROOM(size));
     comes_again(import, juzontefa_import, sheet, size, imported);
+    measured(sheet, size, imported);
 }
 
 #else
@@ -252,8 +285,19 @@ static struct juzontefa_answer exports(const uint8_t *sheet, size_t size) {
     return exported;
 }
 
+/* Each line that is visited becomes one, but for extensions; and every line is visited but the values below dictionaries under extensions. */
+static void measured(const uint8_t *sheet, size_t size, struct juzontefa_answer exported) {
+    struct juzontefa_measure m = measures(juzontefa_measure_export, sheet, size, exported);
+    if (m.number != 0) return;
+    ask(export, 1, sheet, size, m.length);
+    size_t written = lines_with("", end[4] - m.length, m.length) - 1;
+    require(m.lines >= written && m.lines - written <= lines_with("37 ", sheet, size));
+    if (lines_with("32 ", sheet, size) == 0) require(m.lines == lines_with("", sheet, size) - 1);
+}
+
 static void calls(const uint8_t *sheet, size_t size) {
     struct juzontefa_answer exported = exports(sheet, size);
+    measured(sheet, size, exported);
     struct juzontefa_answer plain = ask_all(juzontefa_plain_form, PLAINS, sheet, size, JUZONTEFA_PLAIN_FORM_ROOM(size));
     if (exported.number <= 3) require(exported.number == plain.number);
     else require(plain.number == 0);

@@ -1,5 +1,6 @@
 /* A C host: walks ArrowSchema structs into schema sheets, imports them and exports what comes; makes field sheets plain, takes them out and back, and
- * into pages; tries pages and mappings on every kind, and metadata in both byte orders; and tries broken, empty and oversized input on every call.
+ * into pages; tries pages and mappings on every kind, metadata in both byte orders, and what import and export measure; and tries broken, empty and
+ * oversized input on every call.
  * Prints the field sheets and a count; the status is 0 only if every answer was the expected one.
  *
  *   c KINDS    the table of kinds, host/kinds */
@@ -9,6 +10,7 @@
 
 #include "arrow/juzontefa_arrow.h"
 #include "mappings.h"
+#include "measures.h"
 #include "orders.h"
 #include "tries.h"
 
@@ -295,6 +297,7 @@ int main(int count, char **words)
     field_pages();
     longest_answers();
     orders();
+    measures();
     mappings(count == 2 ? words[1] : "");
     printf("C host: %d tried, %d wrong\n", tried, wrong);
     return wrong == 0 ? EXIT_SUCCESS : EXIT_FAILURE;

@@ -1,9 +1,11 @@
 //! A Rust host: links the static library and calls it on valid, broken, empty and oversized sheets, takes fields out and back and into pages, and tries
-//! metadata in both byte orders and the mappings on every kind. The status is 0 only if every answer was the expected one.
+//! metadata in both byte orders, what import and export measure, and the mappings on every kind. The status is 0 only if every answer was the expected
+//! one.
 
 #[path = "rust/src/raw.rs"]
 mod juzontefa;
 mod mappings;
+mod measures;
 mod orders;
 
 use std::process::ExitCode;
@@ -247,6 +249,7 @@ fn main() -> ExitCode {
     fields(&mut tries);
     pages(&mut tries);
     orders::orders(&mut tries);
+    measures::measures(&mut tries);
     mappings::mappings(&mut tries);
     for what in &tries.wrong {
         println!("wrong: {what}");

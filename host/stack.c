@@ -15,15 +15,16 @@
 #define STACK (1u << 20)
 #define LONGEST 65535
 
-/* The imports read schema sheets; then come those that read field sheets, and the two conversions, which read none. */
+/* The imports and their measure read schema sheets; then come those that read field sheets, and the two conversions, which read none. */
 enum call {
-    IMPORT, IMPORT_WITH_ORDER, EXPORT, EXPORT_WITH_ORDER, PLAIN_FORM, PAGE, ROUND_TRIP, ROUND_TRIP_WITH_ORDER, UNDERLYING_PHYSICAL_TYPE, TO_STORAGE,
-    TO_STORAGE_RECURSIVE, INNER_DTYPE, GET_CHILD, TO_PHYSICAL_TYPE, IS_NESTED, CONTAINS_DICTIONARY, FROM_INTEGER_TYPE, FROM_PRIMITIVE_TYPE, CALLS
+    IMPORT, IMPORT_WITH_ORDER, MEASURE_IMPORT, EXPORT, EXPORT_WITH_ORDER, MEASURE_EXPORT, PLAIN_FORM, PAGE, ROUND_TRIP, ROUND_TRIP_WITH_ORDER,
+    UNDERLYING_PHYSICAL_TYPE, TO_STORAGE, TO_STORAGE_RECURSIVE, INNER_DTYPE, GET_CHILD, TO_PHYSICAL_TYPE, IS_NESTED, CONTAINS_DICTIONARY,
+    FROM_INTEGER_TYPE, FROM_PRIMITIVE_TYPE, CALLS
 };
 static const char *const names[CALLS] = {
-    "import", "import_with_order", "export", "export_with_order", "plain_form", "page", "round_trip", "round_trip_with_order", "underlying_physical_type",
-    "to_storage", "to_storage_recursive", "inner_dtype", "get_child", "to_physical_type", "is_nested", "contains_dictionary", "from_integer_type",
-    "from_primitive_type"
+    "import", "import_with_order", "measure_import", "export", "export_with_order", "measure_export", "plain_form", "page", "round_trip",
+    "round_trip_with_order", "underlying_physical_type", "to_storage", "to_storage_recursive", "inner_dtype", "get_child", "to_physical_type", "is_nested",
+    "contains_dictionary", "from_integer_type", "from_primitive_type"
 };
 
 static uint8_t stack[STACK] __attribute__((aligned(4096)));
@@ -46,8 +47,10 @@ static void call(void)
     switch (called) {
     case IMPORT: number = juzontefa_import(sheet, size, out[0], room).number; break;
     case IMPORT_WITH_ORDER: number = juzontefa_import_with_order(sheet, size, big, out[0], room).number; break;
+    case MEASURE_IMPORT: number = juzontefa_measure_import(sheet, size, big).number; break;
     case EXPORT: number = juzontefa_export(sheet, size, out[0], room).number; break;
     case EXPORT_WITH_ORDER: number = juzontefa_export_with_order(sheet, size, big, out[0], room).number; break;
+    case MEASURE_EXPORT: number = juzontefa_measure_export(sheet, size, big).number; break;
     case PLAIN_FORM: number = juzontefa_plain_form(sheet, size, out[0], room).number; break;
     case PAGE: number = juzontefa_page(sheet, size, out[0], room).number; break;
     case ROUND_TRIP: number = juzontefa_round_trip(sheet, size, out[0], room, out[1], room, out[2], room, out[3], room).number; break;
@@ -84,7 +87,10 @@ static size_t used_with(uint8_t paint)
 /* The last order to put to a call: those that take none get little-endian sheets alone. */
 static uint64_t last_order(enum call which)
 {
-    return which == IMPORT_WITH_ORDER || which == EXPORT_WITH_ORDER || which == ROUND_TRIP_WITH_ORDER ? JUZONTEFA_BIG_ENDIAN : JUZONTEFA_LITTLE_ENDIAN;
+    switch (which) {
+    case IMPORT_WITH_ORDER: case MEASURE_IMPORT: case EXPORT_WITH_ORDER: case MEASURE_EXPORT: case ROUND_TRIP_WITH_ORDER: return JUZONTEFA_BIG_ENDIAN;
+    default: return JUZONTEFA_LITTLE_ENDIAN;
+    }
 }
 
 /* The stack of a call for the sheet at hand, without room for the answer and with room; the number is that with room. */
@@ -367,7 +373,7 @@ static int measure_file(const char *path)
     size = fread(sheet, 1, sizeof sheet, file);
     fclose(file);
     int is_field = size > 0 && sheet[0] == 'k';
-    for (enum call which = is_field ? EXPORT : IMPORT; which <= (is_field ? CONTAINS_DICTIONARY : IMPORT_WITH_ORDER); which++) {
+    for (enum call which = is_field ? EXPORT : IMPORT; which <= (is_field ? CONTAINS_DICTIONARY : MEASURE_IMPORT); which++) {
         for (big = 0; big <= last_order(which); big++) {
             size_t bytes = used(which);
             if (bytes > recorded[which]) recorded[which] = bytes;
@@ -379,7 +385,7 @@ static int measure_file(const char *path)
 
 int main(int count, char **files)
 {
-    int wrong = measure("format name flags metadata children dictionary\n", schemas, sizeof schemas / sizeof *schemas, IMPORT, IMPORT_WITH_ORDER);
+    int wrong = measure("format name flags metadata children dictionary\n", schemas, sizeof schemas / sizeof *schemas, IMPORT, MEASURE_IMPORT);
     wrong += measure("kind p q text more name nullable pairs children\n", fields, sizeof fields / sizeof *fields, EXPORT, CONTAINS_DICTIONARY);
     wrong += conversions();
     for (int i = 1; i < count; i++)

@@ -6,13 +6,13 @@
  * sheet and buffers must not overlap. A pointer may be null if its length is 0: an empty sheet, or a buffer without room. Calls may run at the
  * same time on different buffers.
  *
- * A schema sheet goes to import; all other calls read a field sheet, but for the two conversions, which take a place in an enumeration.
+ * A schema sheet goes to import and its measure; all other calls read a field sheet, but for the two conversions, which take a place in an enumeration.
  *
  * The answer's number is 0 for success, or says why there is none and who is turned back (enum juzontefa_refusal).
- * Import gives 1 to 11 and 16, export 1, 2, 3, 12, 13, 14 and 16, under either byte order; plain form, the page and `to_storage` 1, 2, 3 and 16;
- * `underlying_physical_type`, `to_storage_recursive`, `inner_dtype` and `get_child` 1, 2, 3, 15 and 16; `to_physical_type` 1, 2, 3 and 15;
- * `is_nested` and `contains_dictionary` 1, 2 and 3; the two conversions 15 and 16. 1, 2 and 3 are tried over the whole sheet, in that order, before
- * all others; 16 comes last, and only if there is an answer and it is longer than the buffer.
+ * Import gives 1 to 11 and 16, export 1, 2, 3, 12, 13, 14 and 16, under either byte order, and their measures the same without 16; plain form, the
+ * page and `to_storage` 1, 2, 3 and 16; `underlying_physical_type`, `to_storage_recursive`, `inner_dtype` and `get_child` 1, 2, 3, 15 and 16;
+ * `to_physical_type` 1, 2, 3 and 15; `is_nested` and `contains_dictionary` 1, 2 and 3; the two conversions 15 and 16. 1, 2 and 3 are tried over the whole
+ * sheet, in that order, before all others; 16 comes last, and only if there is an answer and it is longer than the buffer.
  * On success `length` bytes of the buffer are the answer, and the bytes past them keep what they held. On refusal `length` is 0 and
  * the whole buffer is zeros. Calls that answer numbers are lent no buffer; their numbers are 0 on refusal.
  */
@@ -62,13 +62,13 @@ enum juzontefa_refusal {
 #define JUZONTEFA_MAPPING_ROOM(n) JUZONTEFA_SHEET(n) /* of the five mappings that answer a sheet */
 #define JUZONTEFA_CONVERTED_ROOM 69 /* of the two conversions: heading and line of Decimal256, `36 32 32 ~ ~ ~ ~ ~ 0` */
 
-/* Bytes of stack to reserve for a call: what the greatest call used, a round trip's 64,376 bytes (measured by host/stack, x86-64; not proved), with
- * a margin of a quarter. Import's greatest was 64,104; of the others none used more than 19,704. */
+/* Bytes of stack to reserve for a call: what the greatest call used, a round trip's 64,968 bytes (measured by host/stack, x86-64; not proved), with
+ * a margin of a quarter. Import's greatest was 64,760, and its measure's; of the others none used more than 20,368. */
 #define JUZONTEFA_STACK 81920
 
 /* The byte order of a metadata block's count and lengths, four bytes each: the least significant byte first, or the most significant. A struct in
- * memory has that of its machine. Nothing else in a sheet has one; import, export and the round trip are the calls that meet it. A caller may hand over
- * any number: every one but 0 is big-endian. */
+ * memory has that of its machine. Nothing else in a sheet has one; import, export, their measures and the round trip are the calls that meet it. A caller
+ * may hand over any number: every one but 0 is big-endian. */
 enum juzontefa_byte_order {
     JUZONTEFA_LITTLE_ENDIAN = 0,
     JUZONTEFA_BIG_ENDIAN = 1
@@ -97,6 +97,27 @@ struct juzontefa_answer juzontefa_export(const uint8_t *sheet, size_t sheet_len,
 /* The same with metadata in the order that the caller says, `big` as above, which is to be its reader's. With 0 it is `juzontefa_export`. Under both a
  * field gets the same number and length, and the same bytes but for those of counts and lengths. */
 struct juzontefa_answer juzontefa_export_with_order(const uint8_t *sheet, size_t sheet_len, uint64_t big, uint8_t *out, size_t out_len);
+
+/* By value; three words, which C returns through memory of the caller's. */
+struct juzontefa_measure {
+    uint64_t number;
+    uint64_t length; /* of what the conversion would write */
+    uint64_t lines;  /* of the sheet handed in, those that the conversion would visit */
+};
+
+/* How much an import would write, for a host that reserves memory before it converts: nothing is written, and there is no buffer. The order is taken as by
+ * `juzontefa_import_with_order`, and must be the one that is then imported under: in the other a sheet may have another length, or none.
+ * `length` is exactly what import writes, its heading with it: the least buffer that is not given 16, and one byte fewer is given it. It may be over 65,535,
+ * but is never over JUZONTEFA_IMPORT_ROOM of the sheet. `lines` counts the lines of the schema sheet that import visits: the first; of a list or map the
+ * first child, of a struct or union every one; a dictionary's values. Children that import ignores do not count, with all below them: those of other formats,
+ * of a line with a dictionary, and a list's further ones. An extension that metadata makes is one line here, and two in what is written.
+ * What import refuses for another cause than 16 gets the same number, with both counts 0. */
+struct juzontefa_measure juzontefa_measure_import(const uint8_t *sheet, size_t sheet_len, uint64_t big);
+
+/* The same of an export, with the order as `juzontefa_export_with_order` takes it; it makes no difference to the answer. `lines` counts the lines of the
+ * field sheet that export visits: extensions and their inner lines too, but not the values of a dictionary directly under an extension, or under several,
+ * with all below them. The values of every other dictionary count. */
+struct juzontefa_measure juzontefa_measure_export(const uint8_t *sheet, size_t sheet_len, uint64_t big);
 
 /* The plain form of a field sheet, a field sheet again: what import of its export gives, where the field can be exported and has no reserved key
  * and no dictionary index of 128 bits. The longest answer that was found has 82,603 bytes, for a union without ids of 3,636 leaves; the room for the

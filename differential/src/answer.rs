@@ -7,7 +7,7 @@ use crate::refusal::{Number, BUFFER_SHORT};
 #[derive(Debug, Clone, PartialEq, Eq)]
 pub enum Answer {
     Sheet(Vec<u8>),
-    /// The place in `PhysicalType` and that of the inner type; of a yes or no the first is 1 or 0.
+    /// The place in `PhysicalType` and that of the inner type; of a yes or no the first is 1 or 0; of a measure the length and the lines.
     Values(u64, u64),
 }
 

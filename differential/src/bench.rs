@@ -1,7 +1,7 @@
 //! Times the Rust from sheet to sheet: reading the sheet into its structs or values, its own call, and writing the sheet
 //! of the answer. Where our library is linked, it is timed beside it, batch by batch, and the ratio is printed. Plain form
-//! and the page are not in the Rust: ours are timed beside our own export of the same sheet. A sheet that a mapping is not
-//! defined for is timed up to its refusal.
+//! and the page are not in the Rust: ours are timed beside our own export of the same sheet, and a measure beside our own
+//! conversion. A sheet that a mapping is not defined for is timed up to its refusal.
 
 use std::hint::black_box;
 use std::io::Write;
@@ -21,10 +21,12 @@ use crate::refusal::{Number, UNDEFINED};
 /// A batch takes so much processor time. Batches are short, so that some of them find a quiet machine.
 const BATCH: Duration = Duration::from_millis(4);
 
-/// The calls that are timed: those from sheet to sheet, and the page.
-pub const CALLS: [Call; 9] = [
+/// The calls that are timed: those from sheet to sheet, the page and the measures.
+pub const CALLS: [Call; 11] = [
     Call::Import,
     Call::Export,
+    Call::MeasureImport,
+    Call::MeasureExport,
     Call::Plain,
     Call::Page,
     Call::UnderlyingPhysicalType,
@@ -118,7 +120,7 @@ struct Trial {
     sheet: Vec<u8>,
     /// The length of the answer, or the number of the refusal.
     answer: Result<usize, Number>,
-    /// The length of what stands beside it: the same, or the export's for what the Rust has not.
+    /// The length of what stands beside it: the same, or for what the Rust has not that of our own call.
     beside: usize,
     timed: Timed,
 }
@@ -134,7 +136,8 @@ struct Row {
 /// goes through all of them, so that a busy time of the machine falls on all alike.
 pub fn bench(rust: &Rust, rounds: u64, only: Option<Call>, out: &mut dyn Write) -> Result<(), Failure> {
     if let Some(call) = only.filter(|call| !can_be_timed(*call)) {
-        return Err(Failure::Wrong(format!("no library with {} and export is linked", call.name())));
+        let beside = call_beside(call).name();
+        return Err(Failure::Wrong(format!("no library with {} and {beside} is linked", call.name())));
     }
     let calls = CALLS.into_iter().filter(|call| only.is_none_or(|only| only == *call) && can_be_timed(*call));
     let mut rows = Vec::new();
@@ -163,7 +166,12 @@ pub fn bench(rust: &Rust, rounds: u64, only: Option<Call>, out: &mut dyn Write) 
     }
     for call in CALLS.into_iter().filter(|call| !is_in_rust(*call)) {
         if rows.iter().any(|row| row.whole.request.call == call) {
-            writeln!(out, "{}: not in the Rust; ns/call, MB/s and growth are of our own export of the sheet", call.name())?;
+            let beside = call_beside(call).name();
+            writeln!(
+                out,
+                "{}: not in the Rust; ns/call, MB/s and growth are of our own {beside} of the sheet",
+                call.name()
+            )?;
         }
     }
     let ratios: Vec<String> = CALLS.into_iter().filter_map(|call| greatest_ratio(&rows, call)).collect();
@@ -178,10 +186,15 @@ fn is_in_rust(call: Call) -> bool {
     Request::new(call, 0).is_in_rust()
 }
 
-/// What the Rust has not needs our library's, and our export to stand beside it.
+/// Our call that what the Rust has not is timed beside: the conversion that is measured, or export.
+fn call_beside(call: Call) -> Call {
+    call.measured().unwrap_or(Call::Export)
+}
+
+/// What the Rust has not needs our library's, and our call to stand beside it.
 fn can_be_timed(call: Call) -> bool {
     let is_ours = |call: Call| library::has(Request::new(call, 0));
-    is_in_rust(call) || (is_ours(call) && is_ours(Call::Export))
+    is_in_rust(call) || (is_ours(call) && is_ours(call_beside(call)))
 }
 
 /// The greatest ratio of our time to what stands beside it, over a call's workloads; nothing where our library is not linked.
@@ -224,11 +237,11 @@ fn request(call: Call, sheet: &[u8]) -> Request {
     }
 }
 
-/// The length of the answer to a sheet, or the refusal's number.
+/// The length of the answer to a sheet, which of a measure is what it tells, or the refusal's number.
 fn answer_length(rust: &Rust, request: Request, sheet: &[u8]) -> Result<usize, Number> {
     match compare::answer(rust, &Model::new(), request, sheet)? {
         Answer::Sheet(answer) => Ok(answer.len()),
-        Answer::Values(..) => Ok(0),
+        Answer::Values(length, _) => Ok(length as usize),
     }
 }
 
@@ -238,7 +251,7 @@ fn trial(rust: &Rust, workload: &Workload, size: usize, call: Call) -> Result<Tr
     let answer = answer_length(rust, request, &sheet);
     let beside = match request.is_in_rust() {
         true => answer,
-        false => answer_length(rust, Request::new(Call::Export, 0), &sheet),
+        false => answer_length(rust, Request::new(call_beside(call), 0), &sheet),
     };
     match (answer, beside) {
         (Err(UNDEFINED), _) | (Ok(_), Ok(_)) => {
@@ -249,14 +262,14 @@ fn trial(rust: &Rust, workload: &Workload, size: usize, call: Call) -> Result<Tr
     }
 }
 
-/// A batch of the Rust, or of our export beside what the Rust has not, and, where it is linked, one of ours.
+/// A batch of the Rust, or of our own call beside what the Rust has not, and, where it is linked, one of ours.
 fn measure(rust: &Rust, trial: &mut Trial) {
     let (request, sheet) = (trial.request, &trial.sheet[..]);
     // Where it is refused, the buffer has as many bytes as the sheet: no answer of a mapping is longer.
     let room = trial.answer.unwrap_or(sheet.len());
     let mut out = Vec::with_capacity(room);
     let beside = match request.is_in_rust() {
-        false => of_ours(Request::new(Call::Export, 0), sheet, trial.beside),
+        false => of_ours(Request::new(call_beside(request.call), 0), sheet, trial.beside),
         true => nanoseconds(|| {
             out.clear();
             let done = rust.write(request, black_box(sheet), &mut out);
@@ -320,7 +333,10 @@ fn columns(whole: &Trial, quarter: Option<&Trial>) -> String {
     };
     let Timed { beside, ours } = whole.timed;
     let grows = growth(beside, quarter.map(|quarter| quarter.timed.beside));
-    let what = if whole.request.is_in_rust() { "the Rust" } else { "our export" };
+    let what = match whole.request.is_in_rust() {
+        true => "the Rust".to_string(),
+        false => format!("our {}", call_beside(whole.request.call).name()),
+    };
     let ours = match ours {
         None => "-".to_string(),
         Some(ours) => {

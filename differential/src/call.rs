@@ -19,9 +19,11 @@ pub enum Call {
     FromIntegerType,
     FromPrimitiveType,
     Page,
+    MeasureImport,
+    MeasureExport,
 }
 
-pub const CALLS: [(Call, &str); 14] = [
+pub const CALLS: [(Call, &str); 16] = [
     (Call::Import, "import"),
     (Call::Export, "export"),
     (Call::Plain, "plain"),
@@ -36,6 +38,8 @@ pub const CALLS: [(Call, &str); 14] = [
     (Call::FromIntegerType, "from_integer_type"),
     (Call::FromPrimitiveType, "from_primitive_type"),
     (Call::Page, "page"),
+    (Call::MeasureImport, "measure_import"),
+    (Call::MeasureExport, "measure_export"),
 ];
 
 /// What a call takes besides the buffer.
@@ -66,7 +70,7 @@ impl Call {
 
     pub fn input(self) -> Input {
         match self {
-            Call::Import => Input::SchemaSheet,
+            Call::Import | Call::MeasureImport => Input::SchemaSheet,
             Call::FromIntegerType | Call::FromPrimitiveType => Input::Place,
             _ => Input::FieldSheet,
         }
@@ -77,14 +81,23 @@ impl Call {
         matches!(self, Call::GetChild | Call::FromIntegerType | Call::FromPrimitiveType)
     }
 
-    /// Whether the call reads or writes metadata blocks, and so takes their byte order.
+    /// The conversion whose answer the call measures, if it measures one (document 02, #105).
+    pub fn measured(self) -> Option<Call> {
+        match self {
+            Call::MeasureImport => Some(Call::Import),
+            Call::MeasureExport => Some(Call::Export),
+            _ => None,
+        }
+    }
+
+    /// Whether the call reads or writes metadata blocks, or measures what does, and so takes their byte order.
     pub fn takes_order(self) -> bool {
-        matches!(self, Call::Import | Call::Export)
+        matches!(self.measured().unwrap_or(self), Call::Import | Call::Export)
     }
 
     /// Whether the call writes a sheet or a page; the others answer numbers and have no buffer.
     pub fn writes(self) -> bool {
-        !matches!(self, Call::ToPhysicalType | Call::IsNested | Call::ContainsDictionary)
+        !matches!(self, Call::ToPhysicalType | Call::IsNested | Call::ContainsDictionary) && self.measured().is_none()
     }
 
     /// Whether an answer is never longer than its sheet, as `include/juzontefa.h` says of the mappings from sheet to sheet.
@@ -156,10 +169,20 @@ impl Request {
         self.order() == Order::Big
     }
 
-    /// Plain form and the page are not in the Rust, and it takes the machine's order, which is little-endian: what it has not is
-    /// answered by the plain reading.
+    /// What is measured, under the same order.
+    pub fn measured(self) -> Option<Request> {
+        self.call.measured().map(|call| Request::new(call, self.argument))
+    }
+
+    /// Plain form, the page and the measures are not in the Rust, and it takes the machine's order, which is little-endian: what it has
+    /// not is answered by the plain reading.
     pub fn is_in_rust(self) -> bool {
-        !matches!(self.call, Call::Plain | Call::Page) && !self.is_big()
+        !matches!(self.call, Call::Plain | Call::Page) && self.call.measured().is_none() && !self.is_big()
+    }
+
+    /// Whether the Rust has the call, or what is measured, and so a part of the answer.
+    pub fn is_partly_in_rust(self) -> bool {
+        self.measured().unwrap_or(self).is_in_rust()
     }
 }
 

@@ -1,5 +1,6 @@
 //! The Rust held against the plain reading, and against our library where one is linked, over generated sheets. What the Rust has
-//! not, big-endian metadata among it, is the plain reading held against our library.
+//! not, big-endian metadata among it, is the plain reading held against our library. A measure has its length from the conversion's
+//! answer, so that both are held against that; for some sheets its lines are also found by what the Rust visits.
 
 use std::collections::BTreeMap;
 use std::fmt;
@@ -13,6 +14,7 @@ use crate::library;
 use crate::model::Model;
 use crate::oracle::Rust;
 use crate::trip::{self, Trip};
+use crate::visits;
 
 /// What a call is asked: the request, its sheet, and the bytes of the buffer that is lent.
 pub struct Case<'a> {
@@ -139,11 +141,13 @@ struct Comparison<'a> {
     model: Model,
     scope: Scope,
     counts: Counts,
+    /// How many measures had their lines found by the Rust.
+    visits: u64,
 }
 
 /// Compares `sheets` sheets; the first difference ends it, told with its smallest input.
 pub fn compare(rust: &Rust, sheets: u64, seed: u64, scope: Scope, out: &mut dyn Write) -> Result<(), Failure> {
-    let mut comparison = Comparison { rust, model: Model::new(), scope, counts: Counts::default() };
+    let mut comparison = Comparison { rust, model: Model::new(), scope, counts: Counts::default(), visits: 0 };
     compare_utf8(&comparison.model).map_err(Failure::Found)?;
     compare_kind_names(rust, &comparison.model).map_err(Failure::Found)?;
     let mut generator = Generator::new(seed);
@@ -166,6 +170,7 @@ pub fn compare(rust: &Rust, sheets: u64, seed: u64, scope: Scope, out: &mut dyn 
     let counts = comparison.counts;
     writeln!(out, "numbers by call:")?;
     write!(out, "{counts}")?;
+    writeln!(out, "{} measures had as many lines as the Rust visits", comparison.visits)?;
     writeln!(out, "{sheets} sheets from seed {seed}, {} answers, no difference", counts.total())?;
     Ok(())
 }
@@ -173,7 +178,7 @@ pub fn compare(rust: &Rust, sheets: u64, seed: u64, scope: Scope, out: &mut dyn 
 impl Comparison<'_> {
     /// What is not in the Rust can only be our library held against the plain reading.
     fn wants(&self, request: Request) -> bool {
-        let can_be = request.is_in_rust() || library::has(request);
+        let can_be = request.is_partly_in_rust() || library::has(request);
         can_be && (self.scope == Scope::All || self.scope == Scope::Only(request.call))
     }
 
@@ -192,6 +197,9 @@ impl Comparison<'_> {
             let answered = answer(self.rust, &self.model, request, &sheet.bytes);
             let case = Case { request, sheet: &sheet.bytes, room: room(random, &answered) };
             self.compare_case(&case, &answered)?;
+            if random.chance(1, 8) {
+                self.compare_visits(&case, &answered)?;
+            }
             // What import gives is a field sheet, and goes on to the calls that read one.
             if let (Call::Import, Ok(Answer::Sheet(field)), true) = (request.call, answered, random.chance(1, 4)) {
                 self.compare_sheet(random, &Sheet { kind: Kind::Field, bytes: field })?;
@@ -203,6 +211,28 @@ impl Comparison<'_> {
             }
         }
         Ok(())
+    }
+
+    /// The lines of a measure against those that the Rust visits, of sheets that are answered and not long.
+    fn compare_visits(&mut self, case: &Case, answered: &Answered) -> Result<(), String> {
+        let (Some(conversion), Ok(Answer::Values(_, lines))) = (case.request.measured(), answered) else {
+            return Ok(());
+        };
+        if !conversion.is_in_rust() {
+            return Ok(());
+        }
+        let converted = self.rust.answer(conversion, case.sheet);
+        match visits::by_faults(self.rust, conversion.call, case.sheet, &converted)? {
+            None => Ok(()),
+            Some(visited) if visited == *lines => {
+                self.visits += 1;
+                Ok(())
+            }
+            Some(visited) => {
+                let (call, sheet) = (case.request.call.name(), case.sheet.escape_ascii());
+                Err(format!("{call} has {lines} lines, but the Rust visits {visited} of \"{sheet}\""))
+            }
+        }
     }
 
     /// Half of them have room in all four buffers.
@@ -306,11 +336,16 @@ fn compare_kind_names(rust: &Rust, model: &Model) -> Result<(), String> {
     Ok(())
 }
 
-/// The answer that the others are held against: the Rust's, or the plain reading's for what the Rust has not.
+/// The answer that the others are held against: the Rust's, or the plain reading's for what the Rust has not. Of a measure it is the
+/// length of the conversion's answer, and the lines of the plain reading.
 pub fn answer(rust: &Rust, model: &Model, request: Request, sheet: &[u8]) -> Answered {
-    match request.is_in_rust() {
-        true => rust.answer(request, sheet),
-        false => model.answer(request, sheet),
+    match request.measured() {
+        Some(conversion) => match answer(rust, model, conversion, sheet)? {
+            Answer::Sheet(written) => Ok(Answer::Values(written.len() as u64, model.visited(conversion.call, sheet)?)),
+            values => Ok(values),
+        },
+        None if request.is_in_rust() => rust.answer(request, sheet),
+        None => model.answer(request, sheet),
     }
 }
 

@@ -5,13 +5,13 @@
 //!
 //! Import, export and the round trip have two functions each: one without the order of metadata blocks, which is asked where
 //! that is little-endian, and one with it (document 02, #104), which is asked where it is big-endian. `outcome_with_order` and
-//! `round_trip_with_order` ask the second for little-endian too, so that it can be compared there.
+//! `round_trip_with_order` ask the second for little-endian too, so that it can be compared there. A measure has one, with it.
 
 use std::ptr;
 
 use crate::answer::{Answer, Answered, Outcome};
 use crate::call::{Call, Order, Request};
-use crate::juzontefa::{self, ToSheet};
+use crate::juzontefa::{self, ToMeasure, ToSheet};
 use crate::trip::Trip;
 
 type RoundTrip = unsafe extern "C" fn(
@@ -51,6 +51,8 @@ enum Function {
     Conversion(unsafe extern "C" fn(u64, *mut u8, usize) -> juzontefa::Answer),
     ToPlaces(unsafe extern "C" fn(*const u8, usize) -> juzontefa::Places),
     ToYesNo(unsafe extern "C" fn(*const u8, usize) -> juzontefa::YesNo),
+    /// With an order.
+    ToMeasure(ToMeasure),
 }
 
 /// The library's round trip.
@@ -75,6 +77,8 @@ macro_rules! has {
 /// The function for a request, if the library has it.
 fn function(request: Request) -> Option<Function> {
     match request.call {
+        Call::MeasureImport => has!("measure_import", Function::ToMeasure, juzontefa_measure_import),
+        Call::MeasureExport => has!("measure_export", Function::ToMeasure, juzontefa_measure_export),
         call if request.is_big() => function_with_order(call),
         Call::Import => has!("import", Function::ToSheet, juzontefa_import),
         Call::Export => has!("export", Function::ToSheet, juzontefa_export),
@@ -189,6 +193,10 @@ fn ask_function(function: Function, argument: u64, sheet: &[u8], out: &mut [u8])
                 (number, place, inner)
             }
             Function::ToYesNo(call) => of_yes_no(call(from, len)),
+            Function::ToMeasure(call) => {
+                let juzontefa::Measure { number, length, lines } = call(from, len, argument);
+                (number, length, lines)
+            }
         }
     }
 }

@@ -1,5 +1,5 @@
-//! The driver: the Rust as oracle, a plain reading of document 01, of the page and of big-endian metadata beside it, and what is run
-//! with both.
+//! The driver: the Rust as oracle, a plain reading of document 01, of the page, of big-endian metadata and of the measures beside it, and
+//! what is run with both.
 //!
 //! Status: 0 done; 1 the answer is a refusal, or something was found to differ; 2 wrong arguments or unreadable input.
 
@@ -19,6 +19,7 @@ mod oracle;
 mod records;
 mod refusal;
 mod trip;
+mod visits;
 
 use std::io::{Read, Write};
 use std::process::ExitCode;
@@ -110,7 +111,7 @@ fn answer_call(
     }
     let (text, result) = match answer(request, &sheet)? {
         Ok(Answer::Sheet(sheet)) => (sheet, Ok(())),
-        Ok(Answer::Values(first, second)) if request.call == Call::ToPhysicalType => {
+        Ok(Answer::Values(first, second)) if request.call == Call::ToPhysicalType || request.measured().is_some() => {
             (format!("{first} {second}\n").into(), Ok(()))
         }
         Ok(Answer::Values(first, _)) => (format!("{first}\n").into(), Ok(())),
@@ -145,7 +146,7 @@ fn scope_of(name: &str) -> Result<Scope, Failure> {
         "round_trip" => (Scope::RoundTrips, ORDERS.into_iter().any(library::has_round_trip)),
         _ => {
             let request = Request::new(call_of(name)?, 0);
-            (Scope::Only(request.call), request.is_in_rust() || library::has(request))
+            (Scope::Only(request.call), request.is_partly_in_rust() || library::has(request))
         }
     };
     match can_be {

@@ -1,11 +1,11 @@
-//! Whether the generator tells each wrong reading of document 01 from the Rust, and each of what the Rust has not, the page and
-//! big-endian metadata, from the right one.
+//! Whether the generator tells each wrong reading of document 01 from the Rust, and each of what the Rust has not, the page, big-endian
+//! metadata and the measures, from the right one.
 
 use std::io::Write;
 
 use crate::answer::{Answer, Outcome};
-use crate::call::{Call, Order, Request};
-use crate::compare::{requests, room, Case};
+use crate::call::{Call, Order, Request, ORDERS};
+use crate::compare::{self, requests, room, Case};
 use crate::demand3::comes_back;
 use crate::failure::Failure;
 use crate::generator::{Generator, Kind, Sheet};
@@ -30,6 +30,7 @@ pub fn mutants(rust: &Rust, limit: u64, seed: u64, out: &mut dyn Write) -> Resul
         done += 1;
         try_calls(rust, &mut generator, &sheet, done, &mut mutants);
         try_big(&sheet, done, &mut mutants);
+        try_measures(rust, &sheet, done, &mut mutants);
         if sheet.kind == Kind::Field {
             try_plain(rust, &sheet, done, &mut mutants).map_err(Failure::Found)?;
             try_page(&sheet, done, &mut mutants);
@@ -72,6 +73,26 @@ fn try_big(sheet: &Sheet, done: u64, mutants: &mut [Mutant]) {
     for mutant in mutants.iter_mut().filter(|mutant| mutant.caught.is_none() && mutant.wrong.is_of_order()) {
         if Model::wrongly(mutant.wrong).answer(request, &sheet.bytes) != right {
             mutant.caught = Some((done, request.to_string()));
+        }
+    }
+}
+
+/// The measures are not in the Rust, but little-endian the answers whose lengths they tell are: their readings, and only these, are told
+/// from the right one under both orders.
+fn try_measures(rust: &Rust, sheet: &Sheet, done: u64, mutants: &mut [Mutant]) {
+    let call = match sheet.kind {
+        Kind::Schema => Call::MeasureImport,
+        Kind::Field => Call::MeasureExport,
+    };
+    if mutants.iter().all(|mutant| mutant.caught.is_some() || !mutant.wrong.is_of_measures()) {
+        return;
+    }
+    for request in ORDERS.map(|order| Request::under(call, order.number())) {
+        let right = Outcome::of(&compare::answer(rust, &Model::new(), request, &sheet.bytes), Vec::new());
+        for mutant in mutants.iter_mut().filter(|mutant| mutant.caught.is_none() && mutant.wrong.is_of_measures()) {
+            if Model::wrongly(mutant.wrong).outcome(request, &sheet.bytes, Vec::new()) != right {
+                mutant.caught = Some((done, request.to_string()));
+            }
         }
     }
 }

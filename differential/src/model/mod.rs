@@ -1,6 +1,6 @@
 //! A second, plain reading of document 01 that does not call the Rust: trees of enums over bytes, every rule written out
-//! once, no thought of speed. It also answers plain form, and of document 02 the page and big-endian metadata. Each wrong
-//! reading is a switch on it.
+//! once, no thought of speed. It also answers plain form, and of document 02 the page, big-endian metadata and the measures.
+//! Each wrong reading is a switch on it.
 
 // The functions bear the Rust's names, `to_field` and the like, and all take the reading.
 #![allow(clippy::wrong_self_convention)]
@@ -10,6 +10,7 @@ mod field;
 mod format;
 mod import;
 mod mappings;
+mod measure;
 mod metadata;
 mod page;
 mod plain;
@@ -19,7 +20,7 @@ mod wrong;
 
 use crate::answer::{Answer, Answered, Outcome};
 use crate::call::{Call, Order, Request};
-use crate::refusal::BUFFER_SHORT;
+use crate::refusal::{BUFFER_SHORT, NULL_FORMAT};
 use field::{write_bare, write_field, DataType, Field};
 pub use wrong::{Wrong, WRONG_READINGS};
 
@@ -46,6 +47,9 @@ impl Model {
 
     pub fn answer(&self, request: Request, sheet: &[u8]) -> Answered {
         let argument = request.argument;
+        if let Some(conversion) = request.measured() {
+            return self.measure(conversion, sheet);
+        }
         match request.call {
             Call::Import => self.import(sheet, request.order()),
             Call::FromIntegerType => Ok(Answer::Sheet(write_bare(&self.from_integer_type(argument)?))),
@@ -124,6 +128,9 @@ impl Model {
         let short = len > lent.len() || (len == lent.len() && self.is(Wrong::BufferExact));
         let first_16 = self.is(Wrong::BufferFirst) && lent.is_empty() && !matches!(answered, Err(1..=3));
         match answered {
+            Err(number @ NULL_FORMAT..) if request.measured().is_some() && self.is(Wrong::MeasureCountsKept) => {
+                Outcome { second: 1, ..self.cleared(number, 0, lent) }
+            }
             Ok(Answer::Sheet(answer)) if !short && !first_16 => self.filled(&answer, lent),
             Err(number) if !first_16 => self.cleared(number, 0, lent),
             _ => self.cleared(BUFFER_SHORT, len, lent),

@@ -1,5 +1,5 @@
-//! Deliberately wrong readings of document 01, of #103, of big-endian metadata and of the page, each a switch of the plain reading. A
-//! generator is good if its sheets tell each of them from the Rust, or those of what the Rust has not from the right one.
+//! Deliberately wrong readings of document 01, of #103, of big-endian metadata, of the page and of the measures, each a switch of the plain
+//! reading. A generator is good if its sheets tell each of them from the Rust, or those of what the Rust has not from the right one.
 
 macro_rules! wrong_readings {
     ($($variant:ident $what:literal)*) => {
@@ -218,6 +218,30 @@ wrong_readings! {
     PageTrimmed "a page's lines do not end in spaces"
     PageLastOpen "a page's last line lacks byte 10"
     PageExportable "a field that cannot be exported has no page"
+    // The measures (#105).
+    MeasureLeafChildren "a measure counts a leaf's children"
+    MeasureFurtherChildren "a measure counts a list's further children"
+    MeasureDictionaryChildren "a measure counts the children of a line with a dictionary"
+    MeasureValuesNotImported "import's measure does not count a dictionary's values"
+    MeasureExtensionTwice "a measure counts an extension made by metadata twice"
+    MeasureExtensionNot "a measure does not count extensions"
+    MeasureInnerNot "a measure does not count an extension's inner line"
+    MeasureInnerExtensionNot "a measure does not count an extension in an extension"
+    MeasureInnerDictionaryNot "a measure does not count a dictionary in an extension"
+    MeasureValuesInExtension "a measure counts the values of a dictionary in an extension"
+    MeasureValuesInTwo "a measure counts the values of a dictionary in two extensions"
+    MeasureValuesNotExported "export's measure does not count a dictionary's values"
+    MeasureLinesWritten "export's measure counts the lines that are written"
+    MeasureEveryLine "a measure counts every line of the sheet"
+    MeasureHeadingLine "a measure counts the heading as a line"
+    MeasureNoHeading "a measure's length is without the heading"
+    MeasureFitsNothing "a measure's length is what fits into no buffer, 0"
+    MeasureLengthWraps "a measure's length goes round at 65,536"
+    MeasureLengthCut "a measure's length is at most 65,535"
+    MeasureLongIs1 "a measure over 65,535 is 1"
+    MeasureGives16 "a measure is 16, as of a conversion without a buffer"
+    MeasureCountsKept "a measure that is refused keeps its counts"
+    MeasureOrderIgnored "a measure reads every block little-endian"
 }
 
 impl Wrong {
@@ -234,6 +258,16 @@ impl Wrong {
     /// Whether it is one of the page.
     pub fn is_of_page(self) -> bool {
         self.is_within(Wrong::PageHeading, Wrong::PageExportable)
+    }
+
+    /// Whether it is one of the measures.
+    pub fn is_of_measures(self) -> bool {
+        self.is_within(Wrong::MeasureLeafChildren, Wrong::MeasureOrderIgnored)
+    }
+
+    /// Whether it is about measures over 65,535 bytes, which only long sheets tell.
+    pub fn is_of_long_measures(self) -> bool {
+        self.is_within(Wrong::MeasureLengthWraps, Wrong::MeasureLongIs1)
     }
 
     /// Whether it stands from the one to the other.

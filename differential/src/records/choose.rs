@@ -1,8 +1,9 @@
 //! What stands in the recorded list: cases made by hand, all kinds, the published formats, the limits, the smallest sheets
 //! that tell the wrong readings, and generated sheets until each call has given each of its numbers often enough. What came
-//! later, the page, negative flags and big-endian metadata, has stages of its own at the end, so that what stands before them
-//! stays as it is.
+//! later, the page, negative flags, big-endian metadata and the measures, has stages of its own at the end, so that what stands
+//! before them stays as it is.
 
+mod measure;
 mod order;
 mod page;
 
@@ -11,7 +12,7 @@ use std::collections::HashSet;
 use super::list::Record;
 use crate::answer::{Answer, Answered, Outcome};
 use crate::call::{Call, Input, Order, Request, CALLS, ORDERS};
-use crate::compare::{requests, room, smallest, Case};
+use crate::compare::{self, requests, room, smallest, Case};
 use crate::demand3::comes_back;
 use crate::generator::limits::{huge_counts, levels, sized, wide_schema};
 use crate::generator::{hex_text, join_lines, published, Generator, Kind, Line, Random, Sheet};
@@ -57,6 +58,7 @@ pub fn choose(rust: &Rust, seed: u64) -> Result<Vec<Record>, String> {
     chooser.pages(seed)?;
     chooser.negative_flags()?;
     chooser.orders(seed)?;
+    chooser.measures(seed)?;
     chooser.check_numbers()?;
     chooser.check_readings()?;
     Ok(chooser.records)
@@ -68,6 +70,8 @@ fn numbers_of(call: Call) -> &'static [u8] {
         Call::Import => &[0, 1, 2, 3, 4, 5, 6, 7, 8, 9, 10, 11, 16],
         Call::Export => &[0, 1, 2, 3, 12, 13, 14, 16],
         Call::Plain | Call::ToStorage | Call::Page => &[0, 1, 2, 3, 16],
+        Call::MeasureImport => &[0, 1, 2, 3, 4, 5, 6, 7, 8, 9, 10, 11],
+        Call::MeasureExport => &[0, 1, 2, 3, 12, 13, 14],
         Call::ToPhysicalType => &[0, 1, 2, 3, 15],
         Call::IsNested | Call::ContainsDictionary => &[0, 1, 2, 3],
         Call::FromIntegerType | Call::FromPrimitiveType => &[0, 15, 16],
@@ -83,16 +87,16 @@ fn sheet_of(kind: Kind, lines: &[&str]) -> Vec<u8> {
     join_lines(kind, &lines.iter().map(columns).collect::<Vec<_>>())
 }
 
-/// The calls that read a field sheet, but the page.
+/// The calls that read a field sheet, but the page and the measure.
 fn field_calls() -> impl Iterator<Item = Request> {
-    let reads = |call: &Call| call.input() == Input::FieldSheet && *call != Call::Page;
+    let reads = |call: &Call| call.input() == Input::FieldSheet && *call != Call::Page && call.measured().is_none();
     CALLS.iter().map(|(call, _)| *call).filter(reads).map(|call| Request::new(call, 0))
 }
 
-/// The requests that a sheet of this kind can be put to, but what has stages of its own: the page and big-endian metadata.
+/// The requests that a sheet of this kind can be put to, but what has stages of its own: the page, big-endian metadata and the measures.
 fn first_requests(random: &mut Random, kind: Kind) -> Vec<Request> {
     let mut requests = requests(random, kind);
-    requests.retain(|request| request.call != Call::Page && !request.is_big());
+    requests.retain(|request| request.call != Call::Page && !request.is_big() && request.measured().is_none());
     requests
 }
 
@@ -100,7 +104,7 @@ impl Chooser<'_> {
     /// The Rust's answer, or the plain reading's for what the Rust has not; both must agree.
     fn answer(&self, request: Request, sheet: &[u8]) -> Result<Answered, String> {
         let model = self.model.answer(request, sheet);
-        if request.is_in_rust() && self.rust.answer(request, sheet) != model {
+        if request.is_partly_in_rust() && compare::answer(self.rust, &self.model, request, sheet) != model {
             return Err(format!("{request} differs on {}", sheet.escape_ascii()));
         }
         Ok(model)
@@ -423,10 +427,10 @@ fn is_about_length(wrong: Wrong) -> bool {
     matches!(wrong, Wrong::LongSheetTaken | Wrong::LongestSheetRefused)
 }
 
-/// The readings that came after the list was begun. The page and big-endian metadata have stages of their own; those of #103 are
-/// told by what is there.
+/// The readings that came after the list was begun. The page, big-endian metadata and the measures have stages of their own; those of
+/// #103 are told by what is there.
 fn came_later(wrong: Wrong) -> bool {
-    wrong.is_of_page() || wrong.is_of_order() || wrong.is_of_fixed_names()
+    wrong.is_of_page() || wrong.is_of_order() || wrong.is_of_fixed_names() || wrong.is_of_measures()
 }
 
 /// A single line whose name fills the sheet.

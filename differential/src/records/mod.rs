@@ -6,7 +6,7 @@ mod list;
 use std::io::Write;
 
 use crate::answer::Outcome;
-use crate::compare::{Case, Counts, OTHERS};
+use crate::compare::{answer, Case, Counts, OTHERS};
 use crate::failure::Failure;
 use crate::model::Model;
 use crate::oracle::Rust;
@@ -28,8 +28,8 @@ pub fn check(rust: &Rust, text: &[u8], out: &mut dyn Write) -> Result<(), Failur
     let model = Model::new();
     writeln!(out, "{} records", records.len())?;
     let agreed = replay(&records, "the Rust", |case| {
-        let in_rust = case.request.is_in_rust();
-        in_rust.then(|| Outcome::of(&rust.answer(case.request, case.sheet), case.lent()))
+        let in_rust = case.request.is_partly_in_rust();
+        in_rust.then(|| Outcome::of(&answer(rust, &model, case.request, case.sheet), case.lent()))
     })?;
     writeln!(out, "{agreed} agree with the Rust")?;
     for (other, name) in OTHERS {

@@ -4,8 +4,9 @@
 //! the buffer that is lent and gives its length; the bytes past it keep what they held. On refusal the whole buffer is zeros. The sheet that is
 //! handed in is never changed. Nothing is allocated, and nothing is kept between calls.
 //!
-//! A schema sheet goes to [`import`]; all other calls read a field sheet, but for the two conversions, which take a place in an
-//! enumeration. Metadata is little-endian in the sheets, but for the three calls that are told its [`ByteOrder`]. What the sheets are is said in `crates/sheets/specs` of the repository; README.md has examples.
+//! A schema sheet goes to [`import`] and [`measure_import`]; all other calls read a field sheet, but for the two conversions, which take a
+//! place in an enumeration. Metadata is little-endian in the sheets, but for the calls that are told its [`ByteOrder`]. What the sheets are
+//! is said in `crates/sheets/specs` of the repository; README.md has examples.
 //!
 //! ```
 //! use juzontefa::{import, import_room, Refusal};
@@ -26,8 +27,8 @@
 //! # The library that is linked
 //!
 //! The build takes `libjuzontefa.a` from the folder that the variable `JUZONTEFA_LIB` names, or else from `target/staticlib` of the
-//! repository. Of that library it is proved that a call's number is 0 to 16, that a length is within the buffer, that yes or no is 1
-//! or 0, and that a round trip's answer is 0 to 6. A linker cannot see this, so each is tested here when a call comes back: where it
+//! repository. Of that library it is proved that a call's number is 0 to 16, and of a measure never 16, that a length is within the buffer,
+//! that yes or no is 1 or 0, and that a round trip's answer is 0 to 6. A linker cannot see this, so each is tested here when a call comes back: where it
 //! does not hold, another archive stands under the name, and the function panics. It is the one panic of this crate.
 
 #![no_std]
@@ -43,7 +44,25 @@ mod told;
 pub use order::ByteOrder;
 pub use refusal::{Party, Refusal};
 pub use rooms::{export_room, import_room, mapping_room, page_room, plain_form_room, CONVERTED_ROOM, LONGEST_SHEET, STACK};
-use told::{length_of, refused, trip_of, yes_or_no};
+use told::{length_of, measure_of, refused, trip_of, yes_or_no};
+
+/// What a conversion would write and visit.
+///
+/// ```
+/// use juzontefa::{measure_export, ByteOrder, Measure};
+///
+/// // an extension over a dictionary, whose values are not visited
+/// let sheet = b"kind p q text more name nullable pairs children\n\
+///     37 0 0 78 ~ - 0 ~ 1\n32 2 0 ~ ~ ~ ~ ~ 1\n0 0 0 ~ ~ ~ ~ ~ 0\n";
+/// assert_eq!(measure_export(sheet, ByteOrder::LittleEndian), Ok(Measure { length: 125, lines: 2 }));
+/// ```
+#[derive(Debug, Clone, Copy, PartialEq, Eq, Hash)]
+pub struct Measure {
+    /// The bytes of the answer: the least buffer that is not refused with [`Refusal::NoRoom`].
+    pub length: usize,
+    /// The lines of the sheet handed in that the conversion visits; not those that it writes.
+    pub lines: usize,
+}
 
 /// A physical type by two places, each from 0 in the order in which the Rust declares it.
 ///
@@ -103,6 +122,11 @@ fn to_sheet_with(call: raw::ToSheetWith, sheet: &[u8], number: u64, out: &mut [u
     // SAFETY: as in `to_sheet`.
     let told = unsafe { call(sheet.as_ptr(), sheet.len(), number, out.as_mut_ptr(), out.len()) };
     length_of(told, out.len())
+}
+
+fn measured(call: raw::ToMeasure, sheet: &[u8], order: ByteOrder) -> Result<Measure, Refusal> {
+    // SAFETY: the slice is live, and the library reads within it.
+    measure_of(unsafe { call(sheet.as_ptr(), sheet.len(), order.big()) })
 }
 
 /// The field sheet of a schema sheet whose metadata is little-endian. Ordered, nullable and sorted are the flags' bits 1, 2 and 4, of
@@ -177,6 +201,46 @@ pub fn export(sheet: &[u8], out: &mut [u8]) -> Result<usize, Refusal> {
 /// ```
 pub fn export_with_order(sheet: &[u8], order: ByteOrder, out: &mut [u8]) -> Result<usize, Refusal> {
     to_sheet_with(raw::juzontefa_export_with_order, sheet, order.big(), out)
+}
+
+/// How much [`import_with_order`] would write, under the same order: nothing is written. The length is exact. The lines are those of the
+/// schema sheet that import visits: the first; of a list or map the first child, of a struct or union every one; a dictionary's values.
+/// Children that import ignores do not count, and an extension that metadata makes counts once. What import refuses is refused with the
+/// same refusal; [`Refusal::NoRoom`] never comes.
+///
+/// ```
+/// use juzontefa::{import, measure_import, ByteOrder, Measure, Refusal};
+///
+/// // the list's second child is ignored, so that its format does not matter
+/// let sheet = b"format name flags metadata children dictionary\n2b6c - 0 ~ 2 0\n6e - 0 ~ 0 0\n78 - 0 ~ 0 0\n";
+/// let Measure { length, lines } = measure_import(sheet, ByteOrder::LittleEndian)?;
+/// assert_eq!((length, lines), (85, 2));
+///
+/// let mut out = vec![0; length];
+/// assert_eq!(import(sheet, &mut out), Ok(length));
+/// assert_eq!(import(sheet, &mut out[1..]), Err(Refusal::NoRoom));
+/// # Ok::<(), Refusal>(())
+/// ```
+pub fn measure_import(sheet: &[u8], order: ByteOrder) -> Result<Measure, Refusal> {
+    measured(raw::juzontefa_measure_import, sheet, order)
+}
+
+/// How much [`export_with_order`] would write: nothing is written. The length is exact, and the order makes no difference to it. The lines
+/// are those of the field sheet that export visits: extensions and their inner lines too, but not the values of a dictionary directly under
+/// an extension, or under several, with all below them. What export refuses is refused with the same refusal; [`Refusal::NoRoom`] never
+/// comes.
+///
+/// ```
+/// use juzontefa::{measure_export, ByteOrder, Measure, Refusal};
+///
+/// let sheet = b"kind p q text more name nullable pairs children\n37 0 0 78 ~ - 0 ~ 1\n0 0 0 ~ ~ ~ ~ ~ 0\n";
+/// assert_eq!(measure_export(sheet, ByteOrder::BigEndian), Ok(Measure { length: 125, lines: 2 }));
+///
+/// let sheet = b"kind p q text more name nullable pairs children\n40 0 0 ~ ~ - 0 ~ 0\n"; // Unknown
+/// assert_eq!(measure_export(sheet, ByteOrder::BigEndian), Err(Refusal::NoFormat));
+/// ```
+pub fn measure_export(sheet: &[u8], order: ByteOrder) -> Result<Measure, Refusal> {
+    measured(raw::juzontefa_measure_export, sheet, order)
 }
 
 /// The plain form of a field sheet, a field sheet again: what import of its export gives, where the field can be exported and has no

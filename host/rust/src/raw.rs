@@ -12,6 +12,15 @@ pub struct Answer {
     pub length: u64,
 }
 
+/// Of a measure: the length that the conversion would write, and how many lines it would visit.
+#[repr(C)]
+#[derive(Debug, PartialEq)]
+pub struct Measure {
+    pub number: u64,
+    pub length: u64,
+    pub lines: u64,
+}
+
 /// Of `juzontefa_to_physical_type`: the place in `PhysicalType` and that of its primitive or index type.
 #[repr(C)]
 pub struct Places {
@@ -41,6 +50,9 @@ pub type ToSheet = unsafe extern "C" fn(*const u8, usize, *mut u8, usize) -> Ans
 /// The same with a number: a byte order, or the index of a child.
 pub type ToSheetWith = unsafe extern "C" fn(*const u8, usize, u64, *mut u8, usize) -> Answer;
 
+/// A sheet and a byte order, and nothing to write into.
+pub type ToMeasure = unsafe extern "C" fn(*const u8, usize, u64) -> Measure;
+
 extern "C" {
     pub fn juzontefa_import(sheet: *const u8, sheet_len: usize, out: *mut u8, out_len: usize) -> Answer;
     pub fn juzontefa_export(sheet: *const u8, sheet_len: usize, out: *mut u8, out_len: usize) -> Answer;
@@ -58,6 +70,8 @@ extern "C" {
         out: *mut u8,
         out_len: usize,
     ) -> Answer;
+    pub fn juzontefa_measure_import(sheet: *const u8, sheet_len: usize, big: u64) -> Measure;
+    pub fn juzontefa_measure_export(sheet: *const u8, sheet_len: usize, big: u64) -> Measure;
     pub fn juzontefa_plain_form(sheet: *const u8, sheet_len: usize, out: *mut u8, out_len: usize) -> Answer;
     pub fn juzontefa_page(sheet: *const u8, sheet_len: usize, out: *mut u8, out_len: usize) -> Answer;
     pub fn juzontefa_underlying_physical_type(sheet: *const u8, sheet_len: usize, out: *mut u8, out_len: usize) -> Answer;

@@ -1,7 +1,7 @@
 //! What the library told, tested before it is passed on.
 
 use crate::raw;
-use crate::{Refusal, Trip};
+use crate::{Measure, Refusal, Trip};
 
 /// The archive told what the library cannot tell, so it is another one. There is no answer that a caller could be given, and no
 /// refusal of the sixteen says it; a panic keeps it from being taken for one.
@@ -22,6 +22,18 @@ pub fn length_of(told: raw::Answer, room: usize) -> Result<usize, Refusal> {
     refused(told.number)?;
     match usize::try_from(told.length) {
         Ok(length) if length <= room => Ok(length),
+        _ => another_archive(),
+    }
+}
+
+/// 16 is none of a measure's numbers: it has no buffer.
+pub fn measure_of(told: raw::Measure) -> Result<Measure, Refusal> {
+    match refused(told.number) {
+        Err(Refusal::NoRoom) => another_archive(),
+        refused => refused?,
+    }
+    match (usize::try_from(told.length), usize::try_from(told.lines)) {
+        (Ok(length), Ok(lines)) => Ok(Measure { length, lines }),
         _ => another_archive(),
     }
 }
@@ -76,6 +88,15 @@ mod tests {
         assert_eq!(length_of(told(16, 0), 0), Err(Refusal::NoRoom));
         assert!(is_another(|| length_of(told(0, 101), 100)));
         assert!(is_another(|| length_of(told(0, u64::MAX), 100)));
+    }
+
+    #[test]
+    fn measures() {
+        let told = |number, length, lines| raw::Measure { number, length, lines };
+        assert_eq!(measure_of(told(0, 66, 1)), Ok(Measure { length: 66, lines: 1 }));
+        assert_eq!(measure_of(told(6, 0, 0)), Err(Refusal::UnsupportedFormat));
+        assert!(is_another(|| measure_of(told(16, 0, 0))));
+        assert!(is_another(|| measure_of(told(17, 0, 0))));
     }
 
     #[test]

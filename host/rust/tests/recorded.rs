@@ -6,7 +6,7 @@ use juzontefa::*;
 use list::{records, Record};
 
 /// How many records there are.
-const RECORDS: usize = 4167;
+const RECORDS: usize = 4826;
 /// What a lent buffer holds before a call.
 const FILLER: u8 = 0xa5;
 
@@ -25,11 +25,15 @@ fn of_places(answer: Result<Places, Refusal>) -> Numbers {
     answer.map_or_else(refused, |places| [0, places.place, places.inner])
 }
 
+fn of_measure(answer: Result<Measure, Refusal>) -> Numbers {
+    answer.map_or_else(refused, |measure| [0, measure.length as u64, measure.lines as u64])
+}
+
 fn refused(refusal: Refusal) -> Numbers {
     [refusal.number(), 0, 0]
 }
 
-/// The order that a record of import or export names.
+/// The order that a record of import, export or a measure names.
 fn order_of(argument: u64) -> ByteOrder {
     if argument == 0 {
         ByteOrder::LittleEndian
@@ -56,6 +60,8 @@ fn ask(record: &Record, out: &mut [u8]) -> Numbers {
         11 => of_sheet(from_integer_type(argument, out)),
         12 => of_sheet(from_primitive_type(argument, out)),
         13 => of_sheet(page(sheet, out)),
+        14 => of_measure(measure_import(sheet, order_of(argument))),
+        15 => of_measure(measure_export(sheet, order_of(argument))),
         code => panic!("no call has the code {code}"),
     }
 }
@@ -116,6 +122,26 @@ fn no_order_is_little_endian() {
     }
     println!("without an order: {tried} tried");
     assert!(tried > 0);
+}
+
+/// Every recorded sheet, put to both measures under both orders: the length that the conversion writes, or its refusal.
+#[test]
+fn measures_are_of_the_conversions() {
+    let mut sheets: Vec<Vec<u8>> = records().into_iter().map(|record| record.input).collect();
+    sheets.sort();
+    sheets.dedup();
+    let (mut tried, mut answered) = (0, 0);
+    let length = |measure: Measure| measure.length;
+    for (sheet, order) in sheets.iter().flat_map(|sheet| [0, 1].map(|order| (sheet, order_of(order)))) {
+        let imported = import_with_order(sheet, order, &mut vec![FILLER; import_room(sheet.len())]);
+        let exported = export_with_order(sheet, order, &mut vec![FILLER; export_room(sheet.len())]);
+        assert_eq!(measure_import(sheet, order).map(length), imported, "{}", sheet.escape_ascii());
+        assert_eq!(measure_export(sheet, order).map(length), exported, "{}", sheet.escape_ascii());
+        tried += 2;
+        answered += imported.is_ok() as usize + exported.is_ok() as usize;
+    }
+    println!("measures: {tried} tried, {answered} answered");
+    assert!(answered > 0);
 }
 
 /// With the room that the crate says is enough no call is refused for want of it; a record that says 16 gets an answer.
@@ -187,7 +213,7 @@ fn trip_is_its_steps(sheet: &[u8], order: Option<ByteOrder>) -> Trip {
 
 #[test]
 fn trips_are_their_steps() {
-    let reads_field = |record: &Record| matches!(record.call, 1..=10 | 13);
+    let reads_field = |record: &Record| matches!(record.call, 1..=10 | 13 | 15);
     let mut sheets: Vec<Vec<u8>> = records().into_iter().filter(reads_field).map(|record| record.input).collect();
     sheets.sort();
     sheets.dedup();
