@@ -323,17 +323,23 @@ impl Chooser<'_> {
             for request in first_requests(&mut generator.random, sheet.kind) {
                 let answered = self.answer(request, &sheet.bytes)?;
                 let room = room(&mut generator.random, &answered);
-                for (wrong, cases) in &mut left {
-                    if *cases > 0 && self.tells(*wrong, request, &sheet.bytes, room) {
-                        let small = smallest(sheet.bytes.clone(), |sheet| self.tells(*wrong, request, sheet, room));
-                        self.add_room(request, &small, room)?;
-                        *cases -= 1;
-                    }
-                }
+                self.add_smallest(&mut left, request, &sheet.bytes, room)?;
             }
             left.retain(|(_, cases)| *cases > 0);
         }
         Err(format!("no short sheet tells these wrong readings: {left:?}"))
+    }
+
+    /// The smallest cases like this one, of each wrong reading that it tells from the right one and that has cases left.
+    fn add_smallest(&mut self, left: &mut [(Wrong, u8)], request: Request, sheet: &[u8], room: usize) -> Result<(), String> {
+        for (wrong, cases) in left {
+            if *cases > 0 && self.tells(*wrong, request, sheet, room) {
+                let small = smallest(sheet.to_vec(), |sheet| self.tells(*wrong, request, sheet, room));
+                self.add_room(request, &small, room)?;
+                *cases -= 1;
+            }
+        }
+        Ok(())
     }
 
     /// Whether the case tells the wrong reading from the right one; plain form only where demand 3 speaks of the field.

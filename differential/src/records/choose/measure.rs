@@ -227,13 +227,7 @@ impl Chooser<'_> {
             }
             let sheet = generator.sheet();
             let request = any_measure(&mut generator.random, &sheet);
-            for (wrong, cases) in &mut left {
-                if self.tells(*wrong, request, &sheet.bytes, 0) {
-                    let small = smallest(sheet.bytes.clone(), |sheet| self.tells(*wrong, request, sheet, 0));
-                    self.add(request, &small, Ample)?;
-                    *cases -= 1;
-                }
-            }
+            self.add_smallest(&mut left, request, &sheet.bytes, 0)?;
             left.retain(|(_, cases)| *cases > 0);
         }
         Err(format!("no short sheet tells these wrong readings: {left:?}"))

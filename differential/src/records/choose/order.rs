@@ -305,13 +305,7 @@ impl Chooser<'_> {
             let sheet = generator.sheet();
             let request = big_request(&sheet);
             let room = room(&mut generator.random, &self.answer(request, &sheet.bytes)?);
-            for (wrong, cases) in &mut left {
-                if self.tells(*wrong, request, &sheet.bytes, room) {
-                    let small = smallest(sheet.bytes.clone(), |sheet| self.tells(*wrong, request, sheet, room));
-                    self.add_room(request, &small, room)?;
-                    *cases -= 1;
-                }
-            }
+            self.add_smallest(&mut left, request, &sheet.bytes, room)?;
             left.retain(|(_, cases)| *cases > 0);
         }
         Err(format!("no short sheet tells these wrong readings: {left:?}"))

@@ -173,13 +173,7 @@ impl Chooser<'_> {
                 continue;
             }
             let room = room(&mut generator.random, &self.answer(PAGE, &sheet)?);
-            for (wrong, cases) in &mut left {
-                if *cases > 0 && self.tells(*wrong, PAGE, &sheet, room) {
-                    let small = smallest(sheet.clone(), |sheet| self.tells(*wrong, PAGE, sheet, room));
-                    self.add_room(PAGE, &small, room)?;
-                    *cases -= 1;
-                }
-            }
+            self.add_smallest(&mut left, PAGE, &sheet, room)?;
             left.retain(|(_, cases)| *cases > 0);
         }
         Err(format!("no short sheet tells these wrong readings: {left:?}"))
