@@ -331,7 +331,13 @@ impl Chooser<'_> {
     }
 
     /// The smallest cases like this one, of each wrong reading that it tells from the right one and that has cases left.
-    fn add_smallest(&mut self, left: &mut [(Wrong, u8)], request: Request, sheet: &[u8], room: usize) -> Result<(), String> {
+    fn add_smallest(
+        &mut self,
+        left: &mut [(Wrong, u8)],
+        request: Request,
+        sheet: &[u8],
+        room: usize,
+    ) -> Result<(), String> {
         for (wrong, cases) in left {
             if *cases > 0 && self.tells(*wrong, request, sheet, room) {
                 let small = smallest(sheet.to_vec(), |sheet| self.tells(*wrong, request, sheet, room));
