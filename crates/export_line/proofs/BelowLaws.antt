@@ -26,10 +26,11 @@ use Rattle.sheets.specs.Export.{flag}
 use Rattle.sheets.specs.Walk.{Step, Walked, extensionsAround, writes, lineWalked, typeWalked, rowWalked}
 use Rattle.sheets.specs.ExportSteps.{Bearer, orValues, extensionIn, schemaOwn, schemaStep}
 use Rattle.sheets.proofs.Tests.{never}
-use Rattle.sheets.proofs.FieldTrees.{fields-lawful}
+use Rattle.sheets.proofs.FieldTrees.{fields-lawful, isDictionary, dictionary-kind}
 use Rattle.sheets.proofs.LineTrees.{standing-many}
 use Rattle.sheets.proofs.ExportSteps.{export-opened}
 use Rattle.buffer.specs.Over.{over}
+use Rattle.field_pairs.proofs.ReservedLaws.{pairs-column}
 use Rattle.column_text.specs.ColumnText.{hasZero}
 use Rattle.put_format.specs.Formats.{exportedAnswer}
 use Rattle.put_format.specs.LineFormat.{shapeFormat, lineFormat, CanFormat}
@@ -51,8 +52,8 @@ use Rattle.storage_line.specs.declared.StorageLine.{StorageLine}
 use Rattle.line_below.proofs.LineLaws.{line-opened, line-rule, line-kind, line-p, line-count, line-extension}
 use Rattle.storage_line.proofs.BelowLaws as Storage
 use Rattle.export_line.specs.Begins.{isAlone, columnsFrom, numbersOf, zeroPending, begunWith}
-use Rattle.export_line.proofs.ColumnLaws.{is-part, part-short, part-text, name-column, pairs-column, nullable-is, name-is, extensionName, extensionMore, extension-said, extension-rules, more-said, name-said, can-format, line-format, line-said}
-use Rattle.export_line.proofs.StepLaws.{isDictionary, dictionary-kind, index-small, extended, WrittenType, written, own-put}
+use Rattle.export_line.proofs.ColumnLaws.{is-part, part-short, part-text, name-column, nullable-is, name-is, extensionName, extensionMore, extension-said, extension-rules, more-said, name-said, can-format, line-format, line-said}
+use Rattle.export_line.proofs.StepLaws.{index-small, extended, WrittenType, written, own-put}
 
 -- ── a field
 

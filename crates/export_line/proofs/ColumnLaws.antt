@@ -27,7 +27,6 @@ use Rattle.sheets.proofs.FieldTrees.{below-kind}
 use Rattle.columns.specs.declared.Part.{Part}
 use Rattle.column_text.specs.ColumnText.{TextColumn}
 use Rattle.column_text.proofs.ColumnTextLaws.{column-says}
-use Rattle.put_metadata.specs.Pairs.{PairsColumn}
 use Rattle.put_format.specs.LineFormat.{shapeFormat, lineShape, lineFormat, CanFormat}
 use Rattle.put_format.proofs.ArmLaws.{is-format}
 use Rattle.put_schema_line.specs.Lines.{nodeName, lineText, IsPart}
@@ -51,11 +50,6 @@ module _ {s : Bytes} (short : length s ≤ 65535) where
   pub name-column : {p : Part} (i : Option Info) → Meets (ownRule i) → PartAt s p (infoColumns i .0) → TextColumn (infoColumns i .0)
   name-column none h k = part-text none k refl
   name-column (some i) h k = part-text (some (i .name)) k (h .0)
-
--- its pairs
-pub pairs-column : (i : Option Info) → Meets (ownRule i) → PairsColumn (infoColumns i .1 .1)
-pairs-column none h = record { pairs = none; text = refl; rule = refl }
-pairs-column (some i) h = record { pairs = i .pairs; text = refl; rule = h .1 }
 
 -- a bare line is that of a dictionary's values, which are nullable
 pub nullable-is : (i : Option Info) → (isBare i || flagOf i) ≡ orValues i .nullable

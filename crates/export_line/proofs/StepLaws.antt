@@ -20,7 +20,7 @@ use Rattle.sheets.specs.FieldTrees.{isExtension, shapeRule, typeShape, typeCoun
 use Rattle.sheets.specs.Metadata.{Extension}
 use Rattle.sheets.specs.Walk.{Below, visit, skip, writes}
 use Rattle.sheets.specs.ExportSteps.{Bearer, schemaOwn, schemaStepOf, extensionIn}
-use Rattle.sheets.proofs.FieldTrees.{leaf-other}
+use Rattle.sheets.proofs.FieldTrees.{isDictionary, dictionary-kind}
 use Rattle.buffer.specs.Over.{PutFirst}
 use Rattle.walks.specs.Places.{Owns}
 use Rattle.put_format.specs.LineFormat.{shapeFormat}
@@ -31,30 +31,6 @@ use Rattle.storage_line.proofs.BelowLaws.{Leaves, visited, nothing, passed}
 use Rattle.export_line.specs.Begins.{numbersWith, numbersOf, zeroPending}
 
 -- ── by the column `kind`
-
-abbrev pub isDictionary : Shape → Bool
-isDictionary (ofScalar s) = false
-isDictionary (ofNesting g) = false
-isDictionary (ofGrouping g) = false
-isDictionary (ofDictionary ix ordered) = true
-isDictionary (ofExtension a m) = false
-
-pub dictionary-kind : (s : Shape) → Meets (shapeRule s) → eqb (columns s .kind) Kind.Dictionary ≡ isDictionary s
-dictionary-kind (ofScalar (leaf k u)) h = leaf-other k Kind.Dictionary (h .0) refl
-dictionary-kind (ofScalar (timestamp u zone)) h = refl
-dictionary-kind (ofScalar (fixedSizeBinary n)) h = refl
-dictionary-kind (ofScalar (decimalType bits128 p q)) h = refl
-dictionary-kind (ofScalar (decimalType bits32 p q)) h = refl
-dictionary-kind (ofScalar (decimalType bits64 p q)) h = refl
-dictionary-kind (ofScalar (decimalType bits256 p q)) h = refl
-dictionary-kind (ofNesting list) h = refl
-dictionary-kind (ofNesting largeList) h = refl
-dictionary-kind (ofNesting (fixedSizeList n)) h = refl
-dictionary-kind (ofNesting (map b)) h = refl
-dictionary-kind (ofGrouping struct) h = refl
-dictionary-kind (ofGrouping (union b ids)) h = refl
-dictionary-kind (ofDictionary ix ordered) h = refl
-dictionary-kind (ofExtension a m) h = refl
 
 -- the index type of a dictionary's line
 pub index-small : (s : Shape) → Meets (shapeRule s) → isDictionary s ≡ true → columns s .p < 10

@@ -1,7 +1,7 @@
 -- What is known at each place of `put_sheet`, `convert`, `answer` and `measure_export`, for every call: the answer is the walk of its step after its opening
 -- (`call-walked`), and each way out is the outcome, or the measure, that is defined. Assumes nothing.
 use mathlib.Core.Path.{_≡_, refl, sym, ap, subst, _∙_}
-use mathlib.Core.Bool.{Bool, false}
+use mathlib.Core.Bool.{Bool, true, false}
 use mathlib.Core.List.{List, []}
 use mathlib.Core.Option.{none, some}
 use Prim.Native.Nat.{ℕ, _+_, _-_, _*_, _≤_, min}
@@ -19,10 +19,11 @@ use Rattle.sheets.specs.Visits.{exportLines}
 use Rattle.sheets.specs.ExportSteps.{schemaStep}
 use Rattle.sheets.specs.Schema.{schemaHeading}
 use Rattle.sheets.specs.FieldTrees.{Head}
+use Rattle.sheets.specs.Strict.{fieldReturns}
 use Rattle.sheets.specs.Walk.{Step as Stepped, typeWalk, typeWalked, sheetWalk}
 use Rattle.sheets.proofs.Tests.{first-gave}
 use Rattle.sheets.proofs.SheetLaws.{sheet-headed}
-use Rattle.sheets.proofs.ExportSteps.{sheet-exported, lines-visited}
+use Rattle.sheets.proofs.ExportSteps.{sheet-exported, sheet-strict, lines-visited}
 use Rattle.sheets.proofs.PlainSteps.{sheet-plain}
 use Rattle.sheets.proofs.MappingSteps.{sheet-recursive, sheet-underlying}
 use Rattle.sheets.proofs.PageSteps.{sheet-paged}
@@ -39,14 +40,14 @@ use Rattle.walks.specs.declared.Step.{Step}
 use Rattle.walks.specs.declared.Step.the-variants.{Done, Refused}
 use Rattle.walks.specs.declared.Subtree.{Subtree}
 use Rattle.walks.proofs.HeadedLaws.{headed-refused, headed-done}
-use Rattle.field_sheet.specs.Sheets.{sheetBody, sheetAnswer}
+use Rattle.field_sheet.specs.Sheets.{asked, bodyAs, sheetAnswer}
 use Rattle.field_sheet.specs.declared.SheetRead.{SheetRead}
 use Rattle.field_sheet.specs.declared.SheetRead.the-variants.{Body, Refused as Unread}
-use Rattle.field_sheet.proofs.SheetLaws.{Opens, sheet-opens, sheet-refused}
+use Rattle.field_sheet.proofs.SheetLaws.{Opens, strict-opens, strict-refused}
 use Rattle.field_walk.specs.declared.Call.{Call}
 use Rattle.field_walk.specs.declared.Call.the-variants.{Export, Plain, ToStorageRecursive, UnderlyingPhysicalType, Page}
 use Rattle.field_walk.specs.Calls.{stepOf, stateOf, CallWrote}
-use Rattle.field_calls.specs.Answers.{answerOf, callOutcome, openingOf, HasField, sheetFor, linesFor, linesOf, SheetWrote}
+use Rattle.field_calls.specs.Answers.{strictOf, answerOf, callOutcome, openingOf, HasField, sheetFor, linesFor, linesOf, SheetWrote}
 
 -- a sheet opens with its heading line
 sheet-opened : {S : Type 0} (step : S → Head → Answer (Stepped S)) (σ : S) (heading b : Bytes)
@@ -54,8 +55,10 @@ sheet-opened : {S : Type 0} (step : S → Head → Answer (Stepped S)) (σ : S) 
 sheet-opened step σ heading b = λ x. readFieldSheet b >>= λ f. typeWalk step (f .type) (some (f .info)) σ >>= λ ls. given (sheet-headed heading ls x)
 
 -- the answer is the walk of the call's step, after its opening
-call-walked : (c : Call) (b : Bytes) → answerOf c b ≡ (readFieldSheet b >>= λ f. sheetFor c (f .info) (f .type))
-call-walked (Export big) b = sheet-exported big b ∙ sheet-opened (stepOf (Export big)) none schemaHeading b
+call-walked : (c : Call) (b : Bytes) → answerOf c b ≡ (readFieldSheet b >>= λ f. asked (strictOf c) f >>= λ _. sheetFor c (f .info) (f .type))
+call-walked (Export big false) b = sheet-exported big b ∙ sheet-opened (schemaStep big) none schemaHeading b
+call-walked (Export big true) b =
+    sheet-strict big b ∙ (λ x. readFieldSheet b >>= λ f. fieldReturns f >>= λ _. typeWalk (schemaStep big) (f .type) (some (f .info)) none >>= λ ls. given (sheet-headed schemaHeading ls x))
 call-walked Plain b = sheet-plain b ∙ sheet-opened (stepOf Plain) false fieldHeading b
 call-walked ToStorageRecursive b = sheet-recursive b ∙ sheet-opened (stepOf ToStorageRecursive) none fieldHeading b
 call-walked UnderlyingPhysicalType b = sheet-underlying b ∙ sheet-opened (stepOf UnderlyingPhysicalType) none fieldHeading b
@@ -68,7 +71,7 @@ treeAt at = record { at = at; levels = levelLimit; inside = false }
 -- ── the opening and the lines
 
 pub opening-short : (c : Call) → length (openingOf c) ≤ 48
-opening-short (Export big) = omega arith
+opening-short (Export big strict) = omega arith
 opening-short Plain = omega arith
 opening-short ToStorageRecursive = omega arith
 opening-short UnderlyingPhysicalType = omega arith
@@ -93,16 +96,17 @@ module _ (c : Call) (s : Bytes) (at : ℕ) (lent part : Bytes) (r : Step) (h : C
 
 -- ── the sheet
 
-module _ (c : Call) (s : Bytes) where
-  -- no field sheet
-  pub sheet-unread : (k : SheetRead) (q : Reason) → k ≡ Unread q → sheetAnswer k ≡ sheetBody s → answerOf c s ≡ refused (refusalOf q)
-  sheet-unread k q e h =
-      let is : readFieldSheet s ≡ refused (refusalOf q) = sheet-refused s (sym h ∙ ap sheetAnswer e) in
-      call-walked c s ∙ ap (λ (a : Answer Field). a >>= λ f. sheetFor c (f .info) (f .type)) is
+module _ (c : Call) (s : Bytes) {strict : Bool} (is : strict ≡ strictOf c) (k : SheetRead) (h : sheetAnswer k ≡ bodyAs strict s) where
+  body-is : {a : Answer ℕ} → sheetAnswer k ≡ a → bodyAs (strictOf c) s ≡ a
+  body-is e = ap (λ (b : Bool). bodyAs b s) (sym is) ∙ sym h ∙ e
 
-  module _ (k : SheetRead) (at : ℕ) (e : k ≡ Body at) (h : sheetAnswer k ≡ sheetBody s) where
-    read : (f : Field) × Opens s at f
-    read = sheet-opens s (sym h ∙ ap sheetAnswer e)
+  -- no field sheet, or one that a strict export refuses
+  pub sheet-unread : (q : Reason) → k ≡ Unread q → answerOf c s ≡ refused (refusalOf q)
+  sheet-unread q e = call-walked c s ∙ strict-refused (strictOf c) s (λ f. sheetFor c (f .info) (f .type)) (body-is (ap sheetAnswer e))
+
+  module _ (at : ℕ) (e : k ≡ Body at) where
+    read : (f : Field) × Opens s at f × (asked (strictOf c) f ≡ given tt)
+    read = strict-opens (strictOf c) s (body-is (ap sheetAnswer e))
 
     field-at : TypeAt s at levelLimit false (some (read .0 .info)) (read .0 .type) []
     field-at = let o = read .1 in record { stands = o .stands; deep = o .levels; short = o .short }
@@ -114,7 +118,8 @@ module _ (c : Call) (s : Bytes) where
     pub sheet-told : (out mid : Bytes) (z : Step) → SheetWrote c s at out mid z → SheetTold (answerOf c s) (linesOf c s) out mid (stepAnswer z)
     sheet-told out mid z w =
         let f = read .0 in
-        let same : answerOf c s ≡ sheetFor c (f .info) (f .type) = call-walked c s ∙ ap (λ (a : Answer Field). a >>= λ f. sheetFor c (f .info) (f .type)) (read .1 .isRead) in
+        let same : answerOf c s ≡ sheetFor c (f .info) (f .type) =
+        call-walked c s ∙ ap (λ (a : Answer Field). a >>= λ f. asked (strictOf c) f >>= λ _. sheetFor c (f .info) (f .type)) (read .1 .isRead) ∙ ap (λ (a : Answer (Unit {0})). a >>= λ _. sheetFor c (f .info) (f .type)) (read .2) in
         let many : linesOf c s ≡ linesFor c (f .info) (f .type) = ap (linesIn (λ f. linesFor c (f .info) (f .type))) (read .1 .isRead) in
         subst (λ (n : ℕ). SheetTold (answerOf c s) n out mid (stepAnswer z)) (sym many) (subst (λ (a : Answer Bytes). SheetTold a (linesFor c (f .info) (f .type)) out mid (stepAnswer z)) (sym same) (w (f .info) (f .type) [] field-at))
 
@@ -139,15 +144,15 @@ module _ (c : Call) (s out mid : Bytes) (z : Step) (told : SheetTold (answerOf c
   measured next size d m e = measure-done (answerOf c s) (linesOf c s) out mid (stepAnswer z) next size (ap stepAnswer d) told m e
 
 -- the lines of a sheet that is exported are those of the definition
-pub export-measured : (big : Bool) (s : Bytes) → measure (exported big s) (linesOf (Export big) s) ≡ measureExportOutcome big s
+pub export-measured : (big : Bool) (s : Bytes) → measure (exported big s) (linesOf (Export big false) s) ≡ measureExportOutcome big s
 export-measured big s = go (exported big s) refl
   where
-    lines : (x : Bytes) → exported big s ≡ given x → linesOf (Export big) s ≡ linesIn exportLines (readFieldSheet s)
+    lines : (x : Bytes) → exported big s ≡ given x → linesOf (Export big false) s ≡ linesIn exportLines (readFieldSheet s)
     lines x e =
         let f = first-gave (readFieldSheet s) (λ f. typeWalk (schemaStep big) (f .type) (some (f .info)) none >>= λ ls. given (writeSheet schemaHeading ls)) x (sym (sheet-exported big s) ∙ e) in
         let ls = first-gave (typeWalk (schemaStep big) (f .0 .type) (some (f .0 .info)) none) (λ ls. given (writeSheet schemaHeading ls)) x (f .2) in
-        ap (linesIn (λ f. linesFor (Export big) (f .info) (f .type))) (f .1) ∙ lines-visited big (f .0) (ls .0) (ls .1) ∙ ap (linesIn exportLines) (sym (f .1))
+        ap (linesIn (λ f. linesFor (Export big false) (f .info) (f .type))) (f .1) ∙ lines-visited big (f .0) (ls .0) (ls .1) ∙ ap (linesIn exportLines) (sym (f .1))
 
-    go : (a : Answer Bytes) → exported big s ≡ a → measure a (linesOf (Export big) s) ≡ measure a (linesIn exportLines (readFieldSheet s))
+    go : (a : Answer Bytes) → exported big s ≡ a → measure a (linesOf (Export big false) s) ≡ measure a (linesIn exportLines (readFieldSheet s))
     go (refused r) e = refl
     go (given x) e = ap (measure (given x)) (lines x e)

@@ -1,6 +1,6 @@
 -- What each call that takes a field sheet answers (`Outcome`), and what writing its sheet tells. Assumes nothing.
 use mathlib.Core.Path.{_≡_}
-use mathlib.Core.Bool.{false}
+use mathlib.Core.Bool.{Bool, true, false}
 use mathlib.Core.List.{List, [], _++_}
 use mathlib.Core.Option.{some}
 use Prim.Native.Nat.{ℕ}
@@ -11,7 +11,7 @@ use Rattle.sheets.specs.Schema.{schemaHeading}
 use Rattle.sheets.specs.Field.{Info, ArrowDataType}
 use Rattle.sheets.specs.FieldSheet.{Entry, fieldHeading, readFieldSheet}
 use Rattle.sheets.specs.Mappings.{toStorageRecursive, underlyingPhysicalType}
-use Rattle.sheets.specs.Outcome.{Outcome, outcome, exported, plained, mapped, paged, linesIn}
+use Rattle.sheets.specs.Outcome.{Outcome, outcome, exportedAs, plained, mapped, paged, linesIn}
 use Rattle.sheets.specs.Walk.{typeWalk, typeVisits}
 use Rattle.outcome.specs.Answers.{SheetTold}
 use Rattle.walks.specs.Places.{TypeAt}
@@ -24,18 +24,26 @@ use Rattle.field_walk.specs.Calls.{stepOf, stateOf}
 -- ── what is answered, or the refusal
 
 abbrev pub answerOf : Call → Bytes → Answer Bytes
-answerOf (Export big) = exported big
+answerOf (Export big strict) = exportedAs strict big
 answerOf Plain = plained
 answerOf ToStorageRecursive = mapped toStorageRecursive
 answerOf UnderlyingPhysicalType = mapped underlyingPhysicalType
 answerOf Page = paged
+
+-- whether the sheet is read strictly
+abbrev pub strictOf : Call → Bool
+strictOf (Export big strict) = strict
+strictOf Plain = false
+strictOf ToStorageRecursive = false
+strictOf UnderlyingPhysicalType = false
+strictOf Page = false
 
 abbrev pub callOutcome : Call → Bytes → Bytes → Outcome
 callOutcome c s out = outcome (answerOf c s) out
 
 -- what stands before the lines of the answer: export answers a schema sheet, plain form and the mappings a field sheet, and a page has no heading
 abbrev pub openingOf : Call → Bytes
-openingOf (Export big) = headingLine schemaHeading
+openingOf (Export big strict) = headingLine schemaHeading
 openingOf Plain = headingLine fieldHeading
 openingOf ToStorageRecursive = headingLine fieldHeading
 openingOf UnderlyingPhysicalType = headingLine fieldHeading

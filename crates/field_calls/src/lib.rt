@@ -1,10 +1,10 @@
 // The calls that take a field sheet's bytes and answer a sheet, or a page, in a lent buffer; and the measure of one of them, export.
 ghost use mathlib.Core.Path.{_≡_};
-ghost use Rattle.sheets.specs.Outcome.{exportOutcomeIn, plainOutcome, toStorageRecursiveOutcome, underlyingPhysicalTypeOutcome, pageOutcome, measureExportOutcome};
+ghost use Rattle.sheets.specs.Outcome.{exportOutcomeIn, strictExportOutcome, exportOutcomeAs, plainOutcome, toStorageRecursiveOutcome, underlyingPhysicalTypeOutcome, pageOutcome, measureExportOutcome};
 ghost use Rattle.buffer.specs.Over.{PutAt};
 ghost use Rattle.outcome.specs.Answers.{outcomeOf, SheetTold, measureOf};
 ghost use Rattle.walks.specs.Answers.{stepAnswer};
-ghost use Rattle.field_calls.specs.Answers.{openingOf, answerOf, linesOf, callOutcome, HasField, SheetWrote};
+ghost use Rattle.field_calls.specs.Answers.{openingOf, strictOf, answerOf, linesOf, callOutcome, HasField, SheetWrote};
 use field_sheet::SheetRead;
 use field_walk::Call;
 use outcome::Answered;
@@ -18,7 +18,7 @@ fn put_opening(call: Call, out: &mut [u8]) -> usize
     ensures { λ r. ⌜ PutAt 0 (openingOf call) r (now (out .entry)) (now (out .exit)) ⌝ }
 {
     match call {
-        Call::Export(_) => buffer::put_at(
+        Call::Export { big: _, strict: _ } => buffer::put_at(
             out,
             0,
             b"format name flags metadata children dictionary\n",
@@ -54,12 +54,25 @@ fn put_sheet(call: Call, s: &[u8], at: usize, out: &mut [u8]) -> Step
     }
 }
 
+// Whether the sheet is read strictly.
+fn is_strict(call: Call) -> bool
+    ensures { λ r. ⌜ r ≡ strictOf call ⌝ }
+{
+    match call {
+        Call::Export { big: _, strict } => strict,
+        Call::Plain => false,
+        Call::ToStorageRecursive => false,
+        Call::UnderlyingPhysicalType => false,
+        Call::Page => false,
+    }
+}
+
 // What a call answers for the sheet, written over the first bytes of out as far as it fits, and its size; or why it is refused. A call that converts and one
 // that measures are the same up to here.
 fn convert(call: Call, s: &[u8], out: &mut [u8]) -> Step
     ensures { λ r. ⌜ SheetTold (answerOf call (now (s .entry))) (linesOf call (now (s .entry))) (now (out .entry)) (now (out .exit)) (stepAnswer r) ⌝ }
 {
-    match field_sheet::read_sheet(s) {
+    match field_sheet::read_as(s, is_strict(call)) {
         SheetRead::Refused(r) => Step::Refused(r),
         SheetRead::Body(at) => put_sheet(call, s, at, out),
     }
@@ -75,11 +88,26 @@ fn answer(call: Call, s: &[u8], out: &mut [u8]) -> Answered
     }
 }
 
-// The schema sheet of a field sheet, its metadata big-endian (`big`) or not.
+// The schema sheet of a field sheet, its metadata big-endian (`big`) or not. A strict export refuses a reserved key and a 128-bit dictionary index on any line, after
+// the sheet's form and before all else: what it writes is sure to come back.
+pub fn export_as(s: &[u8], strict: bool, big: bool, out: &mut [u8]) -> Answered
+    ensures { λ r. ⌜ outcomeOf (r .number) (r .length) (now (out .exit)) ≡ exportOutcomeAs strict big (now (s .entry)) (now (out .entry)) ⌝ }
+{
+    answer(Call::Export { big, strict }, s, out)
+}
+
+// The export that is not strict.
 pub fn export(s: &[u8], big: bool, out: &mut [u8]) -> Answered
     ensures { λ r. ⌜ outcomeOf (r .number) (r .length) (now (out .exit)) ≡ exportOutcomeIn big (now (s .entry)) (now (out .entry)) ⌝ }
 {
-    answer(Call::Export(big), s, out)
+    export_as(s, false, big, out)
+}
+
+// The strict one.
+pub fn strict_export(s: &[u8], big: bool, out: &mut [u8]) -> Answered
+    ensures { λ r. ⌜ outcomeOf (r .number) (r .length) (now (out .exit)) ≡ strictExportOutcome big (now (s .entry)) (now (out .entry)) ⌝ }
+{
+    export_as(s, true, big, out)
 }
 
 // How long the schema sheet of a field sheet is, and how many lines export visits for it: an export that is lent no bytes, and goes on counting.
@@ -87,7 +115,7 @@ pub fn measure_export(s: &[u8], big: bool) -> Measured
     ensures { λ r. ⌜ measureOf r ≡ measureExportOutcome big (now (s .entry)) ⌝ }
 {
     let mut none: [u8; 0] = [];
-    match convert(Call::Export(big), s, &mut none[..]) {
+    match convert(Call::Export { big, strict: false }, s, &mut none[..]) {
         Step::Refused(r) => outcome::unmeasured(r),
         Step::Done { next: _, size } => Measured { number: 0, size },
     }

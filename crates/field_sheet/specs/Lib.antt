@@ -1,3 +1,4 @@
 pub mod Subtrees
+pub mod Strict
 pub mod Trees
 pub mod Sheets

@@ -1,12 +1,14 @@
-// The reader of field sheets: heading, form and levels of the whole sheet.
+// The reader of field sheets: heading, form and levels of the whole sheet, and what a strict export asks of it.
 pub mod levels;
+pub mod strict;
 pub mod subtrees;
 pub mod trees;
 
 ghost use mathlib.Core.Path.{_≡_};
 ghost use Rattle.sheets.specs.FieldSheet.{fieldHeading};
 ghost use Rattle.sheets.specs.Sheet.{isHeaded};
-ghost use Rattle.field_sheet.specs.Sheets.{sheetBody, sheetAnswer};
+ghost use Rattle.field_sheet.specs.Sheets.{sheetBody, bodyAs, sheetAnswer};
+use crate::subtrees::Skipped;
 use crate::trees::TreeRead;
 use refusal::Refusal;
 
@@ -36,9 +38,9 @@ fn has_heading(s: &[u8]) -> bool
     buffer::same(&s[..heading.len()], heading)
 }
 
-// 1, 2 and 3 over the whole sheet in that order.
-pub fn read_sheet(s: &[u8]) -> SheetRead
-    ensures { λ r. ⌜ sheetAnswer r ≡ sheetBody (now (s .entry)) ⌝ }
+// 1, 2 and 3 over the whole sheet in that order; where the reading is strict, then what a strict export asks of the lines.
+pub fn read_as(s: &[u8], strict: bool) -> SheetRead
+    ensures { λ r. ⌜ sheetAnswer r ≡ bodyAs strict (now (s .entry)) ⌝ }
 {
     if SHEET_LIMIT < s.len() {
         return SheetRead::Refused(Refusal::NotSheet);
@@ -46,7 +48,7 @@ pub fn read_sheet(s: &[u8]) -> SheetRead
     if !has_heading(s) {
         return SheetRead::Refused(Refusal::NotSheet);
     }
-    match crate::trees::read_tree(s, HEADING, false, false, LEVELS) {
+    match crate::trees::read_tree(s, HEADING, false, false, LEVELS, strict) {
         TreeRead::Bad => SheetRead::Refused(Refusal::BadLines),
         // 2 comes before 3, wherever in the sheet it is
         TreeRead::Deep => {
@@ -61,5 +63,22 @@ pub fn read_sheet(s: &[u8]) -> SheetRead
             }
             SheetRead::Body(HEADING)
         }
+        // 2 and 3 come before, wherever in the sheet they are
+        TreeRead::Held(r) => {
+            if !crate::trees::form(s, HEADING) {
+                return SheetRead::Refused(Refusal::BadLines);
+            }
+            match crate::subtrees::skip(s, HEADING, false, LEVELS) {
+                Skipped::Deep => SheetRead::Refused(Refusal::TooDeep),
+                Skipped::To(_) => SheetRead::Refused(r),
+            }
+        }
     }
+}
+
+// 1, 2 and 3 over the whole sheet in that order.
+pub fn read_sheet(s: &[u8]) -> SheetRead
+    ensures { λ r. ⌜ sheetAnswer r ≡ sheetBody (now (s .entry)) ⌝ }
+{
+    read_as(s, false)
 }

@@ -1,16 +1,20 @@
 // Trees of a field sheet read and tested: by the levels left, or by a forward count where there are too many. `bare` says what the line above asks of the
-// first line, `inside` that it stands directly in an extension.
+// first line, `inside` that it stands directly in an extension, `strict` that lines are tested for what a strict export refuses.
 ghost use Prim.Native.Nat.{_≤_};
 ghost use lib.ListN.{length};
-ghost use Rattle.field_sheet.specs.Trees.{treeAnswer, Alone, Forms, ReadsTree, ReadsRow};
+ghost use Rattle.sheets.specs.Sheet.{sheetLimit};
+ghost use Rattle.field_sheet.specs.Trees.{Alone, Forms, ReadsTree, ReadsRow};
+use crate::strict::LineReturns;
 use field_leaf::FieldLeaf;
 use read_field_line::LineRead;
+use refusal::Refusal;
 
-// The end of a tree whose lines were tested; that it has too many levels; that there is none.
+// The end of a tree whose lines were tested; that it has too many levels; that there is none; why a strict export refuses it, by its first line with a cause.
 pub enum TreeRead {
     To(usize),
     Deep,
     Bad,
+    Held(Refusal),
 }
 
 // Whether one tree that is not bare stands from place at on and nothing after it. No recursion: a sheet of any depth is tested.
@@ -45,8 +49,16 @@ pub fn form(s: &[u8], at: usize) -> bool
 }
 
 // The end of the tree from place at on, every line of it tested, unless it has more levels than there may be. A leaf's short line is recognised at once.
-pub fn read_tree(s: &[u8], at: usize, bare: bool, inside: bool, levels: usize) -> TreeRead
-    ensures { λ r. ⌜ ReadsTree (now (s .entry)) at bare inside levels (treeAnswer r) ⌝ }
+pub fn read_tree(
+    s: &[u8],
+    at: usize,
+    bare: bool,
+    inside: bool,
+    levels: usize,
+    strict: bool,
+) -> TreeRead
+    requires { ⌜ length (now s) ≤ sheetLimit ⌝ }
+    ensures { λ r. ⌜ ReadsTree (now (s .entry)) at bare inside levels strict r ⌝ }
 {
     if levels == 0 {
         return TreeRead::Deep;
@@ -66,31 +78,40 @@ pub fn read_tree(s: &[u8], at: usize, bare: bool, inside: bool, levels: usize) -
     if s.len() - l.end < l.children as usize {
         return TreeRead::Bad;
     }
-    let extension = crate::levels::is_extension(l.kind);
-    let cost = crate::levels::line_cost(inside, extension);
-    read_row(
-        s,
-        l.end,
-        l.children,
-        field_kinds::is_bare_below(l.kind),
-        extension,
-        levels - cost,
-    )
+    match crate::strict::line_returns(s, l, strict) {
+        LineReturns::No(r) => TreeRead::Held(r),
+        LineReturns::Yes => {
+            let extension = crate::levels::is_extension(l.kind);
+            let left = levels - crate::levels::line_cost(inside, extension);
+            let below = field_kinds::is_bare_below(l.kind);
+            read_row(s, l.end, l.children, below, extension, left, strict)
+        }
+    }
 }
 
 // The same of `count` trees from place at on, of which only a single one can be bare.
-fn read_row(s: &[u8], at: usize, count: u64, bare: bool, inside: bool, levels: usize) -> TreeRead
+fn read_row(
+    s: &[u8],
+    at: usize,
+    count: u64,
+    bare: bool,
+    inside: bool,
+    levels: usize,
+    strict: bool,
+) -> TreeRead
+    requires { ⌜ length (now s) ≤ sheetLimit ⌝ }
     requires { ⌜ at ≤ length (now s) ⌝ }
     requires { ⌜ Alone bare count ⌝ }
-    ensures { λ r. ⌜ ReadsRow (now (s .entry)) at count bare inside levels (treeAnswer r) ⌝ }
+    ensures { λ r. ⌜ ReadsRow (now (s .entry)) at count bare inside levels strict r ⌝ }
 {
     let mut here = at;
     let mut due = count;
     let mut next = bare;
     while due != 0 {
-        match read_tree(s, here, next, inside, levels) {
+        match read_tree(s, here, next, inside, levels, strict) {
             TreeRead::Deep => return TreeRead::Deep,
             TreeRead::Bad => return TreeRead::Bad,
+            TreeRead::Held(r) => return TreeRead::Held(r),
             TreeRead::To(end) => {
                 here = end;
                 due -= 1;

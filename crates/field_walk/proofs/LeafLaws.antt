@@ -181,21 +181,21 @@ leaf-paged s tree out out' (some (next, len)) w =
 
 module _ (s : Bytes) (t : Subtree) (out out' : Bytes) (r : LeafPut) where
   pub schema-written : (c : Call) → leafLineOf c ≡ L.Schema → SchemaLeafTold s (t .at) out out' (putOption r) → CallLeafWrote c s t out out' r
-  schema-written (Export big) e w = leaf-exported s (t .at) (t .levels) (t .inside) out out' big (putOption r) w
+  schema-written (Export big strict) e w = leaf-exported s (t .at) (t .levels) (t .inside) out out' big (putOption r) w
   schema-written Plain e w = absurd (not-schema e)
   schema-written ToStorageRecursive e w = absurd (not-schema e)
   schema-written UnderlyingPhysicalType e w = absurd (not-schema e)
   schema-written Page e w = absurd (page-schema e)
 
   pub same-written : (c : Call) (dates : Bool) → leafLineOf c ≡ L.Same dates → LeafCopyTold s (t .at) dates out out' (putOption r) → CallLeafWrote c s t out out' r
-  same-written (Export big) d e w = absurd (not-schema (sym e))
+  same-written (Export big strict) d e w = absurd (not-schema (sym e))
   same-written Plain d e w = leaf-plain s (t .at) (t .levels) (t .inside) out out' (putOption r) (subst (λ (x : Bool). LeafCopyTold s (t .at) x out out' (putOption r)) (sym (same-dates e)) w)
   same-written ToStorageRecursive d e w = leaf-stored s (t .at) (t .levels) (t .inside) out out' (putOption r) (subst (λ (x : Bool). LeafCopyTold s (t .at) x out out' (putOption r)) (sym (same-dates e)) w)
   same-written UnderlyingPhysicalType d e w = leaf-underlying s (t .at) (t .levels) (t .inside) out out' (putOption r) (subst (λ (x : Bool). LeafCopyTold s (t .at) x out out' (putOption r)) (sym (same-dates e)) w)
   same-written Page d e w = absurd (page-same e)
 
   pub page-written : (c : Call) → leafLineOf c ≡ L.Page → PageLeafTold s t out out' (putOption r) → CallLeafWrote c s t out out' r
-  page-written (Export big) e w = absurd (page-schema (sym e))
+  page-written (Export big strict) e w = absurd (page-schema (sym e))
   page-written Plain e w = absurd (page-same (sym e))
   page-written ToStorageRecursive e w = absurd (page-same (sym e))
   page-written UnderlyingPhysicalType e w = absurd (page-same (sym e))

@@ -25,7 +25,7 @@ use Rattle.field_walk.specs.declared.LeafLine.the-variants.{Schema, Same
 
 -- what a call carries from a line to those below it
 abbrev pub StateOf : Call → Type 0
-StateOf (Export big) = Option Bearer
+StateOf (Export big strict) = Option Bearer
 StateOf Plain = Bool
 StateOf ToStorageRecursive = Borne
 StateOf UnderlyingPhysicalType = Borne
@@ -33,7 +33,7 @@ StateOf Page = ℕ × Bool
 
 -- what it does with a line
 abbrev pub stepOf : (c : Call) → StateOf c → Head → Answer (Step (StateOf c))
-stepOf (Export big) = schemaStep big
+stepOf (Export big strict) = schemaStep big
 stepOf Plain = plainStep
 stepOf ToStorageRecursive = changeStep storageChange
 stepOf UnderlyingPhysicalType = changeStep underlyingChange
@@ -42,7 +42,7 @@ stepOf Page = pageStep
 -- the state at a line with so many levels left, its own among them, that stands directly in an extension, or not. Export and the mappings pass all
 -- extensions around a type at their first line, so they visit none in a state.
 abbrev pub stateOf : (c : Call) → ℕ → Bool → StateOf c
-stateOf (Export big) levels inside = none
+stateOf (Export big strict) levels inside = none
 stateOf Plain levels inside = inside
 stateOf ToStorageRecursive levels inside = none
 stateOf UnderlyingPhysicalType levels inside = none
@@ -50,7 +50,7 @@ stateOf Page levels inside = (levels, inside)
 
 -- what it writes for a leaf's short line: a schema line, a line of the page, or the line as it stands; a date's is another line underneath
 abbrev pub leafLineOf : Call → LeafLine
-leafLineOf (Export big) = Schema
+leafLineOf (Export big strict) = Schema
 leafLineOf Plain = Same true
 leafLineOf ToStorageRecursive = Same true
 leafLineOf UnderlyingPhysicalType = Same false

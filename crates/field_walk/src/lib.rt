@@ -12,9 +12,9 @@ use walks::Step;
 use walks::Subtree;
 use walks::Subtrees;
 
-// Which lines are written. Export takes the order of the metadata: big-endian, or not.
+// Which lines are written. Export takes the order of the metadata, big-endian or not, and whether the sheet was read strictly, which changes no line.
 pub enum Call {
-    Export(bool),
+    Export { big: bool, strict: bool },
     Plain,
     ToStorageRecursive,
     UnderlyingPhysicalType,
@@ -27,7 +27,7 @@ fn begin_one(call: Call, s: &[u8], tree: Subtree, out: &mut [u8]) -> LineBegun
     ensures { λ r. ⌜ CallBegins call (now (s .entry)) tree (now (out .entry)) (now (out .exit)) r ⌝ }
 {
     match call {
-        Call::Export(big) => export_line::begin_export(s, tree, big, out),
+        Call::Export { big, strict: _ } => export_line::begin_export(s, tree, big, out),
         Call::Plain => plain_line::begin_plain(s, tree, out),
         Call::ToStorageRecursive => mapping_line::begin_change(Change::Storage, s, tree, out),
         Call::UnderlyingPhysicalType => mapping_line::begin_change(
@@ -96,7 +96,7 @@ fn leaf_line(call: Call) -> LeafLine
     ensures { λ r. ⌜ r ≡ leafLineOf call ⌝ }
 {
     match call {
-        Call::Export(_) => LeafLine::Schema,
+        Call::Export { big: _, strict: _ } => LeafLine::Schema,
         Call::Plain => LeafLine::Same(true),
         Call::ToStorageRecursive => LeafLine::Same(true),
         Call::UnderlyingPhysicalType => LeafLine::Same(false),

@@ -6,8 +6,8 @@ use Prim.Native.Nat.{ℕ, zero, suc, _-_}
 use lib.Dec.{eqb}
 use lib.ListN.{length, replicate}
 use Rattle.sheets.specs.Bytes.{Bytes, same}
-use Rattle.sheets.specs.Outcome.{Outcome, Measure, Places, YesNo, isYes, importOutcomeIn, exportOutcomeIn, plainOutcome, toPhysicalTypeOutcome, underlyingPhysicalTypeOutcome, toStorageOutcome, toStorageRecursiveOutcome, innerDtypeOutcome, getChildOutcome, isNestedOutcome, containsDictionaryOutcome, fromIntegerTypeOutcome, fromPrimitiveTypeOutcome, pageOutcome, measureImportOutcome, measureExportOutcome}
-use Rattle.recorded_list.specs.Codes.{importCall, exportCall, plainCall, toPhysicalTypeCall, underlyingPhysicalTypeCall, toStorageCall, toStorageRecursiveCall, innerDtypeCall, getChildCall, isNestedCall, containsDictionaryCall, fromIntegerTypeCall, pageCall, measureImportCall, measureExportCall}
+use Rattle.sheets.specs.Outcome.{Outcome, Measure, Places, YesNo, isYes, importOutcomeIn, exportOutcomeIn, strictExportOutcome, plainOutcome, toPhysicalTypeOutcome, underlyingPhysicalTypeOutcome, toStorageOutcome, toStorageRecursiveOutcome, innerDtypeOutcome, getChildOutcome, isNestedOutcome, containsDictionaryOutcome, fromIntegerTypeOutcome, fromPrimitiveTypeOutcome, pageOutcome, measureImportOutcome, measureExportOutcome}
+use Rattle.recorded_list.specs.Codes.{importCall, exportCall, plainCall, toPhysicalTypeCall, underlyingPhysicalTypeCall, toStorageCall, toStorageRecursiveCall, innerDtypeCall, getChildCall, isNestedCall, containsDictionaryCall, fromIntegerTypeCall, pageCall, measureImportCall, measureExportCall, strictExportCall}
 use Rattle.recorded_list.specs.ListText.{Record}
 use Rattle.recorded_list.specs.declared.records.Header.{Header}
 use Rattle.judge.specs.declared.Replayed.{Replayed}
@@ -52,8 +52,9 @@ sheetOutcome call argument s out =
     (cond (eqb call innerDtypeCall) (innerDtypeOutcome s out)
     (cond (eqb call getChildCall) (getChildOutcome s argument out)
     (cond (eqb call pageCall) (pageOutcome s out)
+    (cond (eqb call strictExportCall) (strictExportOutcome (isYes argument) s out)
     (cond (eqb call fromIntegerTypeCall) (fromIntegerTypeOutcome argument out)
-    (fromPrimitiveTypeOutcome argument out))))))))))
+    (fromPrimitiveTypeOutcome argument out)))))))))))
 
 -- ── calls that answer numbers
 

@@ -33,6 +33,7 @@ fn name(of: u64) {
         call::PAGE => put(b"page"),
         call::MEASURE_IMPORT => put(b"measure_import"),
         call::MEASURE_EXPORT => put(b"measure_export"),
+        call::STRICT_EXPORT => put(b"strict_export"),
         _ => put(b"no call"),
     }
 }

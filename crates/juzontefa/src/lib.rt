@@ -1,7 +1,7 @@
 // The calls for a host: over pointers and lengths, with nothing demanded of the caller. `include/juzontefa.h` declares them for C.
 ghost use mathlib.Core.Path.{_≡_};
-ghost use Rattle.sheets.specs.Outcome.{isYes, importOutcomeIn, exportOutcomeIn, importOutcome, exportOutcome, measureImportOutcome, measureExportOutcome, plainOutcome, pageOutcome, toPhysicalTypeOutcome, underlyingPhysicalTypeOutcome, toStorageOutcome, toStorageRecursiveOutcome, innerDtypeOutcome, getChildOutcome, isNestedOutcome, containsDictionaryOutcome, fromIntegerTypeOutcome, fromPrimitiveTypeOutcome};
-ghost use Rattle.sheets.specs.RoundTrip.{roundTripOutcomeIn, roundTripOutcome};
+ghost use Rattle.sheets.specs.Outcome.{isYes, importOutcomeIn, exportOutcomeIn, importOutcome, exportOutcome, strictExportOutcome, measureImportOutcome, measureExportOutcome, plainOutcome, pageOutcome, toPhysicalTypeOutcome, underlyingPhysicalTypeOutcome, toStorageOutcome, toStorageRecursiveOutcome, innerDtypeOutcome, getChildOutcome, isNestedOutcome, containsDictionaryOutcome, fromIntegerTypeOutcome, fromPrimitiveTypeOutcome};
+ghost use Rattle.sheets.specs.RoundTrip.{roundTripOutcomeIn, strictRoundTripOutcome, roundTripOutcome};
 ghost use Rattle.outcome.specs.Answers.{outcomeOf};
 ghost use Rattle.round_trips.specs.Trips.{four};
 ghost use Rattle.juzontefa.specs.Answers.{answerFor, measureTold, measureFor, placesTold, placesFor, yesNoTold, yesNoFor};
@@ -57,6 +57,14 @@ pub extern "C" fn juzontefa_export_with_order(sheet: &[u8], big: u64, out: &mut 
     ensures { λ r. ⌜ outcomeOf (r .number) (r .length) (now (out .exit)) ≡ exportOutcomeIn (isYes big) (now (sheet .entry)) (now (out .entry)) ⌝ }
 {
     answer_of(field_calls::export(sheet, big != 0, out))
+}
+
+// The same of a field that is sure to come back: a reserved key or a 128-bit dictionary index on any of its lines is refused.
+#[no_mangle]
+pub extern "C" fn juzontefa_strict_export(sheet: &[u8], big: u64, out: &mut [u8]) -> Answer
+    ensures { λ r. ⌜ outcomeOf (r .number) (r .length) (now (out .exit)) ≡ strictExportOutcome (isYes big) (now (sheet .entry)) (now (out .entry)) ⌝ }
+{
+    answer_of(field_calls::strict_export(sheet, big != 0, out))
 }
 
 // The number, 0 for success, the length of what the conversion would write, and how many lines of the sheet it would visit.
@@ -163,7 +171,7 @@ pub extern "C" fn juzontefa_round_trip(
 ) -> Trip
     ensures { λ r. ⌜ hostTold (r .answer) (r .number) (four (now (exported .exit)) (now (imported .exit)) (now (plain .exit)) (now (again .exit))) ≡ hostTrip (roundTripOutcome (now (sheet .entry)) (four (now (exported .entry)) (now (imported .entry)) (now (plain .entry)) (now (again .entry)))) ⌝ }
 {
-    trip_of(round_trips::round_trip(sheet, false, exported, imported, plain, again))
+    trip_of(round_trips::round_trip(sheet, false, false, exported, imported, plain, again))
 }
 
 // The same with metadata in the order that the caller says: big-endian unless the number is 0.
@@ -178,7 +186,22 @@ pub extern "C" fn juzontefa_round_trip_with_order(
 ) -> Trip
     ensures { λ r. ⌜ hostTold (r .answer) (r .number) (four (now (exported .exit)) (now (imported .exit)) (now (plain .exit)) (now (again .exit))) ≡ hostTrip (roundTripOutcomeIn (isYes big) (now (sheet .entry)) (four (now (exported .entry)) (now (imported .entry)) (now (plain .entry)) (now (again .entry)))) ⌝ }
 {
-    trip_of(round_trips::round_trip(sheet, big != 0, exported, imported, plain, again))
+    trip_of(round_trips::round_trip(sheet, false, big != 0, exported, imported, plain, again))
+}
+
+// The same with both exports strict.
+#[no_mangle]
+pub extern "C" fn juzontefa_strict_round_trip(
+    sheet: &[u8],
+    big: u64,
+    exported: &mut [u8],
+    imported: &mut [u8],
+    plain: &mut [u8],
+    again: &mut [u8],
+) -> Trip
+    ensures { λ r. ⌜ hostTold (r .answer) (r .number) (four (now (exported .exit)) (now (imported .exit)) (now (plain .exit)) (now (again .exit))) ≡ hostTrip (strictRoundTripOutcome (isYes big) (now (sheet .entry)) (four (now (exported .entry)) (now (imported .entry)) (now (plain .entry)) (now (again .entry)))) ⌝ }
+{
+    trip_of(round_trips::round_trip(sheet, true, big != 0, exported, imported, plain, again))
 }
 
 // The number, 0 for success, and the places of the physical type and of the primitive or index type that it carries, 0 if it carries none.

@@ -10,7 +10,7 @@ use Rattle.sheets.specs.Bytes.{Bytes, all, same, isByte}
 use Rattle.sheets.specs.Text.{hex}
 use Rattle.sheets.specs.Field.{Pair, before}
 use Rattle.sheets.specs.Metadata.{reserved, insertNew, ordinary}
-use Rattle.sheets.specs.Demand3.{noReserved}
+use Rattle.sheets.specs.Strict.{noReserved}
 use Rattle.key_order.specs.Entry.{Each}
 use Rattle.key_order.specs.Order.{insertEntry, ordered}
 use Rattle.byte_order.proofs.HexOrderLaws.{before-hex, same-hex}

@@ -20,7 +20,7 @@ use Rattle.sheets.proofs.TreeWalks.{line-below}
 use Rattle.read_field_line.specs.FieldLines.{FieldLineAt}
 use Rattle.read_field_line.specs.declared.FieldLine.{FieldLine}
 use Rattle.field_leaf.specs.FieldLeaves.{FieldLeafAt}
-use Rattle.field_sheet.proofs.ReadLaws.{leaf-read}
+use Rattle.field_sheet.proofs.ReadLaws.{leaf-to}
 use Rattle.nesting.specs.Nestings.{shapeNesting, typeNesting, kindNesting}
 use Rattle.nesting.specs.declared.Nesting.{Nesting}
 use Rattle.nesting.specs.declared.Nesting.the-variants as N
@@ -84,7 +84,7 @@ scalar-contains (extension n m t) h = never (sym h)
 module _ {s : Bytes} {at levels : ℕ} {inside : Bool} {i : Option Info} {t : ArrowDataType} {es : List Entry} (f : TypeAt s at levels inside i t es) where
   pub leaf-searched : {kind from e n : ℕ} → FieldLeafAt s at kind from e n → SearchedAs s es (containsDictionary t) (some (e + 7))
   leaf-searched {kind} {from} {e} {n} k =
-      let d = leaf-read k false refl inside levels (some-level f) .1 (i, t) es (f .stands) in
+      let d = leaf-to k inside levels (some-level f) (i, t) es (f .stands) in
       (scalar-contains t (ap (λ (x : Head). nestingNested (shapeNesting (x .shape))) (line-below fields-lawful (k .line) (i, t) es (f .stands) .0)), d .1, d .3)
 
   module _ {l : FieldLine} (k : FieldLineAt s at l) where

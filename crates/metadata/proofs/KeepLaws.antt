@@ -12,7 +12,7 @@ use lib.Seq.{take-suc-set}
 use Rattle.sheets.specs.Rule.{Meets}
 use Rattle.sheets.specs.Bytes.{Bytes, same}
 use Rattle.sheets.specs.Field.{Pair}
-use Rattle.sheets.specs.Demand3.{noReserved}
+use Rattle.sheets.specs.Strict.{noReserved}
 use Rattle.sheets.specs.Metadata.{nameKey, metadataKey, reserved, insertNew, ordinary, orElse, valueOf, extensionOf, somePairs, meaning}
 use Rattle.sheets.proofs.BytesLaws.{same-eq}
 use Rattle.sheets.proofs.SameLaws.{lengths-differ}

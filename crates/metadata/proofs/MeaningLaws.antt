@@ -13,7 +13,7 @@ use Rattle.sheets.specs.Rule.{Meets}
 use Rattle.sheets.specs.Bytes.{Bytes}
 use Rattle.sheets.specs.Answer.{Answer, refused, given, _>>=_}
 use Rattle.sheets.specs.Field.{Pair}
-use Rattle.sheets.specs.Demand3.{noReserved}
+use Rattle.sheets.specs.Strict.{noReserved}
 use Rattle.sheets.specs.Metadata.{value32, takePairs, countOf, readBlock, extensionOf, Extension, somePairs, meaning, metadataFromBytes}
 use Rattle.hex.specs.Hex.{isHex, bytesOf}
 use Rattle.hex.proofs.HexLaws.{twice-length}

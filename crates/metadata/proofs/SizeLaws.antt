@@ -16,7 +16,7 @@ use Rattle.sheets.specs.Utf8.{isUtf8}
 use Rattle.sheets.specs.Text.{hex, writeText}
 use Rattle.sheets.specs.Field.{Pair, before}
 use Rattle.sheets.specs.FieldSheet.{writeList, pairText}
-use Rattle.sheets.specs.Demand3.{noReserved}
+use Rattle.sheets.specs.Strict.{noReserved}
 use Rattle.sheets.specs.Metadata.{value32, cutAt, takeText, takePairs, countOf, readBlock, reserved, insertNew, ordinary, Extension, somePairs, meaning, metadataFromBytes}
 use Rattle.sheets.proofs.Tests.{not-given, same-given, first-gave, met-when}
 use Rattle.hex.specs.Hex.{isHex, bytesOf}

@@ -9,7 +9,7 @@ use Rattle.sheets.specs.Rule.{Meets}
 use Rattle.sheets.specs.Bytes.{Bytes}
 use Rattle.sheets.specs.Answer.{Answer, refused, given, _>>=_}
 use Rattle.sheets.specs.Field.{Pair}
-use Rattle.sheets.specs.Demand3.{noReserved}
+use Rattle.sheets.specs.Strict.{noReserved}
 use Rattle.sheets.specs.Metadata.{takePairs, nameKey, metadataKey, reserved, ordinary, valueOf, Extension, extensionOf, somePairs}
 use Rattle.refusal.specs.Refusals.{refusalOf}
 use Rattle.hex.specs.Hex.{isHex, bytesOf}

@@ -34,6 +34,10 @@ const UNDEFINED_MAPPING: u8 = 15;
 
 const NO_ROOM: u8 = 16;
 
+const RESERVED_KEY: u8 = 17;
+
+const WIDE_INDEX: u8 = 18;
+
 fn put(text: &[u8]) {
     io::write_all(STDERR_FILENO, text);
 }
@@ -65,7 +69,7 @@ fn say_producer(number: u8) {
     put(b" (the schema's producer)\n");
 }
 
-// `NO_FORMAT` to `UNDEFINED_MAPPING`.
+// `NO_FORMAT` to `UNDEFINED_MAPPING`, `RESERVED_KEY` and `WIDE_INDEX`.
 fn say_owner(number: u8) {
     match number {
         NO_FORMAT => put(
@@ -73,6 +77,10 @@ fn say_owner(number: u8) {
         ),
         NO_UNION_IDS => put(b"the ids of a union are `-`, or `~` over no fields"),
         ZERO_BYTE => put(b"byte 00 stands in a line's name or timezone"),
+        RESERVED_KEY => put(
+            b"a reserved key, ARROW:extension:name or ARROW:extension:metadata, stands among the pairs of a line",
+        ),
+        WIDE_INDEX => put(b"a dictionary has an index of 128 bits"),
         _ => put(
             b"the mapping is undefined there, there is no such child (`inner_dtype` of other kinds too), or no such place to convert",
         ),
@@ -86,7 +94,7 @@ fn say_caller() {
     put(b" (the caller)\n");
 }
 
-// Says nothing of a number that is no refusal's. The numbers stand by whose the refusal is.
+// Says nothing of a number that is no refusal's. Up to `NO_ROOM` the numbers stand by whose the refusal is; those that came later are the owner's.
 pub fn say(number: u8) {
     if number == 0 {
         return;
@@ -101,6 +109,9 @@ pub fn say(number: u8) {
         return say_owner(number);
     }
     if number == NO_ROOM {
-        say_caller();
+        return say_caller();
+    }
+    if number <= WIDE_INDEX {
+        say_owner(number);
     }
 }

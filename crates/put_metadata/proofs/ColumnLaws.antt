@@ -26,8 +26,8 @@ use Rattle.schema_line.specs.Texts.{textIn}
 use Rattle.schema_line.proofs.TextLaws.{text-shorter}
 use Rattle.column_text.specs.ColumnText.{columnText}
 use Rattle.column_text.proofs.ColumnTextLaws.{HasText, column-none, column-some, column-says}
-use Rattle.put_metadata.specs.Pairs.{Pairs, pairsIn, pairsOf, pairsText, firstPlace}
-use Rattle.put_metadata.proofs.PairsLaws.{pairs-rule, pairs-end, pairs-of, pairs-in, first-pairs}
+use Rattle.field_pairs.specs.Pairs.{Pairs, pairsIn, pairsOf, pairsText, firstPlace}
+use Rattle.field_pairs.proofs.PairsLaws.{pairs-rule, pairs-end, pairs-of, pairs-in, first-pairs}
 use Rattle.put_metadata.specs.Block.{metadataColumn, pairPieces, blockText, beforeText, fromText, afterText, moreDone, moreRest}
 use Rattle.put_metadata.specs.Walks.{Moves, leftOf, PutsUntil, PutsReserved, PutsMore, PutsLeft, IsAfter, CanWalk, CanPutReserved, CanPutMore, CanPutMetadata}
 use Rattle.put_metadata.specs.declared.Walk.{Walk}

@@ -1,4 +1,3 @@
-pub mod PairsLaws
 pub mod BlockLaws
 pub mod WalkLaws
 pub mod MergeLaws

@@ -10,12 +10,12 @@ use Rattle.sheets.specs.Bytes.{Bytes, isByte, all, same}
 use Rattle.sheets.specs.Text.{hex}
 use Rattle.sheets.specs.Field.{Pair, before}
 use Rattle.sheets.specs.Metadata.{nameKey, metadataKey, insertOver, withMetadata}
-use Rattle.sheets.proofs.Tests.{meets}
 use Rattle.sheets.proofs.BytesLaws.{same-eq, same-refl}
 use Rattle.sheets.proofs.Utf8Laws.{utf8-bytes}
 use Rattle.sheets.proofs.MetadataLaws.{textPair}
 use Rattle.byte_order.proofs.HexOrderLaws.{before-hex, same-hex}
 use Rattle.sheets.proofs.OrderLaws.{before-trans, not-back, not-same, same-back, connected}
+use Rattle.field_pairs.proofs.ReservedLaws.{name-bytes, metadata-bytes}
 use Rattle.put_metadata.specs.Block.{beforeText, fromText, afterText, moreDone, moreRest}
 
 -- the pairs before a key, and the key with its value
@@ -73,12 +73,6 @@ placed-before n k v (q ∷ ps) h r b = pick (before (q .0) k) refl (placed-befor
     pick : (t : Bool) → before (q .0) k ≡ t → EachBefore n (placed k v ps) → EachBefore n (placed k v (q ∷ ps))
     pick true e next = rw (before-hex (q .0) k (utf8-bytes (q .0) (r .0 .0)) h, e) (before-trans (q .0) k n e b, next)
     pick false e next = rw (before-hex (q .0) k (utf8-bytes (q .0) (r .0 .0)) h, e) (b, tt)
-
-pub name-bytes : Meets (all isByte nameKey)
-name-bytes = meets (all isByte nameKey) refl
-
-metadata-bytes : Meets (all isByte metadataKey)
-metadata-bytes = meets (all isByte metadataKey) refl
 
 -- the extension's metadata first, its name then: `m` of `metadata` stands before `n` of `name`
 pub merged : (n : Bytes) (m : Option Bytes) (ps : List Pair) → Meets (each textPair ps) → Meets (each textPair (moreRest m ps))

@@ -15,9 +15,9 @@ use Rattle.sheets.proofs.MetadataLaws.{word-text, pairs-length, block-length}
 use Rattle.hex.proofs.PartLaws.{length-hex}
 use Rattle.column_text.specs.ColumnText.{columnText, TextColumn}
 use Rattle.column_text.proofs.ColumnTextLaws.{column-is}
-use Rattle.put_metadata.specs.Pairs.{PairsColumn, pairsIn, pairsText, afterCommas}
+use Rattle.field_pairs.specs.Pairs.{PairsColumn, pairsIn, pairsText, afterCommas}
 use Rattle.put_metadata.specs.Block.{metadataColumn}
-use Rattle.put_metadata.proofs.PairsLaws.{pairs-in, joined}
+use Rattle.field_pairs.proofs.PairsLaws.{pairs-in, joined}
 
 -- ── a pair
 

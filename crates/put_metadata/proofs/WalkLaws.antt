@@ -2,10 +2,10 @@
 use mathlib.Core.Path.{_≡_, refl, sym, ap, ap₂, _∙_}
 use mathlib.Core.Bool.{Bool, true, false, true≢false}
 use mathlib.Core.List.{List, [], _∷_, _++_, append-assoc, append-nil}
-use Prim.Native.Nat.{ℕ, _+_, _-_, _≤_, _<_}
+use Prim.Native.Nat.{ℕ, _+_, _-_, _≤_}
 use native.Mathlib.Omega.{arith}
 use lib.ListN.{length, getD, drop, length-append, length-take, length-drop}
-use borrow.Author.Tests.{lt-ltb, ltb-true}
+use borrow.Author.Tests.{ltb-true}
 use Rattle.sheets.specs.Bytes.{Bytes, same}
 use Rattle.sheets.specs.Text.{hex}
 use Rattle.sheets.specs.Field.{Pair, before}
@@ -13,10 +13,10 @@ use Rattle.sheets.proofs.OrderLaws.{not-back, not-same, same-back}
 use Rattle.buffer.specs.Over.{overAt}
 use Rattle.buffer.proofs.OverLaws.{Written, and-then, overAt-nothing}
 use Rattle.columns.specs.Columns.{part}
-use Rattle.put_metadata.specs.Pairs.{Pairs, pairsOf, PairAt}
-use Rattle.put_metadata.specs.declared.pairs.PairPlace.{PairPlace}
-use Rattle.put_metadata.proofs.PairsLaws.{pairs-end}
-use Rattle.put_metadata.specs.Block.{pairPieces, blockText, beforeText, fromText, afterText, laterText}
+use Rattle.field_pairs.specs.Pairs.{Pairs, pairsOf, PairAt, laterText}
+use Rattle.field_pairs.specs.declared.PairPlace.{PairPlace}
+use Rattle.field_pairs.proofs.PairsLaws.{pairs-end, first-later}
+use Rattle.put_metadata.specs.Block.{pairPieces, blockText, beforeText, fromText, afterText}
 use Rattle.put_metadata.specs.Walks.{Moves, leftOf, PutsFound, PutsUntil, IsAfter, CanWalk}
 use Rattle.put_metadata.specs.declared.Walk.{Walk}
 use Rattle.put_metadata.proofs.BlockLaws.{pieces-length, pair-block, block-append, block-none}
@@ -144,12 +144,6 @@ from-none key = refl
 after-none : (key : Bytes) → afterText key [] ≡ []
 unfolding afterText
 after-none key = refl
-
--- a text whose first byte is greater stands after
-first-later : (a key : Bytes) → getD key 0 0 < getD a 0 0 → before key a ≡ true
-first-later [] key h = absurd (omega arith)
-first-later (x ∷ a) [] h = refl
-first-later (x ∷ a) (y ∷ key) h = rw (lt-ltb y x h)
 
 -- a first pair that comes later is not before the key and does not have it
 later-pairs : (key : Bytes) (ps : List Pair) → laterText key ps ≡ true → (beforeText key ps ≡ []) × (fromText key ps ≡ ps) × (afterText key ps ≡ ps)

@@ -1,17 +1,16 @@
 -- The metadata column of a schema line from columns of a field line, and the pieces that it is written in. Assumes nothing.
-use mathlib.Core.Bool.{Bool, false, cond}
+use mathlib.Core.Bool.{Bool, cond}
 use mathlib.Core.List.{List, [], _∷_, _++_}
 use mathlib.Core.Option.{Option, none, some}
 use Prim.Native.Nat.{_/_}
-use lib.Dec.{ltb}
-use lib.ListN.{length, getD}
+use lib.ListN.{length}
 use Rattle.sheets.specs.Bytes.{Bytes, same}
 use Rattle.sheets.specs.Text.{hex, writeText}
 use Rattle.sheets.specs.Field.{Pair, before}
 use Rattle.sheets.specs.Metadata.{writePairs, metadataKey, extensionOf, schemaMetadata}
 use Rattle.column_text.specs.ColumnText.{columnText}
 use Rattle.endian.specs.Word.{wordBytes}
-use Rattle.put_metadata.specs.Pairs.{pairsIn}
+use Rattle.field_pairs.specs.Pairs.{pairsIn}
 
 -- the metadata of the schema line: from the columns `pairs`, and `text` and `more` of the extension; a name that is `~` is none
 unfoldable pub metadataColumn : Bool → Bytes → Bytes → Bytes → Bytes
@@ -48,11 +47,6 @@ fromText key (p ∷ ps) = cond (before (hex (p .0)) key) (fromText key ps) (p �
 unfoldable pub afterText : Bytes → List Pair → List Pair
 afterText key [] = []
 afterText key (p ∷ ps) = cond (same (hex (p .0)) key) ps (p ∷ ps)
-
--- whether the first digits tell that the first pair's key stands after the key; 0, where there is no digit, stands before every digit
-unfoldable pub laterText : Bytes → List Pair → Bool
-laterText key [] = false
-laterText key (p ∷ ps) = ltb (getD key 0 0) (getD (hex (p .0)) 0 0)
 
 -- the pairs up to the extension's metadata, and that
 unfoldable pub moreDone : Option Bytes → List Pair → List Pair

@@ -11,8 +11,8 @@ use Rattle.buffer.specs.Over.{overAt, IsUsize}
 use Rattle.endian.specs.Word.{wordBytes}
 use Rattle.columns.specs.Columns.{part}
 use Rattle.column_text.specs.ColumnText.{columnText, TextColumn}
-use Rattle.put_metadata.specs.Pairs.{PairsColumn, Pairs, pairsOf}
-use Rattle.put_metadata.specs.declared.pairs.PairPlace.{PairPlace}
+use Rattle.field_pairs.specs.Pairs.{PairsColumn, Pairs, pairsOf}
+use Rattle.field_pairs.specs.declared.PairPlace.{PairPlace}
 use Rattle.put_metadata.specs.Block.{pairPieces, blockText, beforeText, fromText, afterText, moreDone, moreRest}
 use Rattle.put_metadata.specs.declared.Walk.{Walk}
 

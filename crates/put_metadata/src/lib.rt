@@ -1,15 +1,12 @@
 // The metadata column of a schema line: the block of `metadata_to_bytes` in hexadecimal, from the column `pairs` of a field line and the
 // columns of its extension; its count and lengths are big-endian (`big`) or not. The pairs stand in the order of their keys, so that the reserved keys are merged in on one walk.
-pub mod pairs;
-
-ghost use mathlib.Core.Path.{_≡_};
 ghost use Prim.Native.Nat.{_<_};
-ghost use lib.ListN.{length, drop};
+ghost use lib.ListN.{length};
 ghost use Rattle.buffer.specs.Over.{PutAt};
-ghost use Rattle.put_metadata.specs.Pairs.{Pairs, PairsFrom, pairsOf, PairAt};
-ghost use Rattle.put_metadata.specs.Block.{sizedText, pairPieces, laterText, metadataColumn};
+ghost use Rattle.field_pairs.specs.Pairs.{Pairs, PairAt};
+ghost use Rattle.put_metadata.specs.Block.{sizedText, pairPieces, metadataColumn};
 ghost use Rattle.put_metadata.specs.Walks.{PutsFound, PutsUntil, PutsReserved, PutsMore, IsAfter, PutsLeft, CanPutText, CanPutPair, CanWalk, CanPutReserved, CanPutMore, CanPutLeft, CanPutMetadata};
-use crate::pairs::PairPlace;
+use field_pairs::PairPlace;
 
 // How far the pairs are written: a place in the column, the place in the buffer, and the number of pairs.
 struct Walk {
@@ -53,18 +50,6 @@ fn put_found(out: &mut [u8], w: Walk, pairs: &[u8], p: PairPlace, big: bool) -> 
     }
 }
 
-// Whether the first digit tells that the pair at `place` has a key that stands after `key`. An empty key has no digit: it stands before every other.
-fn comes_later(pairs: &[u8], place: usize, key: &[u8]) -> bool
-    requires { ⌜ PairsFrom (now pairs) place × (0 < length (now key)) ⌝ }
-    ensures { λ r. ⌜ r ≡ laterText (now (key .entry)) (pairsOf (drop place (now (pairs .entry)))) ⌝ }
-{
-    let b = pairs[place];
-    if b == b'=' {
-        return false;
-    }
-    key[0] < b
-}
-
 // The pairs whose keys stand before `key`. Hexadecimal text keeps the order of bytes, so that nothing is decoded.
 fn put_until(out: &mut [u8], w: Walk, pairs: &[u8], key: &[u8], big: bool) -> Walk
     requires { ⌜ CanWalk (now pairs) w 0 × (0 < length (now key)) ⌝ }
@@ -73,10 +58,10 @@ fn put_until(out: &mut [u8], w: Walk, pairs: &[u8], key: &[u8], big: bool) -> Wa
     let mut walk = w;
     while walk.place < pairs.len() {
         let place = walk.place;
-        if comes_later(pairs, place, key) {
+        if field_pairs::comes_later(pairs, place, key) {
             return walk;
         }
-        let p = crate::pairs::pair_at(pairs, place);
+        let p = field_pairs::pair_at(pairs, place);
         let equals = p.equals;
         if !byte_order::is_before(&pairs[place..equals], key) {
             return walk;
@@ -94,10 +79,10 @@ fn after_same(pairs: &[u8], place: usize, key: &[u8]) -> usize
     if pairs.len() <= place {
         return place;
     }
-    if comes_later(pairs, place, key) {
+    if field_pairs::comes_later(pairs, place, key) {
         return place;
     }
-    let p = crate::pairs::pair_at(pairs, place);
+    let p = field_pairs::pair_at(pairs, place);
     let equals = p.equals;
     if buffer::same(&pairs[place..equals], key) {
         return p.next;
@@ -163,7 +148,7 @@ pub fn put_metadata(
     requires { ⌜ CanPutMetadata (now pairs) (now name) (now more) at ⌝ }
     ensures { λ r. ⌜ PutAt at (metadataColumn big (now (pairs .entry)) (now (name .entry)) (now (more .entry))) r (now (out .entry)) (now (out .exit)) ⌝ }
 {
-    let place = crate::pairs::first_place(pairs);
+    let place = field_pairs::first_place(pairs);
     let w = Walk {
         place,
         end: at + 8,

@@ -9,7 +9,7 @@ use Rattle.sheets.specs.Number.{decimal}
 use Rattle.sheets.specs.Field.{leaf}
 use Rattle.sheets.specs.FieldSheet.{ofScalar}
 use Rattle.column_text.specs.ColumnText.{columnText}
-use Rattle.put_metadata.specs.Pairs.{pairsIn}
+use Rattle.field_pairs.specs.Pairs.{pairsIn}
 use Rattle.put_format.specs.LineFormat.{lineShape}
 use Rattle.put_schema_line.specs.Lines.{lineText, CanPutColumns}
 use Rattle.put_schema_line.specs.declared.LineNumbers.{LineNumbers}

@@ -37,9 +37,9 @@ use Rattle.field_line.specs.Columns.{column, endPiece}
 use Rattle.field_line.proofs.LengthLaws.{number-short}
 use Rattle.column_text.specs.ColumnText.{hasZero, TextColumn}
 use Rattle.column_text.proofs.ColumnTextLaws.{column-is, column-says}
-use Rattle.put_metadata.specs.Pairs.{firstPlace}
+use Rattle.field_pairs.specs.Pairs.{firstPlace}
 use Rattle.put_metadata.specs.Block.{metadataColumn}
-use Rattle.put_metadata.proofs.PairsLaws.{pairs-in}
+use Rattle.field_pairs.proofs.PairsLaws.{pairs-in}
 use Rattle.put_metadata.proofs.ColumnLaws.{no-metadata}
 use Rattle.put_metadata.proofs.SizeLaws.{metadata-size}
 use Rattle.put_format.specs.Formats.{exportedAnswer, Formats}

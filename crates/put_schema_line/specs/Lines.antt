@@ -22,7 +22,7 @@ use Rattle.columns.specs.Columns.{part}
 use Rattle.columns.specs.declared.Part.{Part}
 use Rattle.field_line.specs.Columns.{column, endPiece}
 use Rattle.column_text.specs.ColumnText.{columnText, hasZero, TextColumn}
-use Rattle.put_metadata.specs.Pairs.{PairsColumn, pairsIn, firstPlace}
+use Rattle.field_pairs.specs.Pairs.{PairsColumn, pairsIn, firstPlace}
 use Rattle.put_format.specs.Formats.{exportedAnswer}
 use Rattle.put_format.specs.LineFormat.{lineFormat, CanFormat}
 use Rattle.put_format.specs.declared.Exported.{Exported}

@@ -5,7 +5,7 @@ ghost use mathlib.Core.List.{[], _∷_};
 ghost use lib.Dec.{eqb, ltb};
 ghost use Rattle.buffer.specs.Over.{PutAt};
 ghost use Rattle.column_text.specs.ColumnText.{TextColumn};
-ghost use Rattle.put_metadata.specs.Pairs.{PairsColumn};
+ghost use Rattle.field_pairs.specs.Pairs.{PairsColumn};
 ghost use Rattle.put_metadata.specs.Block.{metadataColumn};
 ghost use Rattle.put_schema_line.specs.Lines.{otherFlags, lineFlags, namePiece, tailPiece, restPiece, isPlain, columnAt, IsPart, LinePut, CanPutName, CanPutTail, CanPutPlain, CanPutRest, CanPutLine, CanPutColumns, PutsColumns};
 use columns::Part;
@@ -101,7 +101,7 @@ fn is_plain(n: LineNumbers, pairs: &[u8], extension: &[u8]) -> bool
     requires { ⌜ PairsColumn (now pairs) ⌝ }
     ensures { λ r. ⌜ r ≡ isPlain n (now (pairs .entry)) (now (extension .entry)) ⌝ }
 {
-    if put_metadata::pairs::first_place(pairs) < pairs.len() {
+    if field_pairs::first_place(pairs) < pairs.len() {
         return false;
     }
     if !buffer::same(extension, b"~") {

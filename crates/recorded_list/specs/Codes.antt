@@ -49,6 +49,9 @@ measureImportCall = 14
 abbrev pub measureExportCall : ℕ
 measureExportCall = 15
 
+abbrev pub strictExportCall : ℕ
+strictExportCall = 16
+
 -- the codes are the numbers below this
 abbrev pub calls : ℕ
-calls = 16
+calls = 17

@@ -31,5 +31,7 @@ pub const MEASURE_IMPORT: u64 = 14;
 
 pub const MEASURE_EXPORT: u64 = 15;
 
+pub const STRICT_EXPORT: u64 = 16;
+
 // The codes are the numbers below this.
-pub const CALLS: usize = 16;
+pub const CALLS: usize = 17;

@@ -1,5 +1,5 @@
--- The reason of document 01 that each case of the code's enumeration stands for; its number is `numberOf`. Assumes nothing.
-use Rattle.sheets.specs.Refusal.{Refusal as Reason, notSheet, badLines, tooDeep, nullFormat, notUtf8, unsupportedFormat, badNumber, badDecimal, badIndex, noChild, badMetadata, noFormat, noUnionIds, zeroByte, undefinedMapping}
+-- The reason of documents 01 and 02 that each case of the code's enumeration stands for; its number is `numberOf`. Assumes nothing.
+use Rattle.sheets.specs.Refusal.{Refusal as Reason, notSheet, badLines, tooDeep, nullFormat, notUtf8, unsupportedFormat, badNumber, badDecimal, badIndex, noChild, badMetadata, noFormat, noUnionIds, zeroByte, undefinedMapping, reservedKey, wideIndex}
 use Rattle.refusal.specs.declared.Refusal.{Refusal}
 use Rattle.refusal.specs.declared.Refusal.the-variants as R
 
@@ -19,3 +19,5 @@ refusalOf R.NoFormat = noFormat
 refusalOf R.NoUnionIds = noUnionIds
 refusalOf R.ZeroByte = zeroByte
 refusalOf R.UndefinedMapping = undefinedMapping
+refusalOf R.ReservedKey = reservedKey
+refusalOf R.WideIndex = wideIndex

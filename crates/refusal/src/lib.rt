@@ -1,4 +1,4 @@
-// Why a sheet is refused (document 01, 'Who is turned back'): the reasons by name, and the number of each.
+// Why a sheet is refused (document 01, 'Who is turned back', and the requests of document 02): the reasons by name, and the number of each.
 ghost use mathlib.Core.Path.{_≡_};
 ghost use Rattle.sheets.specs.Refusal.{numberOf};
 ghost use Rattle.refusal.specs.Refusals.{refusalOf};
@@ -19,9 +19,12 @@ pub enum Refusal {
     NoUnionIds,
     ZeroByte,
     UndefinedMapping,
+    ReservedKey,
+    WideIndex,
 }
 
-// The caller's: the sheet is longer than the buffer. It is no reason of a sheet's, so it is no case of `Refusal`.
+// The caller's: the sheet is longer than the buffer. It is no reason of a sheet's, so it is no case of `Refusal`; it is tried last,
+// though it is not the greatest number.
 pub const NO_ROOM: u8 = 16;
 
 impl Refusal {
@@ -44,6 +47,8 @@ impl Refusal {
             Refusal::NoUnionIds => 13,
             Refusal::ZeroByte => 14,
             Refusal::UndefinedMapping => 15,
+            Refusal::ReservedKey => 17,
+            Refusal::WideIndex => 18,
         }
     }
 }

@@ -59,6 +59,7 @@ fn ask(code: u64, argument: u64, s: &[u8], out: &mut [u8]) -> Answered
         call::INNER_DTYPE => picked_types::inner_dtype(s, out),
         call::GET_CHILD => picked_types::get_child(s, argument, out),
         call::PAGE => field_calls::page(s, out),
+        call::STRICT_EXPORT => field_calls::strict_export(s, argument != 0, out),
         call::FROM_INTEGER_TYPE => mapping_calls::conversions::from_integer_type(argument, out),
         _ => mapping_calls::conversions::from_primitive_type(argument, out),
     }

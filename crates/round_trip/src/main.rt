@@ -43,6 +43,7 @@ fn main() {
     let mut again = [0u8; ROOM];
     print_trip(round_trips::round_trip(
         &sheet[..n],
+        false,
         big,
         &mut exported,
         &mut imported,

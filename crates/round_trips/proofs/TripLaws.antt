@@ -11,9 +11,9 @@ use lib.Seq.{length-take-le, take-all}
 use borrow.Author.Tests.{ne-eqb, leb-true, leb-false}
 use Rattle.sheets.specs.Bytes.{Bytes, same}
 use Rattle.sheets.specs.Answer.{Answer}
-use Rattle.sheets.specs.Outcome.{Outcome, outcome, imported, exported, importOutcomeIn, exportOutcomeIn, plainOutcome}
+use Rattle.sheets.specs.Outcome.{Outcome, outcome, imported, exported, exportedAs, importOutcomeIn, exportOutcomeIn, exportOutcomeAs, plainOutcome}
 use Rattle.sheets.specs.Demand3.{written}
-use Rattle.sheets.specs.RoundTrip.{Steps, Buffers, stepBuffers, cleared, roundTripNumber, tripSteps, tripAnswer, roundTripOutcomeIn, sameExportsNumber, pairSteps, pairAnswer, sameExportsOutcome}
+use Rattle.sheets.specs.RoundTrip.{Steps, Buffers, stepBuffers, cleared, roundTripNumber, tripSteps, tripAnswer, roundTripOutcomeAs, sameExportsNumber, pairSteps, pairAnswer, sameExportsOutcome}
 use Rattle.sheets.proofs.OutcomeLaws.{refusal-empty, Cases, turnedBack, tooLong, answered, cases}
 use Rattle.sheets.proofs.RoundTripLaws.{after-refusal, after-answer}
 use Rattle.outcome.specs.declared.Answered.{Answered}
@@ -81,16 +81,16 @@ handed f n a' b b' x y o one within two = two ∙ ap (λ (q : Bytes). outcome (f
 
 -- ── the call, from its answer
 
-module _ (big : Bool) (s : Bytes) (out : Buffers) where
-  trip-refused : (bs : Buffers) (r : RoundTrip) → tripAnswer (tripSteps big s out) ≡ tripTold r → roundTripNumber (tripTold r) ≢ 0 → bs ≡ cleared out → tripOf r bs ≡ roundTripOutcomeIn big s out
+module _ (strict big : Bool) (s : Bytes) (out : Buffers) where
+  trip-refused : (bs : Buffers) (r : RoundTrip) → tripAnswer (tripSteps strict big s out) ≡ tripTold r → roundTripNumber (tripTold r) ≢ 0 → bs ≡ cleared out → tripOf r bs ≡ roundTripOutcomeAs strict big s out
   trip-refused bs r h k e =
-      let b = after-refusal (roundTripNumber (tripAnswer (tripSteps big s out))) (tripSteps big s out) out (λ z. k (sym (ap roundTripNumber h) ∙ z)) in
+      let b = after-refusal (roundTripNumber (tripAnswer (tripSteps strict big s out))) (tripSteps strict big s out) out (λ z. k (sym (ap roundTripNumber h) ∙ z)) in
       λ i. record { answer = sym h i; buffers = (e ∙ sym b) i }
 
-  trip-answered : (t : Steps) (r : RoundTrip) → tripSteps big s out ≡ t → tripAnswer t ≡ tripTold r → roundTripNumber (tripTold r) ≡ 0 → tripOf r (stepBuffers t) ≡ roundTripOutcomeIn big s out
+  trip-answered : (t : Steps) (r : RoundTrip) → tripSteps strict big s out ≡ t → tripAnswer t ≡ tripTold r → roundTripNumber (tripTold r) ≡ 0 → tripOf r (stepBuffers t) ≡ roundTripOutcomeAs strict big s out
   trip-answered t r e h k =
       let a = ap tripAnswer e ∙ h in
-      let b = after-answer (roundTripNumber (tripAnswer (tripSteps big s out))) (tripSteps big s out) out (ap roundTripNumber a ∙ k) in
+      let b = after-answer (roundTripNumber (tripAnswer (tripSteps strict big s out))) (tripSteps strict big s out) out (ap roundTripNumber a ∙ k) in
       λ i. record { answer = sym a i; buffers = (ap stepBuffers (sym e) ∙ sym b) i }
 
 module _ (big : Bool) (s t : Bytes) (out : Buffers) where
@@ -107,53 +107,53 @@ module _ (big : Bool) (s t : Bytes) (out : Buffers) where
 
 -- ── `round_trip`; a prime marks a buffer after its step, two primes one that was cleared later
 
-module _ (big : Bool) (s a b c d a' b' : Bytes) where
+module _ (strict big : Bool) (s a b c d a' b' : Bytes) where
   abbrev lent : Buffers
   lent = four a b c d
 
   abbrev Done : RoundTrip → Buffers → Type 0
-  Done r bs = tripOf r bs ≡ roundTripOutcomeIn big s lent
+  Done r bs = tripOf r bs ≡ roundTripOutcomeAs strict big s lent
 
   abbrev Back : TwoSteps → Type 0
-  Back r = Told (exportOutcomeIn big s a) (importOutcomeIn big (written (exportOutcomeIn big s a)) b) a b a' b' r
+  Back r = Told (exportOutcomeAs strict big s a) (importOutcomeIn big (written (exportOutcomeAs strict big s a)) b) a b a' b' r
 
   pub export-out : (r : TwoSteps) → Back r → (n : ℕ) → r ≡ TwoSteps.FirstRefused n → (c' d' : Bytes) → Zeros c c' → Zeros d d' → Done (RoundTrip.ExportRefused n) (four a' b' c' d')
   export-out r h n e c' d' z y =
       let t : Back (TwoSteps.FirstRefused n) = subst Back e h in
-      trip-refused big s lent (four a' b' c' d') (RoundTrip.ExportRefused n) (rw (t .0, ne-eqb n 0 (t .1))) (t .1) (λ i. record { first = t .2 i; second = t .3 i; third = z i; fourth = y i })
+      trip-refused strict big s lent (four a' b' c' d') (RoundTrip.ExportRefused n) (rw (t .0, ne-eqb n 0 (t .1))) (t .1) (λ i. record { first = t .2 i; second = t .3 i; third = z i; fourth = y i })
 
   pub import-out : (r : TwoSteps) → Back r → (n : ℕ) → r ≡ TwoSteps.SecondRefused n → (c' d' : Bytes) → Zeros c c' → Zeros d d' → Done (RoundTrip.ImportRefused n) (four a' b' c' d')
   import-out r h n e c' d' z y =
       let t : Back (TwoSteps.SecondRefused n) = subst Back e h in
-      trip-refused big s lent (four a' b' c' d') (RoundTrip.ImportRefused n) (rw (t .0, t .1, ne-eqb n 0 (t .2))) (t .2) (λ i. record { first = t .3 i; second = t .4 i; third = z i; fourth = y i })
+      trip-refused strict big s lent (four a' b' c' d') (RoundTrip.ImportRefused n) (rw (t .0, t .1, ne-eqb n 0 (t .2))) (t .2) (λ i. record { first = t .3 i; second = t .4 i; third = z i; fourth = y i })
 
   module _ (r : TwoSteps) (h : Back r) (l m : ℕ) (e : r ≡ TwoSteps.Written l m) (c' d' : Bytes) where
     t : Back (TwoSteps.Written l m)
     t = subst Back e h
 
     abbrev Again : TwoSteps → Type 0
-    Again r = Told (plainOutcome s c) (exportOutcomeIn big (written (plainOutcome s c)) d) c d c' d' r
+    Again r = Told (plainOutcome s c) (exportOutcomeAs strict big (written (plainOutcome s c)) d) c d c' d' r
 
-    zero-1 : exportOutcomeIn big s a .number ≡ 0
+    zero-1 : exportOutcomeAs strict big s a .number ≡ 0
     zero-1 = number-of (t .0)
 
-    zero-2 : importOutcomeIn big (written (exportOutcomeIn big s a)) b .number ≡ 0
+    zero-2 : importOutcomeIn big (written (exportOutcomeAs strict big s a)) b .number ≡ 0
     zero-2 = number-of (t .1)
 
     module _ (a'' b'' : Bytes) (z : Zeros a' a'') (y : Zeros b' b'') where
       both-clear : Zeros a a'' × Zeros b b''
-      both-clear = (cleared-later (exported big s) 0 l a a' (t .0) a'' z, cleared-later (imported big (written (exportOutcomeIn big s a))) 0 m b b' (t .1) b'' y)
+      both-clear = (cleared-later (exportedAs strict big s) 0 l a a' (t .0) a'' z, cleared-later (imported big (written (exportOutcomeAs strict big s a))) 0 m b b' (t .1) b'' y)
 
       pub plain-out : (q : TwoSteps) → Again q → (n : ℕ) → q ≡ TwoSteps.FirstRefused n → Done (RoundTrip.PlainRefused n) (four a'' b'' c' d')
       plain-out q k n f =
           let u : Again (TwoSteps.FirstRefused n) = subst Again f k in
-          trip-refused big s lent (four a'' b'' c' d') (RoundTrip.PlainRefused n) (rw (zero-1, zero-2, u .0, ne-eqb n 0 (u .1))) (u .1)
+          trip-refused strict big s lent (four a'' b'' c' d') (RoundTrip.PlainRefused n) (rw (zero-1, zero-2, u .0, ne-eqb n 0 (u .1))) (u .1)
           (λ i. record { first = both-clear .0 i; second = both-clear .1 i; third = u .2 i; fourth = u .3 i })
 
       pub again-out : (q : TwoSteps) → Again q → (n : ℕ) → q ≡ TwoSteps.SecondRefused n → Done (RoundTrip.AgainRefused n) (four a'' b'' c' d')
       again-out q k n f =
           let u : Again (TwoSteps.SecondRefused n) = subst Again f k in
-          trip-refused big s lent (four a'' b'' c' d') (RoundTrip.AgainRefused n) (rw (zero-1, zero-2, u .0, u .1, ne-eqb n 0 (u .2))) (u .2)
+          trip-refused strict big s lent (four a'' b'' c' d') (RoundTrip.AgainRefused n) (rw (zero-1, zero-2, u .0, u .1, ne-eqb n 0 (u .2))) (u .2)
           (λ i. record { first = both-clear .0 i; second = both-clear .1 i; third = u .3 i; fourth = u .4 i })
 
     module _ (v : TwoSteps) (k : Again v) (p q : ℕ) (f : v ≡ TwoSteps.Written p q) where
@@ -163,17 +163,17 @@ module _ (big : Bool) (s a b c d a' b' : Bytes) where
       abbrev left : Steps
       left = record { first = outcomeOf 0 l a'; second = outcomeOf 0 m b'; third = outcomeOf 0 p c'; fourth = outcomeOf 0 q d' }
 
-      are : tripSteps big s lent ≡ left
+      are : tripSteps strict big s lent ≡ left
       are = λ i. record { first = sym (t .0) i; second = sym (t .1) i; third = sym (u .0) i; fourth = sym (u .1) i }
 
       pub import-apart : same (take m b') (take p c') ≡ false → Done RoundTrip.ImportDiffers (four a' b' c' d')
-      import-apart i = trip-answered big s lent left RoundTrip.ImportDiffers are (rw i) refl
+      import-apart i = trip-answered strict big s lent left RoundTrip.ImportDiffers are (rw i) refl
 
       pub again-apart : same (take m b') (take p c') ≡ true → same (take q d') (take l a') ≡ false → Done RoundTrip.AgainDiffers (four a' b' c' d')
-      again-apart i j = trip-answered big s lent left RoundTrip.AgainDiffers are (rw (i, j)) refl
+      again-apart i j = trip-answered strict big s lent left RoundTrip.AgainDiffers are (rw (i, j)) refl
 
       pub all-alike : same (take m b') (take p c') ≡ true → same (take q d') (take l a') ≡ true → Done RoundTrip.AllSame (four a' b' c' d')
-      all-alike i j = trip-answered big s lent left RoundTrip.AllSame are (rw (i, j)) refl
+      all-alike i j = trip-answered strict big s lent left RoundTrip.AllSame are (rw (i, j)) refl
 
 -- ── `same_exports`
 

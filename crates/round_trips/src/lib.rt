@@ -1,11 +1,11 @@
 // Demand 3 as two calls: a field sheet goes out and back over four lent buffers, and what stands in them is compared; and two field sheets are
-// compared by their exports and their plain forms; the metadata of all exports is big-endian (`big`) or not. The first step that is refused is the answer, and then every lent byte is zero.
+// compared by their exports and their plain forms; the metadata of all exports is big-endian (`big`) or not. A round trip's exports are strict (`strict`) or not. The first step that is refused is the answer, and then every lent byte is zero.
 ghost use mathlib.Core.Path.{_≡_};
 ghost use lib.ListN.{length, replicate, take};
 ghost use Rattle.sheets.specs.Bytes.{same};
-ghost use Rattle.sheets.specs.Outcome.{importOutcomeIn, exportOutcomeIn, plainOutcome};
+ghost use Rattle.sheets.specs.Outcome.{importOutcomeIn, exportOutcomeIn, exportOutcomeAs, plainOutcome};
 ghost use Rattle.sheets.specs.Demand3.{written};
-ghost use Rattle.sheets.specs.RoundTrip.{roundTripOutcomeIn, sameExportsOutcome};
+ghost use Rattle.sheets.specs.RoundTrip.{roundTripOutcomeAs, sameExportsOutcome};
 ghost use Rattle.outcome.specs.Answers.{outcomeOf};
 ghost use Rattle.round_trips.specs.Trips.{Told, four, tripOf, pairOf};
 
@@ -58,10 +58,16 @@ fn clear_both(a: &mut [u8], b: &mut [u8])
 }
 
 // The export of the sheet, and the import of what that wrote.
-fn out_and_back(sheet: &[u8], big: bool, first: &mut [u8], second: &mut [u8]) -> TwoSteps
-    ensures { λ r. ⌜ Told (exportOutcomeIn big (now (sheet .entry)) (now (first .entry))) (importOutcomeIn big (written (exportOutcomeIn big (now (sheet .entry)) (now (first .entry)))) (now (second .entry))) (now (first .entry)) (now (second .entry)) (now (first .exit)) (now (second .exit)) r ⌝ }
+fn out_and_back(
+    sheet: &[u8],
+    strict: bool,
+    big: bool,
+    first: &mut [u8],
+    second: &mut [u8],
+) -> TwoSteps
+    ensures { λ r. ⌜ Told (exportOutcomeAs strict big (now (sheet .entry)) (now (first .entry))) (importOutcomeIn big (written (exportOutcomeAs strict big (now (sheet .entry)) (now (first .entry)))) (now (second .entry))) (now (first .entry)) (now (second .entry)) (now (first .exit)) (now (second .exit)) r ⌝ }
 {
-    let x = field_calls::export(sheet, big, first);
+    let x = field_calls::export_as(sheet, strict, big, first);
     if x.number != 0 {
         buffer::clear(second);
         return TwoSteps::FirstRefused(x.number);
@@ -76,8 +82,14 @@ fn out_and_back(sheet: &[u8], big: bool, first: &mut [u8], second: &mut [u8]) ->
 }
 
 // The plain form of the sheet, and the export of what that wrote.
-fn plain_and_out(sheet: &[u8], big: bool, third: &mut [u8], fourth: &mut [u8]) -> TwoSteps
-    ensures { λ r. ⌜ Told (plainOutcome (now (sheet .entry)) (now (third .entry))) (exportOutcomeIn big (written (plainOutcome (now (sheet .entry)) (now (third .entry)))) (now (fourth .entry))) (now (third .entry)) (now (fourth .entry)) (now (third .exit)) (now (fourth .exit)) r ⌝ }
+fn plain_and_out(
+    sheet: &[u8],
+    strict: bool,
+    big: bool,
+    third: &mut [u8],
+    fourth: &mut [u8],
+) -> TwoSteps
+    ensures { λ r. ⌜ Told (plainOutcome (now (sheet .entry)) (now (third .entry))) (exportOutcomeAs strict big (written (plainOutcome (now (sheet .entry)) (now (third .entry)))) (now (fourth .entry))) (now (third .entry)) (now (fourth .entry)) (now (third .exit)) (now (fourth .exit)) r ⌝ }
 {
     let p = field_calls::plain_form(sheet, third);
     if p.number != 0 {
@@ -85,7 +97,7 @@ fn plain_and_out(sheet: &[u8], big: bool, third: &mut [u8], fourth: &mut [u8]) -
         return TwoSteps::FirstRefused(p.number);
     }
     let n = buffer::within(p.length, third.len());
-    let z = field_calls::export(&third[..n], big, fourth);
+    let z = field_calls::export_as(&third[..n], strict, big, fourth);
     if z.number != 0 {
         buffer::clear(third);
         return TwoSteps::SecondRefused(z.number);
@@ -96,15 +108,16 @@ fn plain_and_out(sheet: &[u8], big: bool, third: &mut [u8], fourth: &mut [u8]) -
 // The export of the sheet, the import of that, the plain form of the sheet, and the export of that, each in its buffer.
 pub fn round_trip(
     sheet: &[u8],
+    strict: bool,
     big: bool,
     first: &mut [u8],
     second: &mut [u8],
     third: &mut [u8],
     fourth: &mut [u8],
 ) -> RoundTrip
-    ensures { λ r. ⌜ tripOf r (four (now (first .exit)) (now (second .exit)) (now (third .exit)) (now (fourth .exit))) ≡ roundTripOutcomeIn big (now (sheet .entry)) (four (now (first .entry)) (now (second .entry)) (now (third .entry)) (now (fourth .entry))) ⌝ }
+    ensures { λ r. ⌜ tripOf r (four (now (first .exit)) (now (second .exit)) (now (third .exit)) (now (fourth .exit))) ≡ roundTripOutcomeAs strict big (now (sheet .entry)) (four (now (first .entry)) (now (second .entry)) (now (third .entry)) (now (fourth .entry))) ⌝ }
 {
-    match out_and_back(sheet, big, first, second) {
+    match out_and_back(sheet, strict, big, first, second) {
         TwoSteps::FirstRefused(number) => {
             clear_both(third, fourth);
             RoundTrip::ExportRefused(number)
@@ -113,7 +126,7 @@ pub fn round_trip(
             clear_both(third, fourth);
             RoundTrip::ImportRefused(number)
         }
-        TwoSteps::Written(x, y) => match plain_and_out(sheet, big, third, fourth) {
+        TwoSteps::Written(x, y) => match plain_and_out(sheet, strict, big, third, fourth) {
             TwoSteps::FirstRefused(number) => {
                 clear_both(first, second);
                 RoundTrip::PlainRefused(number)

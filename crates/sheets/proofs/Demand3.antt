@@ -30,6 +30,12 @@ use Rattle.sheets.proofs.SizeLaws.{sheet-short, field-few}
 
 -- ── what export answered, as a schema
 
+module _ {big : Bool} where
+  pub exported-given : (e : Exportable big) → exported big (e .sheet) ≡ given (exportOf e)
+  exported-given e =
+      let z = zero-answers (exported big (e .sheet)) (e .buffer) (e .answersZero) in
+      z .1 ∙ ap given (sym (ap written (z .3) ∙ written-success (z .0) (e .buffer)))
+
 module _ (big : Bool) where
   record Export (e : Exportable big) : Type 0 where
     schema : Schema
@@ -45,10 +51,8 @@ module _ (big : Bool) where
 
   export-of : (e : Exportable big) → Export e
   export-of e =
-      let z = zero-answers (exported big (e .sheet)) (e .buffer) (e .answersZero) in
-      let s = schema-of (e .sheet) (z .0) (e .field) (e .isField) (z .1) in
-      let x : exportOf e ≡ z .0 = ap written (z .3) ∙ written-success (z .0) (e .buffer) in
-      record { schema = s .0; isExported = s .1; isWritten = s .2 ∙ sym x }
+      let s = schema-of (e .sheet) (exportOf e) (e .field) (e .isField) (exported-given e) in
+      record { schema = s .0; isExported = s .1; isWritten = s .2 }
 
   rule-of : (e : Exportable big) → Meets (fieldRule (e .field))
   rule-of e = field-read (e .sheet) (e .field) (e .isField) .0
@@ -69,11 +73,15 @@ module _ (big : Bool) where
       let fit : leb (length (writeSchemaSheet s)) 65535 ≡ true = le-leb (length (writeSchemaSheet s)) 65535 short in
       rw (read-schema-sheet s (a .1) (a .0) (le-leb (schemaLevels s) 32 (omega (arith, a .2))) fit, import-export big f s h k g (sheet-short s fit))
 
+  -- a sheet whose field meets both conditions: its export comes back as its plain form
+  pub returned : (b x : Bytes) (f : Field) → readFieldSheet b ≡ given f → Meets (fieldFree f) → exported big b ≡ given x → IsShort x → imported big x ≡ given (writeFieldSheet (plain f))
+  returned b x f r m g =
+      let s = schema-of b x f r g in
+      let k = field-read b f r in
+      subst (λ y. IsShort y → imported big y ≡ given (writeFieldSheet (plain f))) (s .2) (import-schema f (s .0) (k .0) (leb-true (fieldLevels f) 32 (k .1)) m (s .1))
+
   pub comes-back : (e : Exportable big) → imported big (exportOf e) ≡ given (plainFormOf e)
-  comes-back e =
-      let x = export-of e in
-      subst (λ y. IsShort y → imported big y ≡ given (plainFormOf e)) (x .isWritten)
-      (import-schema (e .field) (x .schema) (rule-of e) (levels-of e) (free (e .field) (e .noReservedKey) (e .noWideIndex)) (x .isExported)) (e .shortExport)
+  comes-back e = returned (e .sheet) (exportOf e) (e .field) (e .isField) (free (e .field) (e .noReservedKey) (e .noWideIndex)) (exported-given e) (e .shortExport)
 
   pub goes-again : (e : Exportable big) → IsShort (plainFormOf e) → exported big (plainFormOf e) ≡ given (exportOf e)
   unfolding exported

@@ -14,7 +14,8 @@ use Rattle.sheets.specs.Kind
 use Rattle.sheets.specs.Field.{Field, leaf, timestamp, nanosecond, struct, scalar, grouped, dictionary, extension, nil, add}
 use Rattle.sheets.specs.Bytes.{Bytes, ascii}
 use Rattle.sheets.specs.Outcome.{success, refusal, imported, exported, outcome, importOutcomeIn, exportOutcomeIn, importOutcome, exportOutcome}
-use Rattle.sheets.specs.Demand3.{IsShort, written, Exportable, exportOf, plainFormOf, everyLine, ownKeys, noRule, narrowIndex}
+use Rattle.sheets.specs.Demand3.{IsShort, written, Exportable, exportOf, plainFormOf, everyLine, noRule}
+use Rattle.sheets.specs.Strict.{ownKeys, narrowIndex}
 use Rattle.sheets.proofs.Tests.{meets}
 use Rattle.sheets.proofs.Demand3.{demand3}
 

@@ -21,13 +21,14 @@ use Rattle.sheets.specs.Format.{scalarFormat, nestingFormat, groupingFor
 use Rattle.sheets.specs.Metadata.{Extension}
 use Rattle.sheets.specs.Export.{flag, sortedFlag, valuesInfo, outermost, schemaNode, schemaNewOf, schemaChildren, schemaNew}
 use Rattle.sheets.specs.Mappings.{toStorage}
-use Rattle.sheets.specs.Outcome.{exported}
+use Rattle.sheets.specs.Strict.{fieldReturns}
+use Rattle.sheets.specs.Outcome.{exported, strictExported}
 use Rattle.sheets.specs.Walk.{visit, skip, Step, writes, lineWritten, typeWalk, fieldsWalk, sheetWalk}
 use Rattle.sheets.specs.Walk.{Walked, extensionsAround, lineVisits, lineWalked, typeVisits, fieldsVisits, typeWalked, rowWalked}
 use Rattle.sheets.specs.Visits.{exportVisits, visitsOfFields, exportLines}
 use Rattle.sheets.specs.ExportSteps.{schemaWritten, childrenWritten, Bearer, orValues, infoOf, extensionOf, schemaOwn, schemaStepOf, schemaStep, extensionIn}
 use Rattle.sheets.proofs.Tests.{chained, chain-same, first-gave, not-given}
-use Rattle.sheets.proofs.WalkLaws.{nothing-own, later, passed-own, later-walked, walked-opened, scalar-visits, sheet-walked}
+use Rattle.sheets.proofs.WalkLaws.{nothing-own, later, passed-own, later-walked, walked-opened, scalar-visits}
 
 -- a test, and what follows
 test-same : {A B C : Type 0} (r : Refusal) (b : Bool) (x : A) (y : B) (f : A → Answer C) (g : B → Answer C) → f x ≡ g y → (decide r b x >>= f) ≡ (decide r b y >>= g)
@@ -117,13 +118,26 @@ module _ (big : Bool) where
       right (refused r) = refl
       right (given b) = refl
 
-  -- with the heading: export of a sheet
+  -- with the heading: the sheet of a field
+  abbrev fieldWalk : Field → Answer Bytes
+  fieldWalk f = typeWalk (schemaStep big) (f .type) (some (f .info)) none >>= λ ls. given (writeSheet schemaHeading ls)
+
+  field-exported : (f : Field) → (schemaNew big f >>= λ s. given (writeSheet schemaHeading (schemaLines s))) ≡ fieldWalk f
+  field-exported f =
+      sym (chained (schemaNew big f) (λ s. given (schemaLines s)) (λ ls. given (writeSheet schemaHeading ls)))
+      ∙ ap (λ (a : Answer (List Bytes)). a >>= λ ls. given (writeSheet schemaHeading ls)) (sym (type-exported (f .type) (some (f .info)) none))
+
+  -- export of a sheet
   pub sheet-exported : (b : Bytes) → exported big b ≡ sheetWalk (schemaStep big) none schemaHeading b
   unfolding exported
-  sheet-exported b =
-      chain-same (readFieldSheet b) (readFieldSheet b) (λ f. schemaNew big f >>= λ s. given (writeSheet schemaHeading (schemaLines s))) (λ f. (schemaNew big f >>= λ s. given (schemaLines s)) >>= λ ls. given (writeSheet schemaHeading ls)) refl
-      (λ f. sym (chained (schemaNew big f) (λ s. given (schemaLines s)) (λ ls. given (writeSheet schemaHeading ls))))
-      ∙ sheet-walked (schemaStep big) none schemaHeading b (λ f. schemaNew big f >>= λ s. given (schemaLines s)) (λ f. type-exported (f .type) (some (f .info)) none)
+  sheet-exported b = chain-same (readFieldSheet b) (readFieldSheet b) (λ f. schemaNew big f >>= λ s. given (writeSheet schemaHeading (schemaLines s))) fieldWalk refl field-exported
+
+  -- strict export of a sheet
+  pub sheet-strict : (b : Bytes) → strictExported big b ≡ (readFieldSheet b >>= λ f. fieldReturns f >>= λ _. fieldWalk f)
+  unfolding strictExported
+  sheet-strict b =
+      chain-same (readFieldSheet b) (readFieldSheet b) (λ f. fieldReturns f >>= λ _. schemaNew big f >>= λ s. given (writeSheet schemaHeading (schemaLines s))) (λ f. fieldReturns f >>= λ _. fieldWalk f) refl
+      (λ f. chain-same (fieldReturns f) (fieldReturns f) (λ _. schemaNew big f >>= λ s. given (writeSheet schemaHeading (schemaLines s))) (λ _. fieldWalk f) refl (λ _. field-exported f))
 
   -- ── extensions
 

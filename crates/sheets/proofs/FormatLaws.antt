@@ -16,7 +16,7 @@ use Rattle.sheets.specs.Answer.{Answer, refused, given, _>>=_, found, wh
 use Rattle.sheets.specs.Number.{decimal, valueFrom, isDigit, lean, writeSigned}
 use Rattle.sheets.specs.Utf8.{isUtf8}
 use Rattle.sheets.specs.Field.{TimeUnit, second, millisecond, microsecond, nanosecond, Width, bits128, bits32, bits64, bits256, Scalar, leaf, timestamp, fixedSizeBinary, decimalType, Nesting, list, largeList, fixedSizeList, map, Grouping, struct, union, upFrom, scalarRule, nestingRule, groupingRule, sizeRule, idRule, textRule}
-use Rattle.sheets.specs.Demand3.{narrow}
+use Rattle.sheets.specs.Strict.{narrow}
 use Rattle.sheets.specs.Plain.{plainZone, plainScalar, plainGrouping}
 use Rattle.sheets.specs.Format.{FormatRow, rows, rowNamed, rowOf, unitLetter, orEmpty, widthText, scalarFormat, nestingFormat, unionName, writeIds, groupingFormat, Format, ofScalar, ofNesting, ofGrouping, unsigned, dropPlus, readSize, readId, decimalParts, zone, readNamed, readFormat, toIntegerType, indexFormat}
 use Rattle.sheets.proofs.Tests.{passing, meets, when-met, first-gave, every, at-each, and-left, and-right, never, not-some, not-given}

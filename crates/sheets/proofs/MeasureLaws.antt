@@ -13,6 +13,7 @@ use lib.Dec.{leb}
 use lib.ListN.{length, length-append}
 use borrow.Author.Tests.{leb-true, leb-false}
 use Rattle.sheets.specs.Bytes.{Bytes, lineEnd}
+use Rattle.sheets.specs.Refusal.{noRoom, lastNumber}
 use Rattle.sheets.specs.Answer.{Answer, refused, given, _>>=_}
 use Rattle.sheets.specs.Sheet.{ended, writeSheet}
 use Rattle.sheets.specs.Schema.{Schema, schema, schemaHeading, schemaLines, readSchemaSheet}
@@ -28,26 +29,27 @@ use Rattle.sheets.proofs.OutcomeLaws.{number-range, turned, fits, fits-
 -- what a measure says of a conversion that is lent a buffer
 pub record Measures (convert : Bytes → Outcome) (m : Measure) : Type 0 where
   -- "The length is the least buffer that is not given 16"
-  pub least : m .number ≡ 0 → (out : Bytes) → (convert out .number ≢ 16) ↔ (m .size ≤ length out)
+  pub least : m .number ≡ 0 → (out : Bytes) → (convert out .number ≢ noRoom) ↔ (m .size ≤ length out)
   -- "and one byte fewer is given it"; every shorter one too
-  pub fewer : m .number ≡ 0 → (out : Bytes) → (convert out .number ≡ 16) ↔ (length out < m .size)
+  pub fewer : m .number ≡ 0 → (out : Bytes) → (convert out .number ≡ noRoom) ↔ (length out < m .size)
   -- "the exact length the import or export would write"
   pub exact : m .number ≡ 0 → (out : Bytes) → m .size ≤ length out → (convert out .number ≡ 0) × (convert out .size ≡ m .size)
   -- so there is one byte fewer, and there is a line
   pub positive : m .number ≡ 0 → (1 ≤ m .size) × (1 ≤ m .lines)
   -- "An input that the conversion refuses for another cause gets that same number here, with both counts 0"
-  pub cause : (out : Bytes) → convert out .number ≢ 0 → convert out .number ≢ 16 → m .number ≡ convert out .number
+  pub cause : (out : Bytes) → convert out .number ≢ 0 → convert out .number ≢ noRoom → m .number ≡ convert out .number
   pub zeros : m .number ≢ 0 → (m .size ≡ 0) × (m .lines ≡ 0)
   -- and a number here is the conversion's, whatever it is lent
   pub same : m .number ≢ 0 → (out : Bytes) → convert out .number ≡ m .number
-  -- "for another cause": 16 never comes
-  pub atMost : m .number ≤ 15
+  -- "for another cause": it is lent no buffer, so 16 never comes
+  pub atMost : m .number ≤ lastNumber
+  pub notNoRoom : m .number ≢ noRoom
 
 -- the number of an answer, in a buffer that holds it and in one that does not
 fits-number : (x out : Bytes) → length x ≤ length out → outcome (given x) out .number ≡ 0
 fits-number x out h = ap (λ (y : Outcome). y .number) (fits x out h)
 
-short-number : (x out : Bytes) → length out < length x → outcome (given x) out .number ≡ 16
+short-number : (x out : Bytes) → length out < length x → outcome (given x) out .number ≡ noRoom
 short-number x out h = ap (λ (y : Outcome). y .number) (fits-not x out h)
 
 -- it holds it or not
@@ -69,6 +71,7 @@ measures (refused r) n large =
       zeros = λ h. (refl, refl);
       same = λ h out. ap (λ (y : Outcome). y .number) (turned r out);
       atMost = number-range r .1;
+      notNoRoom = number-range r .2;
     }
 measures (given x) n large =
     record {
@@ -80,6 +83,7 @@ measures (given x) n large =
       zeros = λ h. absurd (h refl);
       same = λ h out. absurd (h refl);
       atMost = omega arith;
+      notNoRoom = omega arith;
     }
 
 -- ── import and export

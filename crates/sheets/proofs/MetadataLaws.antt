@@ -17,7 +17,7 @@ use Rattle.sheets.specs.Text.{hex, writeText}
 use Rattle.sheets.specs.Utf8.{isUtf8}
 use Rattle.sheets.specs.Field.{Pair, before, firstAfter, pairsRule, metadataRule, textRule}
 use Rattle.sheets.specs.Plain.{plainPairs}
-use Rattle.sheets.specs.Demand3.{noReserved}
+use Rattle.sheets.specs.Strict.{noReserved}
 use Rattle.sheets.specs.Metadata.{little, littleValue, word32, value32, cutAt, takeText, takePairs, readBlock, writeText32, writePairs, metadataToBytes, nameKey, metadataKey, reserved, Extension, insertNew, insertOver, ordinary, orElse, valueOf, somePairs, meaning, metadataFromBytes, orNone, withMetadata, blockOf, schemaMetadata}
 use Rattle.sheets.proofs.BytesLaws.{same-eq, same-refl}
 

@@ -1,14 +1,15 @@
--- Which numbers a call can answer: reading a field sheet refuses with 1, 2 or 3, exporting what it says with 12, 13 or 14. A chain refuses with
--- what its steps refuse with. Assumes nothing.
+-- Which numbers a call can answer: reading a field sheet refuses with 1, 2 or 3, exporting what it says with 12, 13 or 14, strict export's own tests with 17
+-- or 18. A chain refuses with what its steps refuse with. Assumes nothing.
 use mathlib.Core.Path.{_≡_, refl, sym, _∙_, subst}
-use mathlib.Core.Bool.{Bool, true, false, _||_, or-true}
+use mathlib.Core.Bool.{Bool, true, false, _||_, cond}
 use mathlib.Core.List.{List, [], _∷_, _++_}
 use mathlib.Core.Option.{Option, none, some}
 use Prim.Native.Nat.{ℕ, zero, suc, _+_}
 use lib.Dec.{eqb, leb}
 use lib.ListN.{length}
-use Rattle.sheets.specs.Refusal.{Refusal, notSheet, badLines, tooDeep, zeroByte, noFormat, noUnionIds, numberOf}
-use Rattle.sheets.specs.Rule.{Rule, is, _and_, passes}
+use borrow.Author.Tests.{eqb-true}
+use Rattle.sheets.specs.Refusal.{Refusal, notSheet, badLines, tooDeep, zeroByte, noFormat, noUnionIds, reservedKey, wideIndex, numberOf, oneOf}
+use Rattle.sheets.specs.Rule.{Rule, is, _and_, each, passes, Meets}
 use Rattle.sheets.specs.Bytes.{Bytes, split, after, lacks}
 use Rattle.sheets.specs.Answer.{Answer, refused, given, _>>=_, when, decide, found}
 use Rattle.sheets.specs.Sheet.{readSheet, endedLines, single}
@@ -20,13 +21,15 @@ use Rattle.sheets.specs.FieldSheet.{Entry, entries, fieldOf, fieldHeadin
 use Rattle.sheets.specs.Format.{rowOf, rows, scalarFormat, nestingFormat, groupingFormat, indexFormat}
 use Rattle.sheets.specs.Metadata.{Extension}
 use Rattle.sheets.specs.Export.{flag, sortedFlag, schemaNode, valuesInfo, schemaNewOf, schemaChildren, schemaNew}
-use Rattle.sheets.specs.Outcome.{exported, plained}
-use Rattle.sheets.proofs.Tests.{not-given}
+use Rattle.sheets.specs.FieldTrees.{Head}
+use Rattle.sheets.specs.Strict.{keysRule, indexRule, lineReturns, typeHeads, linesReturn, fieldReturns}
+use Rattle.sheets.specs.Outcome.{exported, strictExported, exportedAs, plained}
+use Rattle.sheets.proofs.Tests.{never, not-given, meets}
 use Rattle.sheets.proofs.RefusalLaws.{OnlyLines, given-only, refused-only, lines-only, entries-only}
 
 -- ── the one field of a sheet: 2 only
 
-single-only : {A : Type 0} (ts : List A) → OnlyLines (single ts)
+pub single-only : {A : Type 0} (ts : List A) → OnlyLines (single ts)
 single-only [] = refused-only
 single-only (t ∷ []) = given-only t
 single-only (t ∷ u ∷ us) = refused-only
@@ -36,10 +39,6 @@ field-of-only (none, t) = refused-only
 field-of-only (some i, t) = given-only _
 
 -- ── refusals among given numbers
-
-abbrev pub oneOf : List ℕ → ℕ → Bool
-oneOf [] n = false
-oneOf (m ∷ ms) n = eqb n m || oneOf ms n
 
 -- an answer that is refused with one of these numbers if it is refused
 abbrev pub Only : {A : Type 0} → List ℕ → Answer A → Type 0
@@ -63,6 +62,10 @@ only-chain ns (refused q) f h k r e =
     subst (λ (p : Refusal). oneOf ns (numberOf p) ≡ true) same (h q refl)
 only-chain ns (given a) f h k r e = k a refl r e
 
+pub only-cond : {A : Type 0} (ns : List ℕ) (t : Bool) (a b : Answer A) → Only ns a → Only ns b → Only ns (cond t a b)
+only-cond ns true a b h k = h
+only-cond ns false a b h k = k
+
 pub only-when : {A : Type 0} (ns : List ℕ) (q : Refusal) → oneOf ns (numberOf q) ≡ true → (rule : Rule) (a : A) → Only ns (when q rule a)
 only-when {A} ns q h rule a = pick (passes rule)
   where
@@ -73,6 +76,22 @@ only-when {A} ns q h rule a = pick (passes rule)
 pub only-found : {A : Type 0} (ns : List ℕ) (q : Refusal) → oneOf ns (numberOf q) ≡ true → (o : Option A) → Only ns (found q o)
 only-found ns q h none = only-refused ns q h
 only-found ns q h (some a) = only-given ns a
+
+-- each of these numbers is one of those
+abbrev pub among : List ℕ → List ℕ → Rule
+among ns ms = each (λ (n : ℕ). is (oneOf ms n)) ns
+
+pub one-among : (ns ms : List ℕ) → Meets (among ns ms) → (n : ℕ) → oneOf ns n ≡ true → oneOf ms n ≡ true
+one-among [] ms w n h = never h
+one-among (m ∷ ns) ms w n h = pick (eqb n m) refl h (one-among ns ms (w .1) n)
+  where
+    pick : (t : Bool) → eqb n m ≡ t → t || oneOf ns n ≡ true → (oneOf ns n ≡ true → oneOf ms n ≡ true) → oneOf ms n ≡ true
+    pick true e k next = subst (λ (x : ℕ). oneOf ms x ≡ true) (sym (eqb-true n m e)) (w .0)
+    pick false e k next = next k
+
+-- a refusal is among more numbers too
+pub only-more : {A : Type 0} (ns ms : List ℕ) → Meets (among ns ms) → (a : Answer A) → Only ns a → Only ms a
+only-more ns ms w a h r e = one-among ns ms w (numberOf r) (h r e)
 
 -- lines are refused with 2
 pub only-lines : {A : Type 0} (ns : List ℕ) → oneOf ns 2 ≡ true → (a : Answer A) → OnlyLines a → Only ns a
@@ -88,7 +107,7 @@ sheetNumbers = 1 ∷ 2 ∷ 3 ∷ []
 abbrev pub ownerNumbers : List ℕ
 ownerNumbers = 12 ∷ 13 ∷ 14 ∷ []
 
-sheet-numbers : (ns : List ℕ) → oneOf ns 1 ≡ true → oneOf ns 2 ≡ true → (heading b : Bytes) → Only ns (readSheet heading b)
+pub sheet-numbers : (ns : List ℕ) → oneOf ns 1 ≡ true → oneOf ns 2 ≡ true → (heading b : Bytes) → Only ns (readSheet heading b)
 sheet-numbers ns h k heading b =
     only-chain ns (when notSheet (is (leb (length b) 65535)) b) _ (only-when ns notSheet h (is (leb (length b) 65535)) b)
     (λ c e. only-chain ns (found notSheet (after (heading ++ (10 ∷ [])) b)) _ (only-found ns notSheet h (after (heading ++ (10 ∷ [])) b))
@@ -139,27 +158,49 @@ module _ (big : Bool) where
     fields-numbers (add i t fs) =
         only-chain ownerNumbers (schemaNewOf big t i none) _ (type-numbers t i none) (λ c q. only-chain ownerNumbers (schemaChildren big fs) _ (fields-numbers fs) (λ cs p. only-given ownerNumbers (c & cs)))
 
--- a refusal is among more numbers too
-pub only-more : {A : Type 0} (ns ms : List ℕ) → ((n : ℕ) → oneOf ns n ≡ true → oneOf ms n ≡ true) → (a : Answer A) → Only ns a → Only ms a
-only-more ns ms w a h r e = w (numberOf r) (h r e)
-
 -- export: the sheet's maker and the field's owner are turned back, and no other
 abbrev pub exportNumbers : List ℕ
 exportNumbers = 1 ∷ 2 ∷ 3 ∷ 12 ∷ 13 ∷ 14 ∷ []
-
-owner-export : (n : ℕ) → oneOf ownerNumbers n ≡ true → oneOf exportNumbers n ≡ true
-owner-export n h = rw h (either (eqb n 1) (either (eqb n 2) (or-true (eqb n 3))))
-  where
-    either : {t : Bool} (s : Bool) → t ≡ true → s || t ≡ true
-    either true k = refl
-    either false k = k
 
 module _ (big : Bool) where
   pub export-numbers : (b : Bytes) → Only exportNumbers (exported big b)
   unfolding exported
   export-numbers b =
       only-chain exportNumbers (readFieldSheet b) _ (field-sheet-numbers exportNumbers refl refl refl b)
-      (λ f e. only-chain exportNumbers (schemaNew big f) _ (only-more ownerNumbers exportNumbers owner-export (schemaNew big f) (type-numbers big (f .type) (f .info) none)) (λ s g. only-given exportNumbers _))
+      (λ f e. only-chain exportNumbers (schemaNew big f) _ (only-more ownerNumbers exportNumbers (meets (among ownerNumbers exportNumbers) refl) (schemaNew big f) (type-numbers big (f .type) (f .info) none)) (λ s g. only-given exportNumbers _))
+
+-- strict export: its own tests besides
+abbrev pub testNumbers : List ℕ
+testNumbers = 17 ∷ 18 ∷ []
+
+lines-numbers : (hs : List Head) → Only testNumbers (linesReturn hs)
+lines-numbers [] = only-given testNumbers tt
+lines-numbers (h ∷ hs) =
+    only-chain testNumbers (lineReturns h) _
+    (only-chain testNumbers (when reservedKey (keysRule (h .info)) tt) _ (only-when testNumbers reservedKey refl (keysRule (h .info)) tt)
+    (λ u e. only-when testNumbers wideIndex refl (indexRule (h .shape)) tt))
+    (λ u e. lines-numbers hs)
+
+abbrev pub strictNumbers : List ℕ
+strictNumbers = 1 ∷ 2 ∷ 3 ∷ 17 ∷ 18 ∷ 12 ∷ 13 ∷ 14 ∷ []
+
+module _ (big : Bool) where
+  pub strict-numbers : (b : Bytes) → Only strictNumbers (strictExported big b)
+  unfolding strictExported
+  strict-numbers b =
+      only-chain strictNumbers (readFieldSheet b) _ (field-sheet-numbers strictNumbers refl refl refl b)
+      (λ f e. only-chain strictNumbers (fieldReturns f) _
+      (only-more testNumbers strictNumbers (meets (among testNumbers strictNumbers) refl) (fieldReturns f) (lines-numbers (typeHeads (f .type) (some (f .info)))))
+      (λ u g. only-chain strictNumbers (schemaNew big f) _ (only-more ownerNumbers strictNumbers (meets (among ownerNumbers strictNumbers) refl) (schemaNew big f) (type-numbers big (f .type) (f .info) none)) (λ s k. only-given strictNumbers _)))
+
+-- either export
+abbrev pub exportNumbersAs : Bool → List ℕ
+exportNumbersAs true = strictNumbers
+exportNumbersAs false = exportNumbers
+
+pub export-numbers-as : (strict big : Bool) (b : Bytes) → Only (exportNumbersAs strict) (exportedAs strict big b)
+export-numbers-as true big b = strict-numbers big b
+export-numbers-as false big b = export-numbers big b
 
 -- plain form: the sheet's maker is turned back, and no other
 pub plain-numbers : (b : Bytes) → Only sheetNumbers (plained b)

@@ -1,19 +1,19 @@
 -- What import can answer to an export, whatever the field: 1 where the export is longer than a sheet may be, 9 where a dictionary has an index
 -- of 128 bits, and no other number of a sheet's. Assumes nothing.
 use mathlib.Core.Path.{_≡_, refl, subst}
-use mathlib.Core.Bool.{Bool, true, false, cond, or-true}
+use mathlib.Core.Bool.{Bool, true, false}
 use mathlib.Core.List.{List, [], _∷_}
 use mathlib.Core.Option.{Option, none, some}
 use Prim.Native.Nat.{ℕ, _+_, _^_, _≤_}
 use native.Mathlib.Omega.{arith}
-use lib.Dec.{eqb, leb}
+use lib.Dec.{leb}
 use lib.IntN.{pos}
 use lib.ListN.{length}
 use borrow.Author.Tests.{ltb-true, leb-true, le-leb}
-use Rattle.sheets.specs.Refusal.{notSheet, badIndex, numberOf}
+use Rattle.sheets.specs.Refusal.{notSheet, badIndex, oneOf}
 use Rattle.sheets.specs.Rule.{Meets}
 use Rattle.sheets.specs.Bytes.{Bytes, ascii, same}
-use Rattle.sheets.specs.Answer.{Answer, given, _>>=_}
+use Rattle.sheets.specs.Answer.{given, _>>=_}
 use Rattle.sheets.specs.Utf8.{isUtf8}
 use Rattle.sheets.specs.Kind
 use Rattle.sheets.specs.Schema.{Schema, Schemas, end, _&_, Dictionary, absent, present, schema, countSchemas, schemaLevels, writeSchemaSheet}
@@ -25,7 +25,7 @@ use Rattle.sheets.specs.Import.{toDtype, toField, toFields, toValues, al
 use Rattle.sheets.specs.Export.{flag, sortedFlag, schemaNode, valuesInfo, schemaNewOf, schemaChildren, schemaNew}
 use Rattle.sheets.specs.FieldSheet.{readFieldSheet}
 use Rattle.sheets.specs.Outcome.{imported, exported}
-use Rattle.sheets.proofs.Tests.{first-gave}
+use Rattle.sheets.proofs.Tests.{first-gave, meets}
 use Rattle.sheets.proofs.FormatLaws.{read-size, read-scalar, utf8-scalar, utf8-nesting, read-grouping, utf8-grouping}
 use Rattle.sheets.proofs.MetadataLaws.{extensionRule, shortBlock, read-block, all-text, pairs-text, pairs-ordered}
 use Rattle.sheets.proofs.RoundTrip.{schemaShort, childrenShort, exportedNode, count-export, index-leaf, values-rule, carry}
@@ -33,27 +33,23 @@ use Rattle.sheets.proofs.SchemaLaws.{read-schema-sheet}
 use Rattle.sheets.proofs.ExportLaws.{export-good}
 use Rattle.sheets.proofs.FieldSheetLaws.{field-read}
 use Rattle.sheets.proofs.SizeLaws.{sheet-short}
-use Rattle.sheets.proofs.OnlyLaws.{oneOf, Only, only-given, only-refused, only-chain}
+use Rattle.sheets.proofs.OnlyLaws.{Only, only-given, only-refused, only-chain, only-cond, among, only-more}
 
 abbrev nine : List ℕ
 nine = 9 ∷ []
 
-only-cond : {A : Type 0} (ns : List ℕ) (t : Bool) (a b : Answer A) → Only ns a → Only ns b → Only ns (cond t a b)
-only-cond ns true a b h k = h
-only-cond ns false a b h k = k
-
 -- ── an index
 
-index-nine : (f : Bytes) → Only nine (toIntegerType f)
-index-nine f =
-    only-cond nine (same f (ascii "c")) _ _ (only-given nine _)
-    (only-cond nine (same f (ascii "C")) _ _ (only-given nine _)
-    (only-cond nine (same f (ascii "s")) _ _ (only-given nine _)
-    (only-cond nine (same f (ascii "S")) _ _ (only-given nine _)
-    (only-cond nine (same f (ascii "i")) _ _ (only-given nine _)
-    (only-cond nine (same f (ascii "I")) _ _ (only-given nine _)
-    (only-cond nine (same f (ascii "l")) _ _ (only-given nine _)
-    (only-cond nine (same f (ascii "L")) _ _ (only-given nine _) (only-refused nine badIndex refl))))))))
+pub index-numbers : (ns : List ℕ) → oneOf ns 9 ≡ true → (f : Bytes) → Only ns (toIntegerType f)
+index-numbers ns h f =
+    only-cond ns (same f (ascii "c")) _ _ (only-given ns _)
+    (only-cond ns (same f (ascii "C")) _ _ (only-given ns _)
+    (only-cond ns (same f (ascii "s")) _ _ (only-given ns _)
+    (only-cond ns (same f (ascii "S")) _ _ (only-given ns _)
+    (only-cond ns (same f (ascii "i")) _ _ (only-given ns _)
+    (only-cond ns (same f (ascii "I")) _ _ (only-given ns _)
+    (only-cond ns (same f (ascii "l")) _ _ (only-given ns _)
+    (only-cond ns (same f (ascii "L")) _ _ (only-given ns _) (only-refused ns badIndex h))))))))
 
 -- ── a node
 
@@ -115,7 +111,7 @@ module _ (big : Bool) where
         let p = first-gave (schemaNewOf big t valuesInfo none) (λ d. schemaNode big i none (q .0) (flag ordered ORDERED) end (present d)) s (q .2) in
         carry big Nine i none (q .0) (flag ordered ORDERED) end (present (p .0)) s (p .2)
         (λ l. node-nine big i none (q .0) (flag ordered ORDERED) end (present (p .0)) (utf8-scalar (leaf (ix + Kind.Int8) 0) (q .0) (index-leaf ix (h .0)) (q .1)) hi x (l .0)
-        (only-chain nine (toIntegerType (q .0)) _ (index-nine (q .0))
+        (only-chain nine (toIntegerType (q .0)) _ (index-numbers nine refl (q .0))
         (λ k r. only-chain nine (toField big (p .0)) _ (type-nine t valuesInfo none (p .0) (h .1) values-rule refl (p .1) (l .1 .1 .1)) (λ v w. only-given nine _))))
     type-nine (dictionary ix ordered t) i (some e) s h hi x g =
         let q = first-gave (indexFormat ix) (λ f. schemaNode big i (some e) f 0 end absent) s g in
@@ -142,9 +138,6 @@ module _ (big : Bool) where
 abbrev pub returnNumbers : List ℕ
 returnNumbers = 1 ∷ 9 ∷ []
 
-nine-return : (n : ℕ) → oneOf nine n ≡ true → oneOf returnNumbers n ≡ true
-nine-return n k = rw k (or-true (eqb n 1))
-
 module _ (big : Bool) where
   schema-return : (f : Field) (s : Schema) → Meets (fieldRule f) → fieldLevels f ≤ 32 → schemaNew big f ≡ given s → Only returnNumbers (imported big (writeSchemaSheet s))
   unfolding imported
@@ -155,7 +148,7 @@ module _ (big : Bool) where
       pick true e =
           let a = export-good big f s h g in
           rw (read-schema-sheet s (a .1) (a .0) (le-leb (schemaLevels s) 32 (omega (arith, a .2))) e)
-          (only-chain returnNumbers (toField big s) _ (λ r k. nine-return (numberOf r) (type-nine big (f .type) (f .info) none s (h .1) (h .0) refl g (sheet-short s e) r k)) (λ b k. only-given returnNumbers _))
+          (only-chain returnNumbers (toField big s) _ (only-more nine returnNumbers (meets (among nine returnNumbers) refl) (toField big s) (type-nine big (f .type) (f .info) none s (h .1) (h .0) refl g (sheet-short s e))) (λ b k. only-given returnNumbers _))
 
   -- import of what export wrote, for any field sheet
   pub return-numbers : (b x : Bytes) → exported big b ≡ given x → Only returnNumbers (imported big x)

@@ -15,7 +15,7 @@ use Rattle.sheets.specs.Utf8.{isUtf8}
 use Rattle.sheets.specs.Schema.{Node, Schema, schema, Schemas, end, _&_, Dictionary, absent, present, countSchemas}
 use Rattle.sheets.specs.Sheet.{isSome}
 use Rattle.sheets.specs.Field.{Info, leaf, Nesting, list, largeList, fixedSizeList, map, ArrowDataType, scalar, nested, grouped, dictionary, extension, Fields, nil, add, Field, countFields, infoRule, typeRule, fieldsRule, fieldRule, scalarRule, leafRule}
-use Rattle.sheets.specs.Demand3.{ownKeys as infoFree}
+use Rattle.sheets.specs.Strict.{ownKeys as infoFree}
 use Rattle.sheets.proofs.ConditionLaws.{typeFree, fieldsFree, fieldFree}
 use Rattle.sheets.specs.Plain.{plainInfo, plainType, plainFields, plain}
 use Rattle.sheets.specs.Format.{scalarFormat, nestingFormat, groupingFormat, indexFormat}

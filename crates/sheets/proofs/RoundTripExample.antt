@@ -28,7 +28,7 @@ here-returns =
       third = leb-true (length plainText) 999 refl;
       fourth = leb-true (length schemaText) 999 refl;
     } in
-    λ i. round-trip here (buffers 999 999 999 999) room (leb-true (length plainText) 65535 refl) i .answer
+    λ i. round-trip false here (buffers 999 999 999 999) room (leb-true (length plainText) 65535 refl) i .answer
 
 -- one field: the answer to each sheet, with buffers of these lengths
 abbrev pub trips : List RoundTrip

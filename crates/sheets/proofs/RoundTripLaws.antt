@@ -1,6 +1,7 @@
 -- `round_trip`: under the conditions of demand 3 it says that all is the same, and each buffer is what the demand says; what it answers then with
 -- any buffers; and, for every sheet and all buffers, what each answer means, which numbers each step can give, and what every lent byte is. By cases
--- of the four steps in order; once for both orders of the metadata. Assumes nothing.
+-- of the four steps in order; once for both orders of the metadata, and once for both exports, the present one and the strict one (document 02, #106): where
+-- their laws differ the flag `strict` tells. Assumes nothing.
 use mathlib.Core.Path.{_≡_, refl, sym, _∙_, ap, subst}
 use mathlib.Core.Logic.{_↔_, _≢_}
 use mathlib.Core.Bool.{Bool, true, false, cond, or-true}
@@ -11,7 +12,7 @@ use lib.Dec.{eqb, leb}
 use lib.ListN.{length}
 use borrow.Author.Tests.{le-leb, leb-true, leb-false, eqb-true, eqb-false, eq-eqb, ne-eqb}
 use Rattle.sheets.specs.Bytes.{Bytes, same}
-use Rattle.sheets.specs.Refusal.{numberOf, notSheet}
+use Rattle.sheets.specs.Refusal.{numberOf, notSheet, lastNumber, oneOf}
 use Rattle.sheets.specs.Answer.{Answer, refused, given}
 use Rattle.sheets.specs.FieldSheet.{readFieldSheet, writeFieldSheet}
 use Rattle.sheets.specs.Rule.{Meets}
@@ -19,57 +20,80 @@ use Rattle.sheets.specs.Schema.{Schema, writeSchemaSheet}
 use Rattle.sheets.specs.Field.{Field, fieldRule, fieldLevels}
 use Rattle.sheets.specs.Export.{schemaNew}
 use Rattle.sheets.specs.Plain.{plain}
-use Rattle.sheets.specs.Outcome.{Outcome, success, outcome, imported, exported, plained, exportOutcomeIn}
+use Rattle.sheets.specs.Outcome.{Outcome, success, outcome, imported, exported, strictExported, exportedAs, plained, exportOutcomeAs}
 use Rattle.sheets.specs.Demand3.{NoReservedKey, NoWideIndex, IsShort, written, Exportable, exportOf, plainFormOf}
-use Rattle.sheets.specs.RoundTrip.{Steps, Buffers, stepBuffers, cleared, buffersAfter, sameWritten, RoundTrip, allSame, exportRefused, importRefused, plainRefused, againRefused, importDiffers, againDiffers, roundTripNumber, tripSteps, tripAnswer, roundTripOutcomeIn, TripRoom, fourSheets}
+use Rattle.sheets.specs.RoundTrip.{Steps, Buffers, stepBuffers, cleared, buffersAfter, sameWritten, RoundTrip, allSame, exportRefused, importRefused, plainRefused, againRefused, importDiffers, againDiffers, roundTripNumber, tripSteps, tripAnswer, roundTripOutcomeAs, TripRoom, fourSheets}
 use Rattle.sheets.proofs.BytesLaws.{same-refl, same-eq}
 use Rattle.sheets.proofs.OutcomeLaws.{Cases, turnedBack, tooLong, answered, cases, turned, fits, fits-not, number-at-most, zero-answers, written-success}
 use Rattle.sheets.proofs.Tests.{first-gave, same-given, not-given, never}
 use Rattle.sheets.proofs.FieldSheetLaws.{read-field-sheet, sheet-field, field-read, field-sheet-short}
 use Rattle.sheets.proofs.PlainLaws.{export-plain, plain-rule, plain-levels}
 use Rattle.sheets.proofs.SizeLaws.{field-few}
-use Rattle.sheets.proofs.OnlyLaws.{oneOf, Only, only-refused, only-known, exportNumbers, export-numbers}
+use Rattle.sheets.proofs.OnlyLaws.{Only, only-refused, only-known, exportNumbersAs, export-numbers-as}
 use Rattle.sheets.proofs.ReturnNumbers.{returnNumbers, return-numbers}
-use Rattle.sheets.proofs.Demand3.{comes-back, goes-again}
+use Rattle.sheets.proofs.ConditionLaws.{fieldFree, free, plain-free}
+use Rattle.sheets.proofs.StrictConditions.{strict-free, strict-gave, as-free, as-gave, too-long}
+use Rattle.sheets.proofs.Demand3.{exported-given, returned, comes-back, goes-again}
 
 -- ── under the conditions
-
-module _ {big : Bool} where
-  pub exported-given : (e : Exportable big) → exported big (e .sheet) ≡ given (exportOf e)
-  exported-given e =
-      let z = zero-answers (exported big (e .sheet)) (e .buffer) (e .answersZero) in
-      z .1 ∙ ap given (sym (ap written (z .3) ∙ written-success (z .0) (e .buffer)))
 
 plained-of : (b : Bytes) (f : Field) → readFieldSheet b ≡ given f → plained b ≡ given (writeFieldSheet (plain f))
 unfolding plained
 plained-of b f h = rw h
 
+-- a plain form that is short is the sheet of the plain field
+plain-read : (b : Bytes) (f : Field) → readFieldSheet b ≡ given f → IsShort (writeFieldSheet (plain f)) → readFieldSheet (writeFieldSheet (plain f)) ≡ given (plain f)
+plain-read b f r short =
+    let k = field-read b f r in
+    let levels : leb (fieldLevels (plain f)) 32 ≡ true = le-leb (fieldLevels (plain f)) 32 (omega (arith, plain-levels f, leb-true (fieldLevels f) 32 (k .1))) in
+    read-field-sheet (plain f) (plain-rule f (field-few f (field-sheet-short b f r)) (k .0)) levels (le-leb (length (writeFieldSheet (plain f))) 65535 short)
+
 module _ {big : Bool} where
   pub plained-given : (e : Exportable big) → plained (e .sheet) ≡ given (plainFormOf e)
   plained-given e = plained-of (e .sheet) (e .field) (e .isField)
 
+  -- both conditions
+  both-met : (e : Exportable big) → Meets (fieldFree (e .field))
+  both-met e = free (e .field) (e .noReservedKey) (e .noWideIndex)
+
+  -- either export of the field, and of its plain form
+  as-exported : (strict : Bool) (e : Exportable big) → exportedAs strict big (e .sheet) ≡ given (exportOf e)
+  as-exported strict e = as-free big strict (e .sheet) (e .field) (e .isField) (both-met e) ∙ exported-given e
+
+  as-again : (strict : Bool) (e : Exportable big) → IsShort (plainFormOf e) → exportedAs strict big (plainFormOf e) ≡ given (exportOf e)
+  as-again strict e short =
+      as-free big strict (plainFormOf e) (plain (e .field)) (plain-read (e .sheet) (e .field) (e .isField) short) (plain-free (e .field) (both-met e)) ∙ goes-again big e short
+
 abbrev tripSuccess : Bytes → Bytes → Buffers → Steps
 tripSuccess x p out = fourSheets x p p x out
 
-module _ (big : Bool) where
-  given-steps : (b x p : Bytes) (out : Buffers) → exported big b ≡ given x → imported big x ≡ given p → plained b ≡ given p → exported big p ≡ given x
+module _ (strict big : Bool) where
+  given-steps : (b x p : Bytes) (out : Buffers) → exportedAs strict big b ≡ given x → imported big x ≡ given p → plained b ≡ given p → exportedAs strict big p ≡ given x
       → length x ≤ length (out .first) → length p ≤ length (out .second) → length p ≤ length (out .third) → length x ≤ length (out .fourth)
-      → tripSteps big b out ≡ tripSuccess x p out
+      → tripSteps strict big b out ≡ tripSuccess x p out
   given-steps b x p out h i j k r s t u =
       simp (h, fits x (out .first) r, written-success, i, fits p (out .second) s, j, fits p (out .third) t, k, fits x (out .fourth) u)
 
 success-same : (x p : Bytes) (out : Buffers) → tripAnswer (tripSuccess x p out) ≡ allSame
 success-same x p out = simp (written-success, same-refl)
 
+module _ (strict big : Bool) where
+  -- four steps that give these sheets, with room for each: the answer is that all is the same
+  pub trip-given : (b x p : Bytes) (out : Buffers) → exportedAs strict big b ≡ given x → imported big x ≡ given p → plained b ≡ given p → exportedAs strict big p ≡ given x
+      → length x ≤ length (out .first) → length p ≤ length (out .second) → length p ≤ length (out .third) → length x ≤ length (out .fourth)
+      → roundTripOutcomeAs strict big b out ≡ record { answer = allSame; buffers = stepBuffers (fourSheets x p p x out) }
+  trip-given b x p out h i j k r s t u =
+      let q = given-steps strict big b x p out h i j k r s t u in
+      let a = ap tripAnswer q ∙ success-same x p out in
+      λ i. record { answer = a i; buffers = (ap (λ (n : ℕ). buffersAfter n (tripSteps strict big b out) out) (ap roundTripNumber a) ∙ ap stepBuffers q) i }
+
 module _ {big : Bool} where
   -- "importing its export answers 0 and gives its plain form, byte for byte; exporting the plain form gives the same bytes as exporting the field":
   -- the answer is that all is the same, and each buffer has the sheet that the demand says, and past it what it held
-  pub round-trip : (e : Exportable big) (out : Buffers) → TripRoom e out → IsShort (plainFormOf e)
-      → roundTripOutcomeIn big (e .sheet) out ≡ record { answer = allSame; buffers = stepBuffers (fourSheets (exportOf e) (plainFormOf e) (plainFormOf e) (exportOf e) out) }
-  round-trip e out room short =
-      let s = given-steps big (e .sheet) (exportOf e) (plainFormOf e) out (exported-given e) (comes-back big e) (plained-given e) (goes-again big e short) (room .first) (room .second) (room .third) (room .fourth) in
-      let a = ap tripAnswer s ∙ success-same (exportOf e) (plainFormOf e) out in
-      λ i. record { answer = a i; buffers = (ap (λ (n : ℕ). buffersAfter n (tripSteps big (e .sheet) out) out) (ap roundTripNumber a) ∙ ap stepBuffers s) i }
+  pub round-trip : (strict : Bool) (e : Exportable big) (out : Buffers) → TripRoom e out → IsShort (plainFormOf e)
+      → roundTripOutcomeAs strict big (e .sheet) out ≡ record { answer = allSame; buffers = stepBuffers (fourSheets (exportOf e) (plainFormOf e) (plainFormOf e) (exportOf e) out) }
+  round-trip strict e out room short =
+      trip-given strict big (e .sheet) (exportOf e) (plainFormOf e) out (as-exported strict e) (comes-back big e) (plained-given e) (as-again strict e short) (room .first) (room .second) (room .third) (room .fourth)
 
 -- ── under the conditions, whatever the buffers hold and however long they are: exactly this is answered
 
@@ -88,19 +112,14 @@ tripExpected x p out =
     (importRefused 16))
     (exportRefused 16)
 
-module _ (big : Bool) where
-  -- a sheet that is too long is refused with 1
-  too-long : (p : Bytes) → leb (length p) 65535 ≡ false → exported big p ≡ refused notSheet
-  unfolding exported
-  too-long p h = rw h
-
-  module _ (b x p : Bytes) (out : Buffers) (h : exported big b ≡ given x) (i : imported big x ≡ given p) (j : plained b ≡ given p) (k : IsShort p → exported big p ≡ given x) where
-    step-1 : fitsIn x (out .first) ≡ true → exportOutcomeIn big b (out .first) ≡ success x (out .first)
+module _ (strict big : Bool) where
+  module _ (b x p : Bytes) (out : Buffers) (h : exportedAs strict big b ≡ given x) (i : imported big x ≡ given p) (j : plained b ≡ given p) (k : IsShort p → exportedAs strict big p ≡ given x) where
+    step-1 : fitsIn x (out .first) ≡ true → exportOutcomeAs strict big b (out .first) ≡ success x (out .first)
     step-1 r = ap (λ (a : Answer Bytes). outcome a (out .first)) h ∙ fits x (out .first) (leb-true (length x) (length (out .first)) r)
 
     abbrev Expects : Bool → Bool → Bool → Bool → Bool → Type 0
     Expects r s t l u =
-        tripAnswer (tripSteps big b out) ≡ cond r (cond s (cond t (cond l (cond u allSame (againRefused 16)) (againRefused 1)) (plainRefused 16)) (importRefused 16)) (exportRefused 16)
+        tripAnswer (tripSteps strict big b out) ≡ cond r (cond s (cond t (cond l (cond u allSame (againRefused 16)) (againRefused 1)) (plainRefused 16)) (importRefused 16)) (exportRefused 16)
 
     expected : (r s t l u : Bool) → fitsIn x (out .first) ≡ r → fitsIn p (out .second) ≡ s → fitsIn p (out .third) ≡ t → leb (length p) 65535 ≡ l → fitsIn x (out .fourth) ≡ u → Expects r s t l u
     expected false s t l u er es et el eu = rw (h, fits-not x (out .first) (leb-false (length x) (length (out .first)) er))
@@ -109,18 +128,23 @@ module _ (big : Bool) where
     expected true true false l u er es et el eu =
         simp (step-1 er, written-success, i, fits p (out .second) (leb-true (length p) (length (out .second)) es), j, fits-not p (out .third) (leb-false (length p) (length (out .third)) et))
     expected true true true false u er es et el eu =
-        simp (step-1 er, written-success, i, fits p (out .second) (leb-true (length p) (length (out .second)) es), j, fits p (out .third) (leb-true (length p) (length (out .third)) et), too-long p el, turned notSheet (out .fourth))
+        simp (step-1 er, written-success, i, fits p (out .second) (leb-true (length p) (length (out .second)) es), j, fits p (out .third) (leb-true (length p) (length (out .third)) et), too-long big strict p el, turned notSheet (out .fourth))
     expected true true true true false er es et el eu =
         simp (step-1 er, written-success, i, fits p (out .second) (leb-true (length p) (length (out .second)) es), j, fits p (out .third) (leb-true (length p) (length (out .third)) et), k (leb-true (length p) 65535 el), fits-not x (out .fourth) (leb-false (length x) (length (out .fourth)) eu))
     expected true true true true true er es et el eu =
-        ap tripAnswer (given-steps big b x p out h i j (k (leb-true (length p) 65535 el)) (leb-true (length x) (length (out .first)) er) (leb-true (length p) (length (out .second)) es) (leb-true (length p) (length (out .third)) et) (leb-true (length x) (length (out .fourth)) eu))
+        ap tripAnswer (given-steps strict big b x p out h i j (k (leb-true (length p) 65535 el)) (leb-true (length x) (length (out .first)) er) (leb-true (length p) (length (out .second)) es) (leb-true (length p) (length (out .third)) et) (leb-true (length x) (length (out .fourth)) eu))
         ∙ success-same x p out
 
-  -- what `round_trip` answers to a field that meets the conditions, with any buffers
-  pub round-trip-exactly : (e : Exportable big) (out : Buffers) → roundTripOutcomeIn big (e .sheet) out .answer ≡ tripExpected (exportOf e) (plainFormOf e) out
+  -- what `round_trip` answers where the steps give these sheets, with any buffers
+  pub trip-exactly : (b x p : Bytes) (out : Buffers) → exportedAs strict big b ≡ given x → imported big x ≡ given p → plained b ≡ given p → (IsShort p → exportedAs strict big p ≡ given x)
+      → roundTripOutcomeAs strict big b out .answer ≡ tripExpected x p out
+  trip-exactly b x p out h i j k =
+      expected b x p out h i j k (fitsIn x (out .first)) (fitsIn p (out .second)) (fitsIn p (out .third)) (leb (length p) 65535) (fitsIn x (out .fourth)) refl refl refl refl refl
+
+  -- and to a field that meets the conditions
+  pub round-trip-exactly : (e : Exportable big) (out : Buffers) → roundTripOutcomeAs strict big (e .sheet) out .answer ≡ tripExpected (exportOf e) (plainFormOf e) out
   round-trip-exactly e out =
-      expected (e .sheet) (exportOf e) (plainFormOf e) out (exported-given e) (comes-back big e) (plained-given e) (goes-again big e)
-      (fitsIn (exportOf e) (out .first)) (fitsIn (plainFormOf e) (out .second)) (fitsIn (plainFormOf e) (out .third)) (leb (length (plainFormOf e)) 65535) (fitsIn (exportOf e) (out .fourth)) refl refl refl refl refl
+      trip-exactly (e .sheet) (exportOf e) (plainFormOf e) out (as-exported strict e) (comes-back big e) (plained-given e) (as-again strict e)
 
 -- ── the buffers after a call, by its number
 
@@ -196,6 +220,11 @@ number-among ns a out h d = go (cases a out)
     go (tooLong x e l o) = subst (λ (n : ℕ). oneOf (16 ∷ ns) n ≡ true) (sym (ap (λ (y : Outcome). y .number) o)) refl
     go (answered x e l o) = absurd (d (ap (λ (y : Outcome). y .number) o))
 
+-- what import can answer to an export: 1 where it is too long to be handed in, and 9 for a dictionary index of 128 bits, which the strict one never writes
+abbrev pub returnNumbersAs : Bool → List ℕ
+returnNumbersAs true = 1 ∷ []
+returnNumbersAs false = returnNumbers
+
 -- a sheet that was exported and its plain form
 pub record Both (big : Bool) (b x p : Bytes) : Type 0 where
   pub field : Field
@@ -229,9 +258,17 @@ module _ (big : Bool) where
   unfolding exported
   again-any {b} {x} t short =
       let f = t .field in
-      let levels : leb (fieldLevels (plain f)) 32 ≡ true = le-leb (fieldLevels (plain f)) 32 (omega (arith, plain-levels f, leb-true (fieldLevels f) 32 (field-read b f (t .isField) .1))) in
       subst (λ y. IsShort y → exported big y ≡ given x) (t .isPlain)
-      (λ l. rw (read-field-sheet (plain f) (both-rule t) levels (le-leb (length (writeFieldSheet (plain f))) 65535 l), export-plain big f, t .isExported) (ap given (t .isWritten))) short
+      (λ l. rw (plain-read b f (t .isField) l, export-plain big f, t .isExported) (ap given (t .isWritten))) short
+
+  -- by either export: what the strict one answered has neither a reserved key nor a wide index, and nor has its plain form
+  pub again-as : (strict : Bool) (b x p : Bytes) → exportedAs strict big b ≡ given x → plained b ≡ given p → IsShort p → exportedAs strict big p ≡ given x
+  again-as false b x p h k short = again-any (both-of b x p h k) short
+  again-as true b x p h k short =
+      let g = strict-gave big b x h in
+      let q : writeFieldSheet (plain (g .0)) ≡ p = same-given (sym (plained-of b (g .0) (g .1)) ∙ k) in
+      let r : readFieldSheet p ≡ given (plain (g .0)) = subst (λ y. IsShort y → readFieldSheet y ≡ given (plain (g .0))) q (plain-read b (g .0) (g .1)) short in
+      strict-free big p (plain (g .0)) r (plain-free (g .0) (g .2)) ∙ again-any (both-of b x p (g .3) k) short
 
   -- plain forms that are equal have equal exports: whatever is in the fields
   pub alike-any : {b x p c y q : Bytes} → Both big b x p → Both big c y q → p ≡ q → x ≡ y
@@ -240,37 +277,65 @@ module _ (big : Bool) where
       let s : t .schema ≡ u .schema = same-given (sym (t .isExported) ∙ sym (export-plain big (t .field)) ∙ ap (schemaNew big) f ∙ export-plain big (u .field) ∙ u .isExported) in
       sym (t .isWritten) ∙ ap writeSchemaSheet s ∙ u .isWritten
 
-  again-numbers : {b x p : Bytes} → Both big b x p → Only (1 ∷ []) (exported big p)
-  again-numbers {p = p} t = pick (leb (length p) 65535) refl
+  again-numbers : (strict : Bool) (b x p : Bytes) → exportedAs strict big b ≡ given x → plained b ≡ given p → Only (1 ∷ []) (exportedAs strict big p)
+  again-numbers strict b x p h k = pick (leb (length p) 65535) refl
     where
-      pick : (s : Bool) → leb (length p) 65535 ≡ s → Only (1 ∷ []) (exported big p)
-      pick true e = only-known (1 ∷ []) (exported big p) _ (again-any t (leb-true (length p) 65535 e))
-      pick false e = subst (λ (a : Answer Bytes). Only (1 ∷ []) a) (sym (too-long big p e)) (only-refused (1 ∷ []) notSheet refl)
+      pick : (s : Bool) → leb (length p) 65535 ≡ s → Only (1 ∷ []) (exportedAs strict big p)
+      pick true e = only-known (1 ∷ []) (exportedAs strict big p) x (again-as strict b x p h k (leb-true (length p) 65535 e))
+      pick false e = subst (λ (a : Answer Bytes). Only (1 ∷ []) a) (sym (too-long big strict p e)) (only-refused (1 ∷ []) notSheet refl)
+
+  -- a sheet that is too long is refused with 1
+  long-import : (x : Bytes) → leb (length x) 65535 ≡ false → imported big x ≡ refused notSheet
+  unfolding imported
+  long-import x h = rw h
 
   -- a sheet that was answered was short
   short-imported : (x y : Bytes) → imported big x ≡ given y → IsShort x
-  unfolding imported
   short-imported x y h = pick (leb (length x) 65535) refl
     where
       pick : (s : Bool) → leb (length x) 65535 ≡ s → IsShort x
       pick true e = leb-true (length x) 65535 e
-      pick false e = not-given (rw e at h)
+      pick false e = not-given (sym (long-import x e) ∙ h)
 
-  short-exported : (x y : Bytes) → exported big x ≡ given y → IsShort x
-  short-exported x y h = pick (leb (length x) 65535) refl
+  short-exported : (strict : Bool) (x y : Bytes) → exportedAs strict big x ≡ given y → IsShort x
+  short-exported strict x y h = pick (leb (length x) 65535) refl
     where
       pick : (s : Bool) → leb (length x) 65535 ≡ s → IsShort x
       pick true e = leb-true (length x) 65535 e
-      pick false e = not-given (sym (too-long big x e) ∙ h)
+      pick false e = not-given (sym (too-long big strict x e) ∙ h)
 
-  -- ── the laws, for every sheet and all buffers
+  -- what the strict export answered comes back, where it is short
+  pub strict-returned : (b x : Bytes) → strictExported big b ≡ given x → IsShort x → imported big x ≡ plained b
+  strict-returned b x h short =
+      let g = strict-gave big b x h in
+      returned big b x (g .0) (g .1) (g .2) (g .3) short ∙ sym (plained-of b (g .0) (g .1))
 
+  return-numbers-as : (strict : Bool) (b x : Bytes) → exportedAs strict big b ≡ given x → Only (returnNumbersAs strict) (imported big x)
+  return-numbers-as false b x h = return-numbers big b x h
+  return-numbers-as true b x h = pick (leb (length x) 65535) refl
+    where
+      pick : (s : Bool) → leb (length x) 65535 ≡ s → Only (1 ∷ []) (imported big x)
+      pick true e =
+          let p = plain-there b x (as-gave big true b x h) in
+          only-known (1 ∷ []) (imported big x) (p .0) (strict-returned b x h (leb-true (length x) 65535 e) ∙ p .1)
+      pick false e = subst (λ (a : Answer Bytes). Only (1 ∷ []) a) (sym (long-import x e)) (only-refused (1 ∷ []) notSheet refl)
+
+-- ── the laws, for every sheet and all buffers
+
+module _ (strict big : Bool) where
   module _ (b : Bytes) (out : Buffers) where
     abbrev Says : RoundTrip → Type 0
-    Says x = roundTripOutcomeIn big b out .answer ≡ x
+    Says x = roundTripOutcomeAs strict big b out .answer ≡ x
 
     abbrev steps : Steps
-    steps = tripSteps big b out
+    steps = tripSteps strict big b out
+
+    -- what the first step gave, and the third, where they were not refused
+    first-gives : steps .first .number ≡ 0 → exportedAs strict big b ≡ given (written (steps .first))
+    first-gives z = zero-gave (exportedAs strict big b) (out .first) z
+
+    third-gives : steps .third .number ≡ 0 → plained b ≡ given (written (steps .third))
+    third-gives z = zero-gave (plained b) (out .third) z
 
     -- what the answer x says of the steps
     pub says : (x : RoundTrip) → Says x → Told steps x
@@ -280,35 +345,31 @@ module _ (big : Bool) where
     pub same-means : Says allSame → NoneRefused steps × (written (steps .second) ≡ written (steps .third)) × (written (steps .fourth) ≡ written (steps .first))
     same-means h = says allSame h
 
-    -- a refused export: the numbers of the sheet's maker, of the field's owner, or 16
-    pub export-refused : (n : ℕ) → Says (exportRefused n) → oneOf (16 ∷ exportNumbers) n ≡ true
+    -- a refused export: the numbers of the sheet's maker, of the field's owner, or 16; 17 and 18 are among them if it is strict
+    pub export-refused : (n : ℕ) → Says (exportRefused n) → oneOf (16 ∷ exportNumbersAs strict) n ≡ true
     export-refused n h =
         let t = says (exportRefused n) h in
-        subst (λ (m : ℕ). oneOf (16 ∷ exportNumbers) m ≡ true) (t .0) (number-among exportNumbers (exported big b) (out .first) (export-numbers big b) (t .1))
+        subst (λ (m : ℕ). oneOf (16 ∷ exportNumbersAs strict) m ≡ true) (t .0) (number-among (exportNumbersAs strict) (exportedAs strict big b) (out .first) (export-numbers-as strict big b) (t .1))
 
-    -- a refused import: 1 where the export is too long to be handed in, 9 for a dictionary index of 128 bits, or 16
-    pub import-refused : (n : ℕ) → Says (importRefused n) → oneOf (16 ∷ returnNumbers) n ≡ true
+    -- a refused import: 1 where the export is too long to be handed in, 9 for a dictionary index of 128 bits, or 16; no 9 if it is strict
+    pub import-refused : (n : ℕ) → Says (importRefused n) → oneOf (16 ∷ returnNumbersAs strict) n ≡ true
     import-refused n h =
         let t = says (importRefused n) h in
-        let only = return-numbers big b (written (steps .first)) (zero-gave (exported big b) (out .first) (t .2)) in
-        subst (λ (m : ℕ). oneOf (16 ∷ returnNumbers) m ≡ true) (t .0) (number-among returnNumbers (imported big (written (steps .first))) (out .second) only (t .1))
+        let only = return-numbers-as big strict b (written (steps .first)) (first-gives (t .2)) in
+        subst (λ (m : ℕ). oneOf (16 ∷ returnNumbersAs strict) m ≡ true) (t .0) (number-among (returnNumbersAs strict) (imported big (written (steps .first))) (out .second) only (t .1))
 
     -- a refused plain form: 16 only
     pub plain-refused : (n : ℕ) → Says (plainRefused n) → oneOf (16 ∷ []) n ≡ true
     plain-refused n h =
         let t = says (plainRefused n) h in
-        let p = plain-there b (written (steps .first)) (zero-gave (exported big b) (out .first) (t .2)) in
+        let p = plain-there big b (written (steps .first)) (as-gave big strict b (written (steps .first)) (first-gives (t .2))) in
         subst (λ (m : ℕ). oneOf (16 ∷ []) m ≡ true) (t .0) (number-among [] (plained b) (out .third) (only-known [] (plained b) (p .0) (p .1)) (t .1))
-
-    -- the sheet, its export and its plain form, where both were answered
-    trip-both : steps .first .number ≡ 0 → steps .third .number ≡ 0 → Both big b (written (steps .first)) (written (steps .third))
-    trip-both z y = both-of b (written (steps .first)) (written (steps .third)) (zero-gave (exported big b) (out .first) z) (zero-gave (plained b) (out .third) y)
 
     -- a refused second export: 1 where the plain form is too long to be handed in, or 16
     pub again-refused : (n : ℕ) → Says (againRefused n) → oneOf (16 ∷ 1 ∷ []) n ≡ true
     again-refused n h =
         let t = says (againRefused n) h in
-        subst (λ (m : ℕ). oneOf (16 ∷ 1 ∷ []) m ≡ true) (t .0) (number-among (1 ∷ []) (exported big (written (steps .third))) (out .fourth) (again-numbers (trip-both (t .2) (t .4))) (t .1))
+        subst (λ (m : ℕ). oneOf (16 ∷ 1 ∷ []) m ≡ true) (t .0) (number-among (1 ∷ []) (exportedAs strict big (written (steps .third))) (out .fourth) (again-numbers big strict b (written (steps .first)) (written (steps .third)) (first-gives (t .2)) (third-gives (t .4))) (t .1))
 
     -- the second export never differs from the first, whatever is in the field
     pub again-never-differs : Says againDiffers → ⊥
@@ -318,8 +379,9 @@ module _ (big : Bool) where
       where
         alike : NoneRefused steps → written (steps .fourth) ≡ written (steps .first)
         alike z =
-            let four = zero-gave (exported big (written (steps .third))) (out .fourth) (z .fourth) in
-            same-given (sym four ∙ again-any (trip-both (z .first) (z .third)) (short-exported (written (steps .third)) (written (steps .fourth)) four))
+            let four = zero-gave (exportedAs strict big (written (steps .third))) (out .fourth) (z .fourth) in
+            let short = short-exported big strict (written (steps .third)) (written (steps .fourth)) four in
+            same-given (sym four ∙ again-as big strict b (written (steps .first)) (written (steps .third)) (first-gives (z .first)) (third-gives (z .third)) short)
 
     -- import gives another field than the plain form only where a key is reserved or an index has 128 bits
     pub import-differs : Says importDiffers → (f : Field) → readFieldSheet b ≡ given f → NoReservedKey f → NoWideIndex f → ⊥
@@ -330,27 +392,28 @@ module _ (big : Bool) where
         alike : NoneRefused steps → written (steps .second) ≡ written (steps .third)
         alike z =
             let two = zero-gave (imported big (written (steps .first))) (out .second) (z .second) in
-            let e : Exportable big = record { sheet = b; field = f; isField = r; noReservedKey = k; noWideIndex = w; buffer = out .first; answersZero = z .first; shortExport = short-imported (written (steps .first)) (written (steps .second)) two } in
-            same-given (sym two ∙ comes-back big e ∙ sym (plained-of b f r) ∙ zero-gave (plained b) (out .third) (z .third))
+            let one = as-gave big strict b (written (steps .first)) (first-gives (z .first)) in
+            let short = short-imported big (written (steps .first)) (written (steps .second)) two in
+            same-given (sym two ∙ returned big b (written (steps .first)) f r (free f k w) one short ∙ sym (plained-of b f r) ∙ third-gives (z .third))
 
-    -- the number of the answer is at most 16, and 0 exactly if no step was refused
-    pub number-means : (roundTripNumber (roundTripOutcomeIn big b out .answer) ≤ 16) × ((roundTripNumber (roundTripOutcomeIn big b out .answer) ≡ 0) ↔ NoneRefused steps)
-    number-means = go (roundTripOutcomeIn big b out .answer) (told steps)
+    -- the number of the answer is at most the last, and 0 exactly if no step was refused
+    pub number-means : (roundTripNumber (roundTripOutcomeAs strict big b out .answer) ≤ lastNumber) × ((roundTripNumber (roundTripOutcomeAs strict big b out .answer) ≡ 0) ↔ NoneRefused steps)
+    number-means = go (roundTripOutcomeAs strict big b out .answer) (told steps)
       where
-        go : (r : RoundTrip) → Told steps r → (roundTripNumber r ≤ 16) × ((roundTripNumber r ≡ 0) ↔ NoneRefused steps)
+        go : (r : RoundTrip) → Told steps r → (roundTripNumber r ≤ lastNumber) × ((roundTripNumber r ≡ 0) ↔ NoneRefused steps)
         go allSame t = (omega arith, (λ e. t .0, λ z. refl))
-        go (exportRefused n) t = (omega (arith, t .0, number-at-most (exported big b) (out .first)), (λ e. absurd (t .1 (t .0 ∙ e)), λ z. sym (t .0) ∙ z .first))
+        go (exportRefused n) t = (omega (arith, t .0, number-at-most (exportedAs strict big b) (out .first)), (λ e. absurd (t .1 (t .0 ∙ e)), λ z. sym (t .0) ∙ z .first))
         go (importRefused n) t =
             (omega (arith, t .0, number-at-most (imported big (written (steps .first))) (out .second)), (λ e. absurd (t .1 (t .0 ∙ e)), λ z. sym (t .0) ∙ z .second))
         go (plainRefused n) t = (omega (arith, t .0, number-at-most (plained b) (out .third)), (λ e. absurd (t .1 (t .0 ∙ e)), λ z. sym (t .0) ∙ z .third))
         go (againRefused n) t =
-            (omega (arith, t .0, number-at-most (exported big (written (steps .third))) (out .fourth)), (λ e. absurd (t .1 (t .0 ∙ e)), λ z. sym (t .0) ∙ z .fourth))
+            (omega (arith, t .0, number-at-most (exportedAs strict big (written (steps .third))) (out .fourth)), (λ e. absurd (t .1 (t .0 ∙ e)), λ z. sym (t .0) ∙ z .fourth))
         go importDiffers t = (omega arith, (λ e. t .0, λ z. refl))
         go againDiffers t = (omega arith, (λ e. t .0, λ z. refl))
 
     -- every lent byte: zeros where a step was refused, else what the steps left
-    pub refused-clears : roundTripNumber (roundTripOutcomeIn big b out .answer) ≢ 0 → roundTripOutcomeIn big b out .buffers ≡ cleared out
-    refused-clears h = after-refusal (roundTripNumber (roundTripOutcomeIn big b out .answer)) steps out h
+    pub refused-clears : roundTripNumber (roundTripOutcomeAs strict big b out .answer) ≢ 0 → roundTripOutcomeAs strict big b out .buffers ≡ cleared out
+    refused-clears h = after-refusal (roundTripNumber (roundTripOutcomeAs strict big b out .answer)) steps out h
 
-    pub answered-keeps : roundTripNumber (roundTripOutcomeIn big b out .answer) ≡ 0 → roundTripOutcomeIn big b out .buffers ≡ stepBuffers steps
-    answered-keeps h = after-answer (roundTripNumber (roundTripOutcomeIn big b out .answer)) steps out h
+    pub answered-keeps : roundTripNumber (roundTripOutcomeAs strict big b out .answer) ≡ 0 → roundTripOutcomeAs strict big b out .buffers ≡ stepBuffers steps
+    answered-keeps h = after-answer (roundTripNumber (roundTripOutcomeAs strict big b out .answer)) steps out h

@@ -10,6 +10,7 @@ use lib.Dec.{eqb}
 use lib.ListN.{length}
 use borrow.Author.Tests.{le-leb, leb-true, leb-false, eqb-true, eqb-false}
 use Rattle.sheets.specs.Bytes.{Bytes, same}
+use Rattle.sheets.specs.Refusal.{lastNumber, oneOf}
 use Rattle.sheets.specs.Answer.{Answer, given}
 use Rattle.sheets.specs.Outcome.{Outcome, success, outcome, exported, plained}
 use Rattle.sheets.specs.Demand3.{written, Exportable, exportOf, plainFormOf}
@@ -17,9 +18,9 @@ use Rattle.sheets.specs.RoundTrip.{Steps, Buffers, stepBuffers, cleared,
 use Rattle.sheets.proofs.Tests.{never}
 use Rattle.sheets.proofs.BytesLaws.{same-refl, same-eq}
 use Rattle.sheets.proofs.OutcomeLaws.{fits, fits-not, number-at-most, written-success}
-use Rattle.sheets.proofs.OnlyLaws.{oneOf, only-known, exportNumbers, export-numbers}
-use Rattle.sheets.proofs.Demand3.{same-plain, same-export}
-use Rattle.sheets.proofs.RoundTripLaws.{exported-given, plained-given, zero-gave, number-among, both-of, plain-there, alike-any, NoneRefused, zero-test, after-refusal, after-answer, fitsIn, round-trip}
+use Rattle.sheets.proofs.OnlyLaws.{only-known, exportNumbers, export-numbers}
+use Rattle.sheets.proofs.Demand3.{exported-given, same-plain, same-export}
+use Rattle.sheets.proofs.RoundTripLaws.{plained-given, zero-gave, number-among, both-of, plain-there, alike-any, NoneRefused, zero-test, after-refusal, after-answer, fitsIn, round-trip}
 
 -- ── under the conditions
 
@@ -114,7 +115,7 @@ module _ {big : Bool} where
 -- ── demand 3 through the two calls
 
 pub demand3-called : (big : Bool) → Demand3Called big
-demand3-called big = record { roundTrips = round-trip; comparesAlike = same-exports }
+demand3-called big = record { roundTrips = round-trip false; comparesAlike = same-exports }
 
 -- ── what an answer means, for all sheets and all buffers
 
@@ -190,11 +191,11 @@ module _ (big : Bool) where
         let p = plain-there big other (written (steps .second)) (zero-gave (exported big other) (out .second) (t .3)) in
         subst (λ (m : ℕ). oneOf (16 ∷ []) m ≡ true) (t .0) (number-among [] (plained other) (out .fourth) (only-known [] (plained other) (p .0) (p .1)) (t .1))
 
-    -- the number of the answer is at most 16, and 0 exactly if no step was refused
-    pub number-means : (sameExportsNumber (sameExportsOutcome big one other out .answer) ≤ 16) × ((sameExportsNumber (sameExportsOutcome big one other out .answer) ≡ 0) ↔ NoneRefused steps)
+    -- the number of the answer is at most the last, and 0 exactly if no step was refused
+    pub number-means : (sameExportsNumber (sameExportsOutcome big one other out .answer) ≤ lastNumber) × ((sameExportsNumber (sameExportsOutcome big one other out .answer) ≡ 0) ↔ NoneRefused steps)
     number-means = go (sameExportsOutcome big one other out .answer) (told steps)
       where
-        go : (r : SameExports) → Told steps r → (sameExportsNumber r ≤ 16) × ((sameExportsNumber r ≡ 0) ↔ NoneRefused steps)
+        go : (r : SameExports) → Told steps r → (sameExportsNumber r ≤ lastNumber) × ((sameExportsNumber r ≡ 0) ↔ NoneRefused steps)
         go (compared x y) t = (omega arith, (λ e. t .0, λ z. refl))
         go (oneExportRefused n) t = (omega (arith, t .0, number-at-most (exported big one) (out .first)), (λ e. absurd (t .1 (t .0 ∙ e)), λ z. sym (t .0) ∙ z .first))
         go (otherExportRefused n) t = (omega (arith, t .0, number-at-most (exported big other) (out .second)), (λ e. absurd (t .1 (t .0 ∙ e)), λ z. sym (t .0) ∙ z .second))

@@ -8,20 +8,17 @@
 -- Assumes nothing.
 use mathlib.Core.Path.{_≡_}
 use mathlib.Core.Logic.{_↔_}
-use mathlib.Core.Bool.{Bool, true, _||_, not}
-use mathlib.Core.List.{List}
+use mathlib.Core.Bool.{Bool, true}
 use Prim.Native.Nat.{ℕ, _≤_}
-use lib.Dec.{eqb}
 use lib.ListN.{length, take}
-use Rattle.sheets.specs.Rule.{Rule, is, _and_, each, Meets}
+use Rattle.sheets.specs.Rule.{Rule, is, _and_, Meets}
 use Rattle.sheets.specs.Bytes.{Bytes}
 use Rattle.sheets.specs.Answer.{given}
 use Rattle.sheets.specs.Sheet.{sheetLimit}
-use Rattle.sheets.specs.IntegerType
-use Rattle.sheets.specs.Field.{Pair, Info, ArrowDataType, scalar, nested, grouped, dictionary, extension, Fields, nil, add, Field}
+use Rattle.sheets.specs.Field.{Info, ArrowDataType, scalar, nested, grouped, dictionary, extension, Fields, nil, add, Field}
 use Rattle.sheets.specs.FieldSheet.{readFieldSheet, writeFieldSheet}
-use Rattle.sheets.specs.Metadata.{reserved, orNone}
 use Rattle.sheets.specs.Plain.{plain}
+use Rattle.sheets.specs.Strict.{ownKeys, narrowIndex}
 use Rattle.sheets.specs.Outcome.{Outcome, success, importOutcomeIn, exportOutcomeIn}
 
 -- ── the conditions
@@ -45,20 +42,6 @@ everyLine own index f = own (f .info) and typeEvery own index (f .type)
 
 abbrev pub noRule : {A : Type 0} → A → Rule
 noRule a = is true
-
--- no key of the pairs is reserved
-abbrev pub noReserved : List Pair → Rule
-noReserved ps = each (λ (p : Pair). is (not (reserved (p .0)))) ps
-
-abbrev pub ownKeys : Info → Rule
-ownKeys i = noReserved (orNone (i .pairs))
-
--- the index type is neither Int128 nor UInt128
-abbrev pub narrow : ℕ → Bool
-narrow ix = not (eqb ix IntegerType.Int128 || eqb ix IntegerType.UInt128)
-
-abbrev pub narrowIndex : ℕ → Rule
-narrowIndex ix = is (narrow ix)
 
 -- "no reserved key"
 abbrev pub NoReservedKey : Field → Type 0

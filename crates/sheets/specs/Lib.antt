@@ -39,9 +39,11 @@ pub mod PlainSteps
 pub mod MappingSteps
 pub mod Page
 pub mod PageSteps
+pub mod Strict
 pub mod Outcome
 pub mod Demand3
 pub mod RoundTrip
+pub mod StrictReturn
 pub mod Bench
 pub mod Impostors
 pub mod Standard

@@ -1,6 +1,6 @@
 -- What each public call answers (document 01, 'Who is turned back', 'Agreement on the contracts'): its number, its length, and every byte of the
 -- buffer that was lent. Assumes nothing.
-use mathlib.Core.Bool.{Bool, false, not, cond}
+use mathlib.Core.Bool.{Bool, true, false, not, cond}
 use mathlib.Core.List.{_++_}
 use Prim.Native.Nat.{ℕ}
 use lib.Dec.{eqb, leb}
@@ -16,6 +16,7 @@ use Rattle.sheets.specs.FieldSheet.{readFieldSheet, writeFieldSheet, wri
 use Rattle.sheets.specs.Import.{toField}
 use Rattle.sheets.specs.Export.{schemaNew}
 use Rattle.sheets.specs.Visits.{importLines, exportLines}
+use Rattle.sheets.specs.Strict.{fieldReturns}
 use Rattle.sheets.specs.Plain.{plain}
 use Rattle.sheets.specs.Page.{page}
 use Rattle.sheets.specs.Mappings.{PhysicalType, withDtype, toPhysicalType, underlyingPhysicalType, toStorage, toStorageRecursive, innerDtype, getChild, isNested, containsDictionary, fromIntegerType, fromPrimitiveType}
@@ -41,6 +42,21 @@ exported big b = do
   f ← readFieldSheet b
   s ← schemaNew big f
   given (writeSchemaSheet s)
+
+-- strict export (document 02, #106): its two tests come "after the sheet's form and before any other test. Where it finds neither, it answers as the
+-- present export"
+unfoldable pub strictExported : Bool → Bytes → Answer Bytes
+unfolding rows decimal
+strictExported big b = do
+  f ← readFieldSheet b
+  _ ← fieldReturns f
+  s ← schemaNew big f
+  given (writeSchemaSheet s)
+
+-- one or the other, as the caller says: strict, or the present one
+abbrev pub exportedAs : Bool → Bool → Bytes → Answer Bytes
+exportedAs true big b = strictExported big b
+exportedAs false big b = exported big b
 
 -- the plain form of a field sheet: "a field sheet again, heading included"
 unfoldable pub plained : Bytes → Answer Bytes
@@ -95,6 +111,13 @@ importOutcomeIn big b out = outcome (imported big b) out
 
 abbrev pub exportOutcomeIn : Bool → Bytes → Bytes → Outcome
 exportOutcomeIn big b out = outcome (exported big b) out
+
+abbrev pub strictExportOutcome : Bool → Bytes → Bytes → Outcome
+strictExportOutcome big b out = outcome (strictExported big b) out
+
+-- one or the other
+abbrev pub exportOutcomeAs : Bool → Bool → Bytes → Bytes → Outcome
+exportOutcomeAs strict big b out = outcome (exportedAs strict big b) out
 
 -- "Our lengths are little-endian"
 abbrev pub importOutcome : Bytes → Bytes → Outcome

@@ -4,12 +4,12 @@
 -- all in it. `proofs/RoundTripLaws.antt` and `proofs/SameExportsLaws.antt` have what holds of them.
 -- Assumes nothing.
 use mathlib.Core.Path.{_≡_}
-use mathlib.Core.Bool.{Bool, false, cond}
+use mathlib.Core.Bool.{Bool, true, false, cond}
 use Prim.Native.Nat.{ℕ}
 use lib.Dec.{eqb}
 use lib.ListN.{length, replicate}
 use Rattle.sheets.specs.Bytes.{Bytes, same}
-use Rattle.sheets.specs.Outcome.{Outcome, success, importOutcomeIn, exportOutcomeIn, plainOutcome}
+use Rattle.sheets.specs.Outcome.{Outcome, success, importOutcomeIn, exportOutcomeIn, exportOutcomeAs, plainOutcome}
 use Rattle.sheets.specs.Demand3.{IsShort, HasRoom, written, Exportable, exportOf, plainFormOf}
 
 -- four outcomes, in the order of the steps
@@ -72,14 +72,15 @@ roundTripNumber (againRefused n) = n
 roundTripNumber importDiffers = 0
 roundTripNumber againDiffers = 0
 
--- the export of the sheet, the import of what that wrote, the plain form of the sheet, the export of what that wrote
-abbrev pub tripSteps : Bool → Bytes → Buffers → Steps
-tripSteps big sheet out =
+-- the export of the sheet, the import of what that wrote, the plain form of the sheet, the export of what that wrote; both exports are strict (document 02,
+-- #106), or neither
+abbrev pub tripSteps : Bool → Bool → Bytes → Buffers → Steps
+tripSteps strict big sheet out =
     record {
-      first = exportOutcomeIn big sheet (out .first);
-      second = importOutcomeIn big (written (exportOutcomeIn big sheet (out .first))) (out .second);
+      first = exportOutcomeAs strict big sheet (out .first);
+      second = importOutcomeIn big (written (exportOutcomeAs strict big sheet (out .first))) (out .second);
       third = plainOutcome sheet (out .third);
-      fourth = exportOutcomeIn big (written (plainOutcome sheet (out .third))) (out .fourth);
+      fourth = exportOutcomeAs strict big (written (plainOutcome sheet (out .third))) (out .fourth);
     }
 
 -- the first refusal; else whether the second is the third, and the fourth the first
@@ -95,10 +96,21 @@ pub record RoundTripOutcome : Type 0 where
   pub answer : RoundTrip
   pub buffers : Buffers
 
--- the order, a field sheet, then what the four lent buffers held
+-- what four steps answer, and what they leave in the buffers
+abbrev pub tripOutcome : Steps → Buffers → RoundTripOutcome
+tripOutcome s out = record { answer = tripAnswer s; buffers = buffersAfter (roundTripNumber (tripAnswer s)) s out }
+
+-- whether both exports are strict, the order, a field sheet, then what the four lent buffers held
+abbrev pub roundTripOutcomeAs : Bool → Bool → Bytes → Buffers → RoundTripOutcome
+roundTripOutcomeAs strict big sheet out = tripOutcome (tripSteps strict big sheet out) out
+
+-- by the present export
 abbrev pub roundTripOutcomeIn : Bool → Bytes → Buffers → RoundTripOutcome
-roundTripOutcomeIn big sheet out =
-    record { answer = tripAnswer (tripSteps big sheet out); buffers = buffersAfter (roundTripNumber (tripAnswer (tripSteps big sheet out))) (tripSteps big sheet out) out }
+roundTripOutcomeIn big sheet out = roundTripOutcomeAs false big sheet out
+
+-- by the strict one
+abbrev pub strictRoundTripOutcome : Bool → Bytes → Buffers → RoundTripOutcome
+strictRoundTripOutcome big sheet out = roundTripOutcomeAs true big sheet out
 
 -- little-endian
 abbrev pub roundTripOutcome : Bytes → Buffers → RoundTripOutcome

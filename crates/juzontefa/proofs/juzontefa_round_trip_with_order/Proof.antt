@@ -28,7 +28,7 @@ same-length-4 c = search needs
 returns : tie.Need-returns
 returns c =
     let r = c .before .before .before .before .before .before .before .before .before .round-trip in
-    let b = four (r .last .1 .1 .0) (r .last .1 .1 .1 .0) (r .last .1 .1 .1 .1 .0) (r .last .1 .1 .1 .1 .1 .0) in
+    let b = four (r .last .1 .1 .1 .0) (r .last .1 .1 .1 .1 .0) (r .last .1 .1 .1 .1 .1 .0) (r .last .1 .1 .1 .1 .1 .1 .0) in
     ap (λ (t : Trip). hostTold (t .answer) (t .number) b) (c .trip-of .ensures) ∙ ap hostTrip (r .ensures)
 
 pub juzontefa-round-trip-with-order-spec : {M : Type 1} → statement M

@@ -5,7 +5,7 @@ use lib.Dec.{ltb}
 use lib.ListN.{length}
 use native.Mathlib.Omega.{arith}
 use borrow.Author.Tests.{lt-leb, le-leb, not-true, not-false}
-use Rattle.put_metadata.specs.Pairs.{firstPlace}
+use Rattle.field_pairs.specs.Pairs.{firstPlace}
 use Rattle.put_schema_line.proofs.LineLaws.{plain-as}
 use borrow.Author.Needs.{needs}
 use Rattle.put_schema_line.proofs.is_plain.Statement.{statement}

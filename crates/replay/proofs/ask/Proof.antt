@@ -5,7 +5,7 @@ use borrow.Author.Tests.{ne-eqb}
 use borrow.Author.Needs.{needs}
 use denote.Ref.{now}
 use Rattle.sheets.specs.Bytes.{Bytes}
-use Rattle.recorded_list.specs.Codes.{importCall, exportCall, plainCall, underlyingPhysicalTypeCall, toStorageCall, toStorageRecursiveCall, innerDtypeCall, getChildCall, fromIntegerTypeCall, pageCall}
+use Rattle.recorded_list.specs.Codes.{importCall, exportCall, plainCall, underlyingPhysicalTypeCall, toStorageCall, toStorageRecursiveCall, innerDtypeCall, getChildCall, fromIntegerTypeCall, pageCall, strictExportCall}
 use Rattle.judge.specs.Judging.{sheetOutcome}
 use Rattle.replay.proofs.ask.Statement.{statement}
 use Rattle.replay.proofs.ask.Tie as tie
@@ -40,6 +40,9 @@ get-child-requires c κs = search needs
 
 page-requires : tie.Need-page-requires
 page-requires c κs = search needs
+
+strict-export-requires : tie.Need-strict-export-requires
+strict-export-requires c κs = search needs
 
 from-integer-type-requires : tie.Need-from-integer-type-requires
 from-integer-type-requires c κs = search needs
@@ -125,7 +128,7 @@ same-length-10 c = search needs
 returns-10 : tie.Need-returns-10
 returns-10 c =
     let a = c .before .before .before .before .before .before .before .args in
-    c .before .before .from-integer-type .ensures ∙ called (a .argument) (now (a .s)) (now (a .out)) (sym (c .before .before .before .before .match .keys10))
+    c .before .before .strict-export .ensures ∙ called (a .argument) (now (a .s)) (now (a .out)) (sym (c .before .before .before .before .match .keys10))
 
 same-length-11 : tie.Need-same-length-11
 same-length-11 c = search needs
@@ -133,8 +136,16 @@ same-length-11 c = search needs
 returns-11 : tie.Need-returns-11
 returns-11 c =
     let a = c .before .before .before .before .before .before .before .args in
+    c .before .before .from-integer-type .ensures ∙ called (a .argument) (now (a .s)) (now (a .out)) (sym (c .before .before .before .before .match .keys11))
+
+same-length-12 : tie.Need-same-length-12
+same-length-12 c = search needs
+
+returns-12 : tie.Need-returns-12
+returns-12 c =
+    let a = c .before .before .before .before .before .before .before .args in
     let no = c .before .before .before .before .match .rest in
-    c .before .before .from-primitive-type .ensures ∙ sym (rw (ne-eqb (a .code) importCall (no .0 .0 .0 .0 .0 .0 .0 .0 .0 .1), ne-eqb (a .code) exportCall (no .0 .0 .0 .0 .0 .0 .0 .0 .1), ne-eqb (a .code) plainCall (no .0 .0 .0 .0 .0 .0 .0 .1), ne-eqb (a .code) underlyingPhysicalTypeCall (no .0 .0 .0 .0 .0 .0 .1), ne-eqb (a .code) toStorageCall (no .0 .0 .0 .0 .0 .1), ne-eqb (a .code) toStorageRecursiveCall (no .0 .0 .0 .0 .1), ne-eqb (a .code) innerDtypeCall (no .0 .0 .0 .1), ne-eqb (a .code) getChildCall (no .0 .0 .1), ne-eqb (a .code) pageCall (no .0 .1), ne-eqb (a .code) fromIntegerTypeCall (no .1)))
+    c .before .before .from-primitive-type .ensures ∙ sym (rw (ne-eqb (a .code) importCall (no .0 .0 .0 .0 .0 .0 .0 .0 .0 .0 .1), ne-eqb (a .code) exportCall (no .0 .0 .0 .0 .0 .0 .0 .0 .0 .1), ne-eqb (a .code) plainCall (no .0 .0 .0 .0 .0 .0 .0 .0 .1), ne-eqb (a .code) underlyingPhysicalTypeCall (no .0 .0 .0 .0 .0 .0 .0 .1), ne-eqb (a .code) toStorageCall (no .0 .0 .0 .0 .0 .0 .1), ne-eqb (a .code) toStorageRecursiveCall (no .0 .0 .0 .0 .0 .1), ne-eqb (a .code) innerDtypeCall (no .0 .0 .0 .0 .1), ne-eqb (a .code) getChildCall (no .0 .0 .0 .1), ne-eqb (a .code) pageCall (no .0 .0 .1), ne-eqb (a .code) strictExportCall (no .0 .1), ne-eqb (a .code) fromIntegerTypeCall (no .1)))
 
 pub ask-spec : {M : Type 1} → statement M
 ask-spec =
@@ -149,6 +160,7 @@ ask-spec =
     inner-dtype-requires
     get-child-requires
     page-requires
+    strict-export-requires
     from-integer-type-requires
     from-primitive-type-requires
     same-length
@@ -172,4 +184,6 @@ ask-spec =
     same-length-10
     returns-10
     same-length-11
-    returns-11)
+    returns-11
+    same-length-12
+    returns-12)

@@ -63,7 +63,7 @@ returns c =
     let a = c .before .before .before .before .before .before .before .before .before .before .before .before .before .before .before .before .before .before .before .before .before .before .before .before .before .before .before .before .before .args in
     let x = c .before .before .before .before .before .before .before .before .before .before .before .before .before .before .before .before .before .before .before .before .before .out-and-back in
     let y = c .before .before .before .before .before .before .before .before .before .before .before .plain-and-out in
-    import-apart (a .big) (now (a .sheet)) (now (a .first)) (now (a .second)) (now (a .third)) (now (a .fourth)) (x .last .1 .1 .0) (x .last .1 .1 .1 .0) (x .result) (x .ensures) _ _ (c .before .before .before .before .before .before .before .before .before .before .before .before .before .before .before .x .given .1) (y .last .1 .1 .0) (y .last .1 .1 .1 .0) (y .result) (y .ensures) _ _ (c .before .before .before .before .before .p .given .1) (sym (c .before .same-within .ensures) ∙ not-true _ (c .if1 .taken))
+    import-apart (a .strict) (a .big) (now (a .sheet)) (now (a .first)) (now (a .second)) (now (a .third)) (now (a .fourth)) (x .last .1 .1 .1 .0) (x .last .1 .1 .1 .1 .0) (x .result) (x .ensures) _ _ (c .before .before .before .before .before .before .before .before .before .before .before .before .before .before .before .x .given .1) (y .last .1 .1 .1 .0) (y .last .1 .1 .1 .1 .0) (y .result) (y .ensures) _ _ (c .before .before .before .before .before .p .given .1) (sym (c .before .same-within .ensures) ∙ not-true _ (c .if1 .taken))
 
 same-within-requires-2 : tie.Need-same-within-requires-2
 same-within-requires-2 c κs = search needs
@@ -85,7 +85,7 @@ returns-2 c =
     let a = c .before .before .before .before .before .before .before .before .before .before .before .before .before .before .before .before .before .before .before .before .before .before .before .before .before .before .before .before .before .before .before .before .before .args in
     let x = c .before .before .before .before .before .before .before .before .before .before .before .before .before .before .before .before .before .before .before .before .before .before .before .before .before .out-and-back in
     let y = c .before .before .before .before .before .before .before .before .before .before .before .before .before .before .before .plain-and-out in
-    again-apart (a .big) (now (a .sheet)) (now (a .first)) (now (a .second)) (now (a .third)) (now (a .fourth)) (x .last .1 .1 .0) (x .last .1 .1 .1 .0) (x .result) (x .ensures) _ _ (c .before .before .before .before .before .before .before .before .before .before .before .before .before .before .before .before .before .before .before .x .given .1) (y .last .1 .1 .0) (y .last .1 .1 .1 .0) (y .result) (y .ensures) _ _ (c .before .before .before .before .before .before .before .before .before .p .given .1) (sym (c .before .before .before .before .before .same-within .ensures) ∙ not-false _ (c .before .before .before .before .if1 .left)) (sym (c .before .same-within2 .ensures) ∙ not-true _ (c .if2 .taken))
+    again-apart (a .strict) (a .big) (now (a .sheet)) (now (a .first)) (now (a .second)) (now (a .third)) (now (a .fourth)) (x .last .1 .1 .1 .0) (x .last .1 .1 .1 .1 .0) (x .result) (x .ensures) _ _ (c .before .before .before .before .before .before .before .before .before .before .before .before .before .before .before .before .before .before .before .x .given .1) (y .last .1 .1 .1 .0) (y .last .1 .1 .1 .1 .0) (y .result) (y .ensures) _ _ (c .before .before .before .before .before .before .before .before .before .p .given .1) (sym (c .before .before .before .before .before .same-within .ensures) ∙ not-false _ (c .before .before .before .before .if1 .left)) (sym (c .before .same-within2 .ensures) ∙ not-true _ (c .if2 .taken))
 
 same-length-9 : tie.Need-same-length-9
 same-length-9 c = search needs
@@ -104,7 +104,7 @@ returns-3 c =
     let a = c .before .before .before .before .before .before .before .before .before .before .before .before .before .before .before .before .before .before .before .before .before .before .args in
     let x = c .before .before .before .before .before .before .before .before .before .before .before .before .before .before .out-and-back in
     let z = c .before .before .before .before .clear-both in
-    export-out (a .big) (now (a .sheet)) (now (a .first)) (now (a .second)) (now (a .third)) (now (a .fourth)) (x .last .1 .1 .0) (x .last .1 .1 .1 .0) (x .result) (x .ensures) _ (c .before .before .before .before .before .before .before .before .number .given .1) (z .last .0) (z .last .1 .0) (z .ensures .0) (z .ensures .1)
+    export-out (a .strict) (a .big) (now (a .sheet)) (now (a .first)) (now (a .second)) (now (a .third)) (now (a .fourth)) (x .last .1 .1 .1 .0) (x .last .1 .1 .1 .1 .0) (x .result) (x .ensures) _ (c .before .before .before .before .before .before .before .before .number .given .1) (z .last .0) (z .last .1 .0) (z .ensures .0) (z .ensures .1)
 
 same-length-13 : tie.Need-same-length-13
 same-length-13 c = search needs
@@ -123,7 +123,7 @@ returns-4 c =
     let a = c .before .before .before .before .before .before .before .before .before .before .before .before .before .before .before .before .before .before .before .before .before .before .args in
     let x = c .before .before .before .before .before .before .before .before .before .before .before .before .before .before .out-and-back in
     let z = c .before .before .before .before .clear-both2 in
-    import-out (a .big) (now (a .sheet)) (now (a .first)) (now (a .second)) (now (a .third)) (now (a .fourth)) (x .last .1 .1 .0) (x .last .1 .1 .1 .0) (x .result) (x .ensures) _ (c .before .before .before .before .before .before .before .before .number2 .given .1) (z .last .0) (z .last .1 .0) (z .ensures .0) (z .ensures .1)
+    import-out (a .strict) (a .big) (now (a .sheet)) (now (a .first)) (now (a .second)) (now (a .third)) (now (a .fourth)) (x .last .1 .1 .1 .0) (x .last .1 .1 .1 .1 .0) (x .result) (x .ensures) _ (c .before .before .before .before .before .before .before .before .number2 .given .1) (z .last .0) (z .last .1 .0) (z .ensures .0) (z .ensures .1)
 
 same-length-17 : tie.Need-same-length-17
 same-length-17 c = search needs
@@ -143,7 +143,7 @@ returns-5 c =
     let x = c .before .before .before .before .before .before .before .before .before .before .before .before .before .before .before .before .before .before .before .before .before .before .before .before .out-and-back in
     let y = c .before .before .before .before .before .before .before .before .before .before .before .before .before .before .plain-and-out in
     let z = c .before .before .before .before .clear-both3 in
-    plain-out (a .big) (now (a .sheet)) (now (a .first)) (now (a .second)) (now (a .third)) (now (a .fourth)) (x .last .1 .1 .0) (x .last .1 .1 .1 .0) (x .result) (x .ensures) _ _ (c .before .before .before .before .before .before .before .before .before .before .before .before .before .before .before .before .before .before .x .given .1) (y .last .1 .1 .0) (y .last .1 .1 .1 .0) (z .last .0) (z .last .1 .0) (z .ensures .0) (z .ensures .1) (y .result) (y .ensures) _ (c .before .before .before .before .before .before .before .before .number3 .given .1)
+    plain-out (a .strict) (a .big) (now (a .sheet)) (now (a .first)) (now (a .second)) (now (a .third)) (now (a .fourth)) (x .last .1 .1 .1 .0) (x .last .1 .1 .1 .1 .0) (x .result) (x .ensures) _ _ (c .before .before .before .before .before .before .before .before .before .before .before .before .before .before .before .before .before .before .x .given .1) (y .last .1 .1 .1 .0) (y .last .1 .1 .1 .1 .0) (z .last .0) (z .last .1 .0) (z .ensures .0) (z .ensures .1) (y .result) (y .ensures) _ (c .before .before .before .before .before .before .before .before .number3 .given .1)
 
 same-length-21 : tie.Need-same-length-21
 same-length-21 c = search needs
@@ -163,7 +163,7 @@ returns-6 c =
     let x = c .before .before .before .before .before .before .before .before .before .before .before .before .before .before .before .before .before .before .before .before .before .before .before .before .out-and-back in
     let y = c .before .before .before .before .before .before .before .before .before .before .before .before .before .before .plain-and-out in
     let z = c .before .before .before .before .clear-both4 in
-    again-out (a .big) (now (a .sheet)) (now (a .first)) (now (a .second)) (now (a .third)) (now (a .fourth)) (x .last .1 .1 .0) (x .last .1 .1 .1 .0) (x .result) (x .ensures) _ _ (c .before .before .before .before .before .before .before .before .before .before .before .before .before .before .before .before .before .before .x .given .1) (y .last .1 .1 .0) (y .last .1 .1 .1 .0) (z .last .0) (z .last .1 .0) (z .ensures .0) (z .ensures .1) (y .result) (y .ensures) _ (c .before .before .before .before .before .before .before .before .number4 .given .1)
+    again-out (a .strict) (a .big) (now (a .sheet)) (now (a .first)) (now (a .second)) (now (a .third)) (now (a .fourth)) (x .last .1 .1 .1 .0) (x .last .1 .1 .1 .1 .0) (x .result) (x .ensures) _ _ (c .before .before .before .before .before .before .before .before .before .before .before .before .before .before .before .before .before .before .x .given .1) (y .last .1 .1 .1 .0) (y .last .1 .1 .1 .1 .0) (z .last .0) (z .last .1 .0) (z .ensures .0) (z .ensures .1) (y .result) (y .ensures) _ (c .before .before .before .before .before .before .before .before .number4 .given .1)
 
 same-length-25 : tie.Need-same-length-25
 same-length-25 c = search needs
@@ -182,7 +182,7 @@ returns-7 c =
     let a = c .before .before .before .before .before .before .before .before .before .before .before .before .before .before .before .before .before .before .before .before .before .before .before .before .before .before .before .before .before .before .before .before .before .args in
     let x = c .before .before .before .before .before .before .before .before .before .before .before .before .before .before .before .before .before .before .before .before .before .before .before .before .before .out-and-back in
     let y = c .before .before .before .before .before .before .before .before .before .before .before .before .before .before .before .plain-and-out in
-    all-alike (a .big) (now (a .sheet)) (now (a .first)) (now (a .second)) (now (a .third)) (now (a .fourth)) (x .last .1 .1 .0) (x .last .1 .1 .1 .0) (x .result) (x .ensures) _ _ (c .before .before .before .before .before .before .before .before .before .before .before .before .before .before .before .before .before .before .before .x .given .1) (y .last .1 .1 .0) (y .last .1 .1 .1 .0) (y .result) (y .ensures) _ _ (c .before .before .before .before .before .before .before .before .before .p .given .1) (sym (c .before .before .before .before .before .same-within .ensures) ∙ not-false _ (c .before .before .before .before .if1 .left)) (sym (c .before .same-within2 .ensures) ∙ not-false _ (c .if2 .left))
+    all-alike (a .strict) (a .big) (now (a .sheet)) (now (a .first)) (now (a .second)) (now (a .third)) (now (a .fourth)) (x .last .1 .1 .1 .0) (x .last .1 .1 .1 .1 .0) (x .result) (x .ensures) _ _ (c .before .before .before .before .before .before .before .before .before .before .before .before .before .before .before .before .before .before .before .x .given .1) (y .last .1 .1 .1 .0) (y .last .1 .1 .1 .1 .0) (y .result) (y .ensures) _ _ (c .before .before .before .before .before .before .before .before .before .p .given .1) (sym (c .before .before .before .before .before .same-within .ensures) ∙ not-false _ (c .before .before .before .before .if1 .left)) (sym (c .before .same-within2 .ensures) ∙ not-false _ (c .if2 .left))
 
 pub round-trip-spec : {M : Type 1} → statement M
 round-trip-spec =

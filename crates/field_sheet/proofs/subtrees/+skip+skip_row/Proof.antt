@@ -15,7 +15,7 @@ use Rattle.sheets.proofs.TreeWalks.{going-none, going-tree, going-all}
 use Rattle.field_sheet.proofs.LevelLaws.{spare, cost-low, levels-fall, no-level}
 use Rattle.field_leaf.specs.FieldLeaves.{leafOption, FieldLeafAt}
 use Rattle.field_leaf.proofs.LeafLaws.{leaf-told}
-use Rattle.field_sheet.proofs.ReadLaws.{leaf-read}
+use Rattle.field_sheet.proofs.ReadLaws.{leaf-to}
 use Rattle.field_sheet.proofs.SkipLaws.{line-row, tree-skipped, Going, going-next, going-more, going-deep}
 use Prim.Native.Nat.{ℕ, _<_}
 use borrow.Fn.Kinds.{In}
@@ -80,7 +80,7 @@ skip-add-t11 t c = omega (arith, the-leaf t c .high)
 skip-returns-2 : (t : ℕ) → skip-lts.Need-returns-2 (skip-calls t) (skip-at t) skip.Post
 skip-returns-2 t c =
     let a = c .before .before .before .before .before .before .args in
-    leaf-read (the-leaf t c) false refl (a .inside) (a .most) (omega arith) .1
+    leaf-to (the-leaf t c) (a .inside) (a .most) (omega arith)
 
 skip-enum-told : (t : ℕ) → skip-lts.Need-enum-told (skip-calls t) (skip-at t) skip.Post
 skip-enum-told t c = search needs

@@ -9,8 +9,10 @@ use Rattle.read_field_line.specs.FieldLines.{FieldLineAt, lineAnswer, ReadsLine
 use Rattle.read_field_line.specs.declared.LineRead.{LineRead}
 use Rattle.field_leaf.specs.FieldLeaves.{leafOption, FieldLeafAt}
 use Rattle.field_leaf.proofs.LeafLaws.{leaf-told}
+use Rattle.field_sheet.specs.Strict.{Tested}
+use Rattle.field_sheet.specs.declared.strict.LineReturns.{LineReturns}
 use Rattle.field_sheet.proofs.LevelLaws.{spare, cost-low, levels-fall, line-alone}
-use Rattle.field_sheet.proofs.ReadLaws.{leaf-read, tree-deep, tree-none, tree-other, tree-many, tree-read, Reading, reading-none, reading-deep, reading-bad, reading-more, reading-all}
+use Rattle.field_sheet.proofs.ReadLaws.{leaf-read, tree-deep, tree-none, line-other, line-held, tree-many, tree-read, Reading, reading-none, reading-deep, reading-bad, reading-held, reading-more, reading-all}
 use Prim.Native.Nat.{ℕ, _<_}
 use borrow.Fn.Kinds.{In}
 use borrow.Fn.PlainCycle.{Measures, is, falls, and}
@@ -24,6 +26,7 @@ use Rattle.field_kinds.proofs.is_bare_below.Reads as is-bare-below-reads
 use Rattle.field_sheet.proofs.levels.is_extension.Reads as is-extension-reads
 use Rattle.field_sheet.proofs.levels.line_cost.Reads as line-cost-reads
 use Rattle.field_leaf.proofs.leaf_at.Reads as leaf-at-reads
+use Rattle.field_sheet.proofs.strict.line_returns.Reads as line-returns-reads
 use Rattle.read_field_line.proofs.read_field_line.Reads as read-field-line-reads
 use Rattle.field_sheet.proofs.trees.+read_row+read_tree.{statement}
 use Rattle.field_sheet.proofs.trees.+read_row+read_tree.Tie.{close}
@@ -52,19 +55,19 @@ abbrev read-row-calls : ℕ → read-row-lts.Claims
 read-row-calls t = (read-tree-below t, read-tree.Post)
 
 abbrev read-tree-calls : ℕ → read-tree-lts.Claims
-read-tree-calls t = (leaf-at-reads.Asked, leaf-at-reads.Learnt, read-field-line-reads.Asked, read-field-line-reads.Learnt, is-extension-reads.Asked, is-extension-reads.Learnt, line-cost-reads.Asked, line-cost-reads.Learnt, is-bare-below-reads.Asked, is-bare-below-reads.Learnt, read-row-below t, read-row.Post)
+read-tree-calls t = (leaf-at-reads.Asked, leaf-at-reads.Learnt, read-field-line-reads.Asked, read-field-line-reads.Learnt, line-returns-reads.Asked, line-returns-reads.Learnt, is-extension-reads.Asked, is-extension-reads.Learnt, line-cost-reads.Asked, line-cost-reads.Learnt, is-bare-below-reads.Asked, is-bare-below-reads.Learnt, read-row-below t, read-row.Post)
 
 abbrev read-row-Inv-loop : read-row-lts.InvT-loop
-read-row-Inv-loop s at count bare inside levels here₀ due₀ next₀ here due next = Reading s at count bare inside levels here due next
+read-row-Inv-loop s at count bare inside levels strict here₀ due₀ next₀ here due next = Reading s at count bare inside levels strict here due next
 
 abbrev read-row-μ-loop : read-row-lts.MeasureT-loop
-read-row-μ-loop s at count bare inside levels here₀ due₀ next₀ here due next = due
+read-row-μ-loop s at count bare inside levels strict here₀ due₀ next₀ here due next = due
 
 read-row-loop-holds : (t : ℕ) → read-row-lts.Need-loop-holds (read-row-calls t) (read-row-at t) read-row.Post read-row-Inv-loop read-row-μ-loop
-read-row-loop-holds t c = reading-none _ _ _ _ _ _ (c .before .pre .1 .0) (c .before .pre .1 .1)
+read-row-loop-holds t c = reading-none _ _ _ _ _ _ _ (c .before .pre .1 .1 .0) (c .before .pre .1 .1 .1)
 
 read-row-read-tree-requires : (t : ℕ) → read-row-lts.Need-read-tree-requires (read-row-calls t) (read-row-at t) read-row.Post read-row-Inv-loop read-row-μ-loop
-read-row-read-tree-requires t c κs = omega (arith, c .before .before .before .pre .0)
+read-row-read-tree-requires t c κs = (omega (arith, c .before .before .before .pre .0), c .before .before .before .pre .1 .0)
 
 read-row-enum-told : (t : ℕ) → read-row-lts.Need-enum-told (read-row-calls t) (read-row-at t) read-row.Post read-row-Inv-loop read-row-μ-loop
 read-row-enum-told t c = search needs
@@ -78,6 +81,12 @@ read-row-enum-told-2 t c = search needs
 read-row-returns-2 : (t : ℕ) → read-row-lts.Need-returns-2 (read-row-calls t) (read-row-at t) read-row.Post read-row-Inv-loop read-row-μ-loop
 read-row-returns-2 t c = reading-bad (c .before .before .before .before .loop .inv) (omega arith) _ (c .before .before .read-tree .ensures) (c .enum-told2 .given .1)
 
+read-row-enum-known-r : (t : ℕ) → read-row-lts.Need-enum-known-r (read-row-calls t) (read-row-at t) read-row.Post read-row-Inv-loop read-row-μ-loop
+read-row-enum-known-r t c = search needs
+
+read-row-returns-3 : (t : ℕ) → read-row-lts.Need-returns-3 (read-row-calls t) (read-row-at t) read-row.Post read-row-Inv-loop read-row-μ-loop
+read-row-returns-3 t c = reading-held (c .before .before .before .before .before .loop .inv) (omega arith) _ (c .before .before .before .read-tree .ensures) _ (c .before .r .given .1)
+
 read-row-enum-known-end : (t : ℕ) → read-row-lts.Need-enum-known-end (read-row-calls t) (read-row-at t) read-row.Post read-row-Inv-loop read-row-μ-loop
 read-row-enum-known-end t c = search needs
 
@@ -90,14 +99,14 @@ read-row-loop-less t c = omega arith
 read-row-loop-again : (t : ℕ) → read-row-lts.Need-loop-again (read-row-calls t) (read-row-at t) read-row.Post read-row-Inv-loop read-row-μ-loop
 read-row-loop-again t c = reading-more (c .before .before .before .before .before .loop .inv) (omega arith) _ (c .before .before .before .read-tree .ensures) _ (c .before .end .given .1)
 
-read-row-returns-3 : (t : ℕ) → read-row-lts.Need-returns-3 (read-row-calls t) (read-row-at t) read-row.Post read-row-Inv-loop read-row-μ-loop
-read-row-returns-3 t c = reading-all (c .before .loop .inv) (omega arith)
+read-row-returns-4 : (t : ℕ) → read-row-lts.Need-returns-4 (read-row-calls t) (read-row-at t) read-row.Post read-row-Inv-loop read-row-μ-loop
+read-row-returns-4 t c = reading-all (c .before .loop .inv) (omega arith)
 
 the-line : (t : ℕ) (c : read-tree-lts.After-struct-known (read-tree-calls t) (read-tree-at t) read-tree.Post) → FieldLineAt (c .before .before .before .before .before .before .before .before .args .s .now) (c .before .before .before .before .before .before .before .before .args .at) (c .before .before .l .given .0 .0)
 the-line t c = subst (λ (q : LineRead). ReadsLine (c .before .before .before .before .before .before .before .before .args .s .now) (c .before .before .before .before .before .before .before .before .args .at) (lineAnswer q)) (c .before .before .l .given .1) (c .before .before .before .before .read-field-line .ensures)
 
 read-tree-returns : (t : ℕ) → read-tree-lts.Need-returns (read-tree-calls t) (read-tree-at t) read-tree.Post
-read-tree-returns t c = let a = c .before .before .args in tree-deep (a .s .now) (a .at) (a .bare) (a .inside) (a .levels) (c .if1 .taken)
+read-tree-returns t c = let a = c .before .before .args in tree-deep (a .s .now) (a .at) (a .bare) (a .inside) (a .levels) (a .strict) (c .if1 .taken)
 
 -- the leaf's line that was recognised
 the-leaf : (t : ℕ) (c : read-tree-lts.After-known-told (read-tree-calls t) (read-tree-at t) read-tree.Post)
@@ -112,13 +121,13 @@ read-tree-leaf-at-requires t c κs = search needs
 read-tree-enum-known-e : (t : ℕ) → read-tree-lts.Need-enum-known-e (read-tree-calls t) (read-tree-at t) read-tree.Post
 read-tree-enum-known-e t c = search needs
 
-read-tree-add-t12 : (t : ℕ) → read-tree-lts.Need-add-t12 (read-tree-calls t) (read-tree-at t) read-tree.Post
-read-tree-add-t12 t c = omega (arith, the-leaf t c .high)
+read-tree-add-t15 : (t : ℕ) → read-tree-lts.Need-add-t15 (read-tree-calls t) (read-tree-at t) read-tree.Post
+read-tree-add-t15 t c = omega (arith, the-leaf t c .high)
 
 read-tree-returns-2 : (t : ℕ) → read-tree-lts.Need-returns-2 (read-tree-calls t) (read-tree-at t) read-tree.Post
 read-tree-returns-2 t c =
     let a = c .before .before .before .before .before .before .before .args in
-    leaf-read (the-leaf t c) (a .bare) (not-true _ (c .before .before .before .before .if2 .taken)) (a .inside) (a .levels) (omega arith)
+    leaf-read (the-leaf t c) (a .bare) (not-true _ (c .before .before .before .before .if2 .taken)) (a .inside) (a .levels) (a .strict) (omega arith)
 
 read-tree-enum-told : (t : ℕ) → read-tree-lts.Need-enum-told (read-tree-calls t) (read-tree-at t) read-tree.Post
 read-tree-enum-told t c = search needs
@@ -133,16 +142,25 @@ read-tree-enum-told-2 : (t : ℕ) → read-tree-lts.Need-enum-told-2 (read-tree-
 read-tree-enum-told-2 t c = search needs
 
 read-tree-returns-3 : (t : ℕ) → read-tree-lts.Need-returns-3 (read-tree-calls t) (read-tree-at t) read-tree.Post
-read-tree-returns-3 t c = let a = c .before .before .before .before .before .before .args in tree-none (a .s .now) (a .at) (a .bare) (a .inside) (a .levels) (subst (λ (q : LineRead). ReadsLine (a .s .now) (a .at) (lineAnswer q)) (c .enum-told2 .given .1) (c .before .before .read-field-line .ensures))
+read-tree-returns-3 t c = let a = c .before .before .before .before .before .before .args in tree-none (a .s .now) (a .at) (a .bare) (a .inside) (a .levels) (a .strict) (subst (λ (q : LineRead). ReadsLine (a .s .now) (a .at) (lineAnswer q)) (c .enum-told2 .given .1) (c .before .before .read-field-line .ensures))
 
 read-tree-returns-4 : (t : ℕ) → read-tree-lts.Need-returns-4 (read-tree-calls t) (read-tree-at t) read-tree.Post
-read-tree-returns-4 t c = let a = c .before .before .before .before .before .before .before .before .before .args in tree-other _ (the-line t (c .before)) (a .bare) (a .inside) (a .levels) (c .if3 .taken)
+read-tree-returns-4 t c = let a = c .before .before .before .before .before .before .before .before .before .args in line-other _ (the-line t (c .before)) (a .bare) (c .if3 .taken)
 
 read-tree-sub-if4 : (t : ℕ) → read-tree-lts.Need-sub-if4 (read-tree-calls t) (read-tree-at t) read-tree.Post
 read-tree-sub-if4 t c = the-line t (c .before .before) .there .high
 
 read-tree-returns-5 : (t : ℕ) → read-tree-lts.Need-returns-5 (read-tree-calls t) (read-tree-at t) read-tree.Post
-read-tree-returns-5 t c = let a = c .before .before .before .before .before .before .before .before .before .before .before .args in tree-many _ (the-line t (c .before .before .before)) (a .bare) (c .before .before .if3 .left) (a .inside) (a .levels) (omega arith)
+read-tree-returns-5 t c = let a = c .before .before .before .before .before .before .before .before .before .before .before .args in tree-many _ (the-line t (c .before .before .before)) (a .bare) (c .before .before .if3 .left) (omega arith)
+
+read-tree-line-returns-requires : (t : ℕ) → read-tree-lts.Need-line-returns-requires (read-tree-calls t) (read-tree-at t) read-tree.Post
+read-tree-line-returns-requires t c κs = let k = the-line t (c .before .before .before) in (c .before .before .before .before .before .before .before .before .before .before .before .pre .1, (k .line, k .shows, k .there .own))
+
+read-tree-enum-known-r : (t : ℕ) → read-tree-lts.Need-enum-known-r (read-tree-calls t) (read-tree-at t) read-tree.Post
+read-tree-enum-known-r t c = search needs
+
+read-tree-enum-told-3 : (t : ℕ) → read-tree-lts.Need-enum-told-3 (read-tree-calls t) (read-tree-at t) read-tree.Post
+read-tree-enum-told-3 t c = search needs
 
 read-tree-is-extension-requires : (t : ℕ) → read-tree-lts.Need-is-extension-requires (read-tree-calls t) (read-tree-at t) read-tree.Post
 read-tree-is-extension-requires t c κs = search needs
@@ -153,19 +171,27 @@ read-tree-line-cost-requires t c κs = search needs
 read-tree-is-bare-below-requires : (t : ℕ) → read-tree-lts.Need-is-bare-below-requires (read-tree-calls t) (read-tree-at t) read-tree.Post
 read-tree-is-bare-below-requires t c κs = search needs
 
-read-tree-sub-read-row : (t : ℕ) → read-tree-lts.Need-sub-read-row (read-tree-calls t) (read-tree-at t) read-tree.Post
-read-tree-sub-read-row t c = let a = c .before .before .before .before .before .before .before .before .before .before .before .before .before .before .args in omega (arith, c .before .line-cost .ensures, cost-low (a .inside) (c .before .before .is-extension .result))
+read-tree-sub-left : (t : ℕ) → read-tree-lts.Need-sub-left (read-tree-calls t) (read-tree-at t) read-tree.Post
+read-tree-sub-left t c = let a = c .before .before .before .before .before .before .before .before .before .before .before .before .before .before .before .before .args in omega (arith, c .line-cost .ensures, cost-low (a .inside) (c .before .is-extension .result))
 
 read-tree-read-row-requires : (t : ℕ) → read-tree-lts.Need-read-row-requires (read-tree-calls t) (read-tree-at t) read-tree.Post
 read-tree-read-row-requires t c κs =
-    let a = c .before .before .before .before .before .before .before .before .before .before .before .before .before .before .args in
-    let k = the-line t (c .before .before .before .before .before .before) in
-    (omega (arith, c .before .before .before .before .before .before .before .before .before .before .before .before .before .before .pre .0, c .before .line-cost .ensures, levels-fall (a .inside) (c .before .before .is-extension .result) (a .levels) (omega arith)), (k .there .high, line-alone _ k (c .is-bare-below .ensures)))
+    let a = c .before .before .before .before .before .before .before .before .before .before .before .before .before .before .before .before .before .args in
+    let k = the-line t (c .before .before .before .before .before .before .before .before .before) in
+    (omega (arith, c .before .before .before .before .before .before .before .before .before .before .before .before .before .before .before .before .before .pre .0, c .before .line-cost .ensures, levels-fall (a .inside) (c .before .before .is-extension .result) (a .levels) (omega arith)), (c .before .before .before .before .before .before .before .before .before .before .before .before .before .before .before .before .before .pre .1, (k .there .high, line-alone _ k (c .is-bare-below .ensures))))
 
 read-tree-returns-6 : (t : ℕ) → read-tree-lts.Need-returns-6 (read-tree-calls t) (read-tree-at t) read-tree.Post
 read-tree-returns-6 t c =
     let a = c .before .before .before .before .before .before .before .before .before .before .before .before .before .before .before .args in
-    tree-read _ (the-line t (c .before .before .before .before .before .before .before)) (a .bare) (c .before .before .before .before .before .before .if3 .left) (a .inside) (a .levels) (omega arith) (c .before .before .before .is-extension .ensures) (c .before .before .line-cost .ensures) (c .before .is-bare-below .ensures) (c .read-row .result) (c .read-row .ensures)
+    let k = the-line t (c .before .before .before .before .before .before .before) in
+    line-held _ k (a .bare) (a .inside) (a .levels) (c .before .r .given .0 .0) (subst (λ (x : LineReturns). Tested (a .strict) (k .line) x) (c .before .r .given .1) (c .before .before .before .line-returns .ensures (k .line) (k .shows) (k .there .own)))
+
+read-tree-returns-7 : (t : ℕ) → read-tree-lts.Need-returns-7 (read-tree-calls t) (read-tree-at t) read-tree.Post
+read-tree-returns-7 t c =
+    let a = c .before .before .before .before .before .before .before .before .before .before .before .before .before .before .before .before .before .before .args in
+    let k = the-line t (c .before .before .before .before .before .before .before .before .before .before) in
+    let clear = subst (λ (x : LineReturns). Tested (a .strict) (k .line) x) (c .before .before .before .before .enum-told3 .given .1) (c .before .before .before .before .before .before .line-returns .ensures (k .line) (k .shows) (k .there .own)) in
+    tree-read _ k (a .bare) (c .before .before .before .before .before .before .before .before .before .if3 .left) (a .inside) (a .levels) (omega arith) (c .before .before .before .is-extension .ensures) (c .before .before .line-cost .ensures) (c .before .is-bare-below .ensures) (a .strict) clear (c .read-row .result) (c .read-row .ensures)
 
 pub +read-row+read-tree-spec : {M : Type 1} → statement M
 +read-row+read-tree-spec = close μ-read-row μ-read-tree (λ t. read-row-lts.spec (read-row-calls t) (read-row-at t)
@@ -178,17 +204,19 @@ pub +read-row+read-tree-spec : {M : Type 1} → statement M
     (read-row-returns t)
     (read-row-enum-told-2 t)
     (read-row-returns-2 t)
+    (read-row-enum-known-r t)
+    (read-row-returns-3 t)
     (read-row-enum-known-end t)
     (read-row-sub-due t)
     (read-row-loop-less t)
     (read-row-loop-again t)
-    (read-row-returns-3 t))
+    (read-row-returns-4 t))
     λ t. read-tree-lts.spec (read-tree-calls t) (read-tree-at t)
     read-tree.Post
     (read-tree-returns t)
     (read-tree-leaf-at-requires t)
     (read-tree-enum-known-e t)
-    (read-tree-add-t12 t)
+    (read-tree-add-t15 t)
     (read-tree-returns-2 t)
     (read-tree-enum-told t)
     (read-tree-read-field-line-requires t)
@@ -198,9 +226,13 @@ pub +read-row+read-tree-spec : {M : Type 1} → statement M
     (read-tree-returns-4 t)
     (read-tree-sub-if4 t)
     (read-tree-returns-5 t)
+    (read-tree-line-returns-requires t)
+    (read-tree-enum-known-r t)
+    (read-tree-enum-told-3 t)
     (read-tree-is-extension-requires t)
     (read-tree-line-cost-requires t)
+    (read-tree-sub-left t)
     (read-tree-is-bare-below-requires t)
-    (read-tree-sub-read-row t)
     (read-tree-read-row-requires t)
     (read-tree-returns-6 t)
+    (read-tree-returns-7 t)

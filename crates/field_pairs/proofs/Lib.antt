@@ -1,0 +1,3 @@
+pub mod PairsLaws
+pub mod ReservedLaws
+pub mod MentionLaws
