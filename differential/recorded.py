@@ -9,7 +9,7 @@ import sys
 
 Record = collections.namedtuple("Record", "call argument room number first second input output")
 # The codes of the calls that read a sheet of that kind.
-READERS = {"schema": [0, 14], "field": [*range(1, 11), 13, 15]}
+READERS = {"schema": [0, 14], "field": [*range(1, 11), 13, 15, 16]}
 
 
 class Malformed(Exception):

@@ -47,7 +47,7 @@ static struct juzontefa_answer ask(call *call, uint32_t numbers, const uint8_t *
     uint8_t *out = end[4] - room;
     memset(out, UNTOUCHED, room);
     struct juzontefa_answer answer = call(sheet, size, out, room);
-    require(answer.number <= 16 && (numbers >> answer.number & 1));
+    require(answer.number <= 18 && (numbers >> answer.number & 1));
     require(answer.number != 0 ? answer.length == 0 : answer.length <= room);
     all(out + answer.length, end[4], answer.number != 0 ? 0 : UNTOUCHED);
     return answer;
@@ -122,6 +122,7 @@ static void calls(const uint8_t *sheet, size_t size) {
 static uint64_t place;
 
 #define EXPORTS 0x1700f
+#define STRICT_EXPORTS (EXPORTS | 1u << JUZONTEFA_RESERVED_KEY | 1u << JUZONTEFA_WIDE_INDEX)
 #define PLAINS 0x1000f
 #define LINE 73u
 
@@ -129,8 +130,17 @@ static struct juzontefa_answer export(const uint8_t *sheet, size_t size, uint8_t
     return juzontefa_export_with_order(sheet, size, big, out, room);
 }
 
+static struct juzontefa_answer strict_export(const uint8_t *sheet, size_t size, uint8_t *out, size_t room) {
+    return juzontefa_strict_export(sheet, size, big, out, room);
+}
+
+/* Whether round trips are strict. */
+static int strictly;
+
 /* By the call without an order for half of the sheets with order 0. */
 static struct juzontefa_trip round_trip(const uint8_t *sheet, size_t size, uint8_t *const out[4], const size_t room[4]) {
+    if (strictly)
+        return juzontefa_strict_round_trip(sheet, size, big, out[0], room[0], out[1], room[1], out[2], room[2], out[3], room[3]);
     if (big == 0 && size % 2 == 0)
         return juzontefa_round_trip(sheet, size, out[0], room[0], out[1], room[1], out[2], room[2], out[3], room[3]);
     return juzontefa_round_trip_with_order(sheet, size, big, out[0], room[0], out[1], room[1], out[2], room[2], out[3], room[3]);
@@ -143,7 +153,7 @@ static struct juzontefa_trip travel(const uint8_t *sheet, size_t size, const siz
     struct juzontefa_trip trip = round_trip(sheet, size, out, room);
     require(trip.answer <= JUZONTEFA_AGAIN_DIFFERS);
     int refused = trip.answer >= JUZONTEFA_EXPORT_REFUSED && trip.answer <= JUZONTEFA_AGAIN_REFUSED;
-    require(refused ? trip.number >= 1 && trip.number <= 16 : trip.number == 0);
+    require(refused ? trip.number >= 1 && trip.number <= (strictly ? 18 : 16) : trip.number == 0);
     for (int i = 0; refused && i < 4; i++) all(out[i], end[i], 0);
     return trip;
 }
@@ -191,6 +201,74 @@ static void trips(const uint8_t *sheet, size_t size, struct juzontefa_answer exp
     exact[step]--;
     trip = travel(sheet, size, exact);
     require(trip.answer == JUZONTEFA_EXPORT_REFUSED + step && trip.number == 16);
+}
+
+/* ── strict export */
+
+/* Where the column at a place, from 0, of the line begins. */
+static const uint8_t *column(const uint8_t *line, const uint8_t *stop, int place) {
+    for (; place > 0 && line != NULL && line < stop; place--) {
+        line = memchr(line, ' ', (size_t)(stop - line));
+        if (line != NULL) line++;
+    }
+    return line;
+}
+
+static int begins(const uint8_t *at, const uint8_t *stop, const char *text) {
+    return (size_t)(stop - at) >= strlen(text) && memcmp(at, text, strlen(text)) == 0;
+}
+
+/* 17 or 18 for a line that ends before `stop`, else 0: by its columns as they stand, which have the right form. */
+static uint64_t cause_of(const uint8_t *line, const uint8_t *stop) {
+    static const char *const keys[] = { "4152524f573a657874656e73696f6e3a6e616d65=", "4152524f573a657874656e73696f6e3a6d65746164617461=" };
+    const uint8_t *pairs = column(line, stop, 7), *end_of_pairs = column(line, stop, 8);
+    for (const uint8_t *pair = pairs; pair != NULL && pair < end_of_pairs;) {
+        if (begins(pair, stop, keys[0]) || begins(pair, stop, keys[1])) return JUZONTEFA_RESERVED_KEY;
+        pair = memchr(pair, ',', (size_t)(end_of_pairs - pair));
+        if (pair != NULL) pair++;
+    }
+    return begins(line, stop, "32 4 ") || begins(line, stop, "32 9 ") ? JUZONTEFA_WIDE_INDEX : 0;
+}
+
+/* That of the first line below the heading that has one. */
+static uint64_t first_cause(const uint8_t *sheet, size_t size) {
+    const uint8_t *stop = sheet + size, *line = memchr(sheet, '\n', size);
+    while (line != NULL && ++line < stop) {
+        const uint8_t *next = memchr(line, '\n', (size_t)(stop - line));
+        uint64_t cause = next == NULL ? 0 : cause_of(line, next);
+        if (cause != 0) return cause;
+        line = next;
+    }
+    return 0;
+}
+
+/* After the form of the sheet the first cause, else what the present export answers; for every number but 0 as for 1. */
+static struct juzontefa_answer strict_exports(const uint8_t *sheet, size_t size, struct juzontefa_answer exported) {
+    struct juzontefa_answer strict = ask_all(strict_export, STRICT_EXPORTS, sheet, size, JUZONTEFA_EXPORT_ROOM(size));
+    uint64_t cause = exported.number >= 1 && exported.number <= 3 ? 0 : first_cause(sheet, size);
+    comes_again(strict_export, strict_export, sheet, size, strict);
+    require(strict.number == (cause != 0 ? cause : exported.number));
+    require(strict.length == (cause != 0 ? 0 : exported.length));
+    if (strict.number == 0) {
+        ask(strict_export, 1, sheet, size, strict.length);
+        memcpy(end[3] - strict.length, end[4] - strict.length, strict.length);
+        ask(export, 1, sheet, size, strict.length);
+        require(memcmp(end[3] - strict.length, end[4] - strict.length, strict.length) == 0);
+    }
+    return strict;
+}
+
+/* A strict round trip is refused where strict export is; else all is the same, or a sheet is too long to be handed in. */
+static void strict_trips(const uint8_t *sheet, size_t size, struct juzontefa_answer strict, struct juzontefa_answer plain) {
+    size_t x = strict.length, p = plain.length;
+    size_t room[4] = { x, JUZONTEFA_IMPORT_ROOM(x), p, x };
+    strictly = 1;
+    struct juzontefa_trip trip = travel(sheet, size, room);
+    strictly = 0;
+    if (strict.number != 0)
+        require(trip.answer == JUZONTEFA_EXPORT_REFUSED && trip.number == strict.number);
+    else if (trip.answer != JUZONTEFA_ALL_SAME)
+        require((trip.answer == JUZONTEFA_IMPORT_REFUSED || trip.answer == JUZONTEFA_AGAIN_REFUSED) && trip.number == JUZONTEFA_NOT_SHEET);
 }
 
 /* A page is refused exactly where plain form is, with `form`; else it has one line for each of the sheet's below the heading. */
@@ -302,6 +380,7 @@ static void calls(const uint8_t *sheet, size_t size) {
     if (exported.number <= 3) require(exported.number == plain.number);
     else require(plain.number == 0);
     trips(sheet, size, exported, plain);
+    strict_trips(sheet, size, strict_exports(sheet, size, exported), plain);
     pages(sheet, size, plain.number);
     mappings(sheet, size, plain.number);
 }

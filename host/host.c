@@ -1,6 +1,6 @@
 /* A C host: walks ArrowSchema structs into schema sheets, imports them and exports what comes; makes field sheets plain, takes them out and back, and
- * into pages; tries pages and mappings on every kind, metadata in both byte orders, and what import and export measure; and tries broken, empty and
- * oversized input on every call.
+ * into pages; tries pages and mappings on every kind, metadata in both byte orders, what import and export measure, and what strict export refuses; and
+ * tries broken, empty and oversized input on every call.
  * Prints the field sheets and a count; the status is 0 only if every answer was the expected one.
  *
  *   c KINDS    the table of kinds, host/kinds */
@@ -12,6 +12,7 @@
 #include "mappings.h"
 #include "measures.h"
 #include "orders.h"
+#include "strict.h"
 #include "tries.h"
 
 /* ── import, over real structs */
@@ -298,6 +299,7 @@ int main(int count, char **words)
     longest_answers();
     orders();
     measures();
+    strict_exports();
     mappings(count == 2 ? words[1] : "");
     printf("C host: %d tried, %d wrong\n", tried, wrong);
     return wrong == 0 ? EXIT_SUCCESS : EXIT_FAILURE;

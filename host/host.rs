@@ -1,12 +1,13 @@
 //! A Rust host: links the static library and calls it on valid, broken, empty and oversized sheets, takes fields out and back and into pages, and tries
-//! metadata in both byte orders, what import and export measure, and the mappings on every kind. The status is 0 only if every answer was the expected
-//! one.
+//! metadata in both byte orders, what import and export measure, what strict export refuses, and the mappings on every kind. The status is 0 only if every
+//! answer was the expected one.
 
 #[path = "rust/src/raw.rs"]
 mod juzontefa;
 mod mappings;
 mod measures;
 mod orders;
+mod strict;
 
 use std::process::ExitCode;
 
@@ -33,18 +34,28 @@ fn of(call: ToSheet) -> impl Fn(&[u8], &mut [u8]) -> Result<usize, u64> {
     move |sheet, out| told(unsafe { call(sheet.as_ptr(), sheet.len(), out.as_mut_ptr(), out.len()) })
 }
 
-/// The round trip of a field sheet; the buffers get its export, the import of that, its plain form, and the export of that. Where there is an order, by the
-/// call that takes one.
-fn round_trip(sheet: &[u8], order: Option<u64>, buffers: &mut [Vec<u8>; 4]) -> Trip {
+/// A round trip: without an order, with one, or with strict exports.
+#[derive(Clone, Copy)]
+enum Way {
+    Little,
+    With(u64),
+    Strict(u64),
+}
+
+/// The round trip of a field sheet; the buffers get its export, the import of that, its plain form, and the export of that.
+fn round_trip(sheet: &[u8], way: Way, buffers: &mut [Vec<u8>; 4]) -> Trip {
     let [a, b, c, d] = buffers;
     let (at, len) = (sheet.as_ptr(), sheet.len());
     // SAFETY: as above; the four buffers are different vectors.
     unsafe {
         let (first, second) = ((a.as_mut_ptr(), a.len()), (b.as_mut_ptr(), b.len()));
         let (third, fourth) = ((c.as_mut_ptr(), c.len()), (d.as_mut_ptr(), d.len()));
-        match order {
-            None => juzontefa_round_trip(at, len, first.0, first.1, second.0, second.1, third.0, third.1, fourth.0, fourth.1),
-            Some(big) => juzontefa_round_trip_with_order(
+        match way {
+            Way::Little => juzontefa_round_trip(at, len, first.0, first.1, second.0, second.1, third.0, third.1, fourth.0, fourth.1),
+            Way::With(big) => juzontefa_round_trip_with_order(
+                at, len, big, first.0, first.1, second.0, second.1, third.0, third.1, fourth.0, fourth.1,
+            ),
+            Way::Strict(big) => juzontefa_strict_round_trip(
                 at, len, big, first.0, first.1, second.0, second.1, third.0, third.1, fourth.0, fourth.1,
             ),
         }
@@ -114,10 +125,10 @@ impl Tries {
     }
 
     /// The answer, and every byte of the four buffers: the sheets, or zeros in all four.
-    fn trip(&mut self, what: &str, sheet: &str, order: Option<u64>, rooms: [usize; 4], expected: Trip, sheets: Option<[&str; 4]>) {
+    fn trip(&mut self, what: &str, sheet: &str, way: Way, rooms: [usize; 4], expected: Trip, sheets: Option<[&str; 4]>) {
         let before = sheet.to_string();
         let mut buffers = rooms.map(|room| vec![7u8; room]);
-        let told = round_trip(sheet.as_bytes(), order, &mut buffers);
+        let told = round_trip(sheet.as_bytes(), way, &mut buffers);
         let held = (0..4).all(|step| holds(&buffers[step], sheets.map(|sheets| sheets[step])));
         self.count(told == expected && held && sheet == before, what);
     }
@@ -126,19 +137,19 @@ impl Tries {
     fn field(&mut self, what: &str, field: &str, exported: &str, plain: &str) {
         self.answered(&of(juzontefa_export), what, field, exported);
         self.answered(&of(juzontefa_plain_form), what, field, plain);
-        self.comes_back(what, field, None, exported, plain);
+        self.comes_back(what, field, Way::Little, exported, plain);
     }
 
     /// A field that comes back as its plain form, with all kinds of buffers.
-    fn comes_back(&mut self, what: &str, field: &str, order: Option<u64>, exported: &str, plain: &str) {
+    fn comes_back(&mut self, what: &str, field: &str, way: Way, exported: &str, plain: &str) {
         let sheets = [exported, plain, plain, exported];
         let exact = sheets.map(str::len);
-        self.trip(what, field, order, [ROOM; 4], Trip { answer: ALL_SAME, number: 0 }, Some(sheets));
-        self.trip(what, field, order, exact, Trip { answer: ALL_SAME, number: 0 }, Some(sheets));
+        self.trip(what, field, way, [ROOM; 4], Trip { answer: ALL_SAME, number: 0 }, Some(sheets));
+        self.trip(what, field, way, exact, Trip { answer: ALL_SAME, number: 0 }, Some(sheets));
         for step in 0..4 {
             let mut rooms = exact;
             rooms[step] -= 1;
-            self.trip(what, field, order, rooms, Trip { answer: EXPORT_REFUSED + step as u64, number: 16 }, None);
+            self.trip(what, field, way, rooms, Trip { answer: EXPORT_REFUSED + step as u64, number: 16 }, None);
         }
     }
 }
@@ -208,14 +219,14 @@ fn fields(tries: &mut Tries) {
         ("an index of 128 bits", "32 9 0 ~ ~ 70 1 ~ 1\n25 0 0 ~ ~ ~ ~ ~ 0\n", IMPORT_REFUSED, 9),
     ];
     for (what, field, answer, number) in refused {
-        tries.trip(what, &format!("{FIELD}{field}"), None, [ROOM; 4], Trip { answer, number }, None);
+        tries.trip(what, &format!("{FIELD}{field}"), Way::Little, [ROOM; 4], Trip { answer, number }, None);
     }
-    tries.trip("empty", "", None, [ROOM; 4], Trip { answer: EXPORT_REFUSED, number: 1 }, None);
+    tries.trip("empty", "", Way::Little, [ROOM; 4], Trip { answer: EXPORT_REFUSED, number: 1 }, None);
     let own = format!("{FIELD}4 0 0 ~ ~ 70 1 4152524f573a657874656e73696f6e3a6e616d65=78 0\n");
     let exported = format!("{SCHEMA}69 70 2 {named} 0 0\n");
     let imported = format!("{FIELD}37 0 0 78 ~ 70 1 ~ 1\n4 0 0 ~ ~ ~ ~ ~ 0\n");
     let differs = Trip { answer: IMPORT_DIFFERS, number: 0 };
-    tries.trip("a reserved key", &own, None, [ROOM; 4], differs, Some([&exported, &imported, &own, &exported]));
+    tries.trip("a reserved key", &own, Way::Little, [ROOM; 4], differs, Some([&exported, &imported, &own, &exported]));
 }
 
 /// A line of a page, as the standard library justifies it.
@@ -250,6 +261,7 @@ fn main() -> ExitCode {
     pages(&mut tries);
     orders::orders(&mut tries);
     measures::measures(&mut tries);
+    strict::strict(&mut tries);
     mappings::mappings(&mut tries);
     for what in &tries.wrong {
         println!("wrong: {what}");

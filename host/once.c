@@ -1,7 +1,7 @@
 /* One call on the sheet in a file, for host/instructions. The status is 0 only if it is answered, or refused with 15.
  *
- *   once CALL FILE    a call from sheet to sheet, the page or a measure, by the driver's name; get_child for the last child of the first line; import_big
- *                     and export_big are import and export of big-endian metadata, which import_big's sheet is turned to before the call */
+ *   once CALL FILE    a call from sheet to sheet, the page or a measure, by the driver's name; get_child for the last child of the first line; import_big,
+ *                     export_big and strict_export_big are of big-endian metadata, which import_big's sheet is turned to before the call */
 #include <stdio.h>
 #include <stdlib.h>
 #include <string.h>
@@ -29,6 +29,16 @@ static struct juzontefa_answer export_big(const uint8_t *from, size_t length, ui
     return juzontefa_export_with_order(from, length, JUZONTEFA_BIG_ENDIAN, to, room);
 }
 
+static struct juzontefa_answer strict_export(const uint8_t *from, size_t length, uint8_t *to, size_t room)
+{
+    return juzontefa_strict_export(from, length, JUZONTEFA_LITTLE_ENDIAN, to, room);
+}
+
+static struct juzontefa_answer strict_export_big(const uint8_t *from, size_t length, uint8_t *to, size_t room)
+{
+    return juzontefa_strict_export(from, length, JUZONTEFA_BIG_ENDIAN, to, room);
+}
+
 /* A measure writes nothing into the buffer. */
 static struct juzontefa_answer measure_import(const uint8_t *from, size_t length, uint8_t *to, size_t room)
 {
@@ -54,6 +64,8 @@ static const struct {
     { "export", juzontefa_export, 0 },
     { "import_big", import_big, 0 },
     { "export_big", export_big, 0 },
+    { "strict_export", strict_export, 0 },
+    { "strict_export_big", strict_export_big, 0 },
     { "measure_import", measure_import, 0 },
     { "measure_export", measure_export, 0 },
     { "plain", juzontefa_plain_form, 0 },

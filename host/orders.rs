@@ -72,13 +72,13 @@ fn out_and_back(tries: &mut Tries) {
         for (order, exported) in [(0, little)].into_iter().chain(BIGS.map(|order| (order, big))) {
             tries.answered(&with(juzontefa_export_with_order, order), field, field, exported);
             tries.answered(&with(juzontefa_import_with_order, order), field, exported, field);
-            tries.comes_back(field, field, Some(order), exported, field);
+            tries.comes_back(field, field, Way::With(order), exported, field);
         }
     }
     for order in [0, 1] {
         let (empty, owner) = (Trip { answer: EXPORT_REFUSED, number: 1 }, Trip { answer: EXPORT_REFUSED, number: 14 });
-        tries.trip("empty", "", Some(order), [ROOM; 4], empty, None);
-        tries.trip("byte 00", &format!("{FIELD}4 0 0 ~ ~ 00 1 6d=31 0\n"), Some(order), [ROOM; 4], owner, None);
+        tries.trip("empty", "", Way::With(order), [ROOM; 4], empty, None);
+        tries.trip("byte 00", &format!("{FIELD}4 0 0 ~ ~ 00 1 6d=31 0\n"), Way::With(order), [ROOM; 4], owner, None);
     }
 }
 

@@ -17,13 +17,13 @@
 
 /* The imports and their measure read schema sheets; then come those that read field sheets, and the two conversions, which read none. */
 enum call {
-    IMPORT, IMPORT_WITH_ORDER, MEASURE_IMPORT, EXPORT, EXPORT_WITH_ORDER, MEASURE_EXPORT, PLAIN_FORM, PAGE, ROUND_TRIP, ROUND_TRIP_WITH_ORDER,
-    UNDERLYING_PHYSICAL_TYPE, TO_STORAGE, TO_STORAGE_RECURSIVE, INNER_DTYPE, GET_CHILD, TO_PHYSICAL_TYPE, IS_NESTED, CONTAINS_DICTIONARY,
+    IMPORT, IMPORT_WITH_ORDER, MEASURE_IMPORT, EXPORT, EXPORT_WITH_ORDER, STRICT_EXPORT, MEASURE_EXPORT, PLAIN_FORM, PAGE, ROUND_TRIP,
+    ROUND_TRIP_WITH_ORDER, STRICT_ROUND_TRIP, UNDERLYING_PHYSICAL_TYPE, TO_STORAGE, TO_STORAGE_RECURSIVE, INNER_DTYPE, GET_CHILD, TO_PHYSICAL_TYPE, IS_NESTED, CONTAINS_DICTIONARY,
     FROM_INTEGER_TYPE, FROM_PRIMITIVE_TYPE, CALLS
 };
 static const char *const names[CALLS] = {
-    "import", "import_with_order", "measure_import", "export", "export_with_order", "measure_export", "plain_form", "page", "round_trip",
-    "round_trip_with_order", "underlying_physical_type", "to_storage", "to_storage_recursive", "inner_dtype", "get_child", "to_physical_type", "is_nested",
+    "import", "import_with_order", "measure_import", "export", "export_with_order", "strict_export", "measure_export", "plain_form", "page", "round_trip",
+    "round_trip_with_order", "strict_round_trip", "underlying_physical_type", "to_storage", "to_storage_recursive", "inner_dtype", "get_child", "to_physical_type", "is_nested",
     "contains_dictionary", "from_integer_type", "from_primitive_type"
 };
 
@@ -50,12 +50,16 @@ static void call(void)
     case MEASURE_IMPORT: number = juzontefa_measure_import(sheet, size, big).number; break;
     case EXPORT: number = juzontefa_export(sheet, size, out[0], room).number; break;
     case EXPORT_WITH_ORDER: number = juzontefa_export_with_order(sheet, size, big, out[0], room).number; break;
+    case STRICT_EXPORT: number = juzontefa_strict_export(sheet, size, big, out[0], room).number; break;
     case MEASURE_EXPORT: number = juzontefa_measure_export(sheet, size, big).number; break;
     case PLAIN_FORM: number = juzontefa_plain_form(sheet, size, out[0], room).number; break;
     case PAGE: number = juzontefa_page(sheet, size, out[0], room).number; break;
     case ROUND_TRIP: number = juzontefa_round_trip(sheet, size, out[0], room, out[1], room, out[2], room, out[3], room).number; break;
     case ROUND_TRIP_WITH_ORDER:
         number = juzontefa_round_trip_with_order(sheet, size, big, out[0], room, out[1], room, out[2], room, out[3], room).number;
+        break;
+    case STRICT_ROUND_TRIP:
+        number = juzontefa_strict_round_trip(sheet, size, big, out[0], room, out[1], room, out[2], room, out[3], room).number;
         break;
     case UNDERLYING_PHYSICAL_TYPE: number = juzontefa_underlying_physical_type(sheet, size, out[0], room).number; break;
     case TO_STORAGE: number = juzontefa_to_storage(sheet, size, out[0], room).number; break;
@@ -88,7 +92,8 @@ static size_t used_with(uint8_t paint)
 static uint64_t last_order(enum call which)
 {
     switch (which) {
-    case IMPORT_WITH_ORDER: case MEASURE_IMPORT: case EXPORT_WITH_ORDER: case MEASURE_EXPORT: case ROUND_TRIP_WITH_ORDER: return JUZONTEFA_BIG_ENDIAN;
+    case IMPORT_WITH_ORDER: case MEASURE_IMPORT: case EXPORT_WITH_ORDER: case STRICT_EXPORT: case MEASURE_EXPORT: case ROUND_TRIP_WITH_ORDER:
+    case STRICT_ROUND_TRIP: return JUZONTEFA_BIG_ENDIAN;
     default: return JUZONTEFA_LITTLE_ENDIAN;
     }
 }

@@ -9,10 +9,11 @@
  * A schema sheet goes to import and its measure; all other calls read a field sheet, but for the two conversions, which take a place in an enumeration.
  *
  * The answer's number is 0 for success, or says why there is none and who is turned back (enum juzontefa_refusal).
- * Import gives 1 to 11 and 16, export 1, 2, 3, 12, 13, 14 and 16, under either byte order, and their measures the same without 16; plain form, the
- * page and `to_storage` 1, 2, 3 and 16; `underlying_physical_type`, `to_storage_recursive`, `inner_dtype` and `get_child` 1, 2, 3, 15 and 16;
+ * Import gives 1 to 11 and 16, export 1, 2, 3, 12, 13, 14 and 16, under either byte order, and their measures the same without 16; strict export those
+ * of export, 17 and 18; plain form, the page and `to_storage` 1, 2, 3 and 16; `underlying_physical_type`, `to_storage_recursive`, `inner_dtype` and `get_child` 1, 2, 3, 15 and 16;
  * `to_physical_type` 1, 2, 3 and 15; `is_nested` and `contains_dictionary` 1, 2 and 3; the two conversions 15 and 16. 1, 2 and 3 are tried over the whole
- * sheet, in that order, before all others; 16 comes last, and only if there is an answer and it is longer than the buffer.
+ * sheet, in that order, before all others; 16 comes last, though it is not the greatest number, and only if there is an answer and it is longer than the
+ * buffer.
  * On success `length` bytes of the buffer are the answer, and the bytes past them keep what they held. On refusal `length` is 0 and
  * the whole buffer is zeros. Calls that answer numbers are lent no buffer; their numbers are 0 on refusal.
  */
@@ -48,7 +49,10 @@ enum juzontefa_refusal {
     JUZONTEFA_ZERO_BYTE = 14,    /* byte 00 in a line's name or timezone */
     JUZONTEFA_UNDEFINED_MAPPING = 15, /* mapping undefined there, no such child, or no such place to convert */
     /* the caller */
-    JUZONTEFA_NO_ROOM = 16 /* the answer is longer than the buffer */
+    JUZONTEFA_NO_ROOM = 16, /* the answer is longer than the buffer */
+    /* the field's owner again, of strict export alone */
+    JUZONTEFA_RESERVED_KEY = 17, /* `ARROW:extension:name` or `ARROW:extension:metadata` among the pairs of a line */
+    JUZONTEFA_WIDE_INDEX = 18    /* a dictionary's index of 128 bits */
 };
 
 /* How long a buffer must be to hold every answer to a sheet of `n` bytes: with one so long 16 never comes, and no answer is longer (proved,
@@ -62,13 +66,13 @@ enum juzontefa_refusal {
 #define JUZONTEFA_MAPPING_ROOM(n) JUZONTEFA_SHEET(n) /* of the five mappings that answer a sheet */
 #define JUZONTEFA_CONVERTED_ROOM 69 /* of the two conversions: heading and line of Decimal256, `36 32 32 ~ ~ ~ ~ ~ 0` */
 
-/* Bytes of stack to reserve for a call: what the greatest call used, a round trip's 64,968 bytes (measured by host/stack, x86-64; not proved), with
- * a margin of a quarter. Import's greatest was 64,760, and its measure's; of the others none used more than 20,352. */
+/* Bytes of stack to reserve for a call: what the greatest call used, a round trip's 64,984 bytes (measured by host/stack, x86-64; not proved), with
+ * a margin of a quarter. Import's greatest was 64,776, its measure's 64,760; of the others none used more than 24,144. */
 #define JUZONTEFA_STACK 81920
 
 /* The byte order of a metadata block's count and lengths, four bytes each: the least significant byte first, or the most significant. A struct in
- * memory has that of its machine. Nothing else in a sheet has one; import, export, their measures and the round trip are the calls that meet it. A caller
- * may hand over any number: every one but 0 is big-endian. */
+ * memory has that of its machine. Nothing else in a sheet has one; import, the two exports, the measures and the round trips are the calls that meet it. A
+ * caller may hand over any number: every one but 0 is big-endian. */
 enum juzontefa_byte_order {
     JUZONTEFA_LITTLE_ENDIAN = 0,
     JUZONTEFA_BIG_ENDIAN = 1
@@ -97,6 +101,15 @@ struct juzontefa_answer juzontefa_export(const uint8_t *sheet, size_t sheet_len,
 /* The same with metadata in the order that the caller says, `big` as above, which is to be its reader's. With 0 it is `juzontefa_export`. Under both a
  * field gets the same number and length, and the same bytes but for those of counts and lengths. */
 struct juzontefa_answer juzontefa_export_with_order(const uint8_t *sheet, size_t sheet_len, uint64_t big, uint8_t *out, size_t out_len);
+
+/* An export that is sure to return: what it writes imports, under the same order, to the field's plain form, so that only lengths are left to the caller:
+ * a sheet of over 65,535 bytes cannot be handed in, and import's buffer may be short. `big` as above; there is no variant without it.
+ * After 1, 2 and 3 and before all else every line of the field is tested, in the sheet's order, those too that export never visits, below a dictionary
+ * directly under an extension: 17 if one of its keys is `ARROW:extension:name` or `ARROW:extension:metadata`, whole and in this case, whatever its value and
+ * also where export would write over the pair; then 18 if it is a dictionary with an index of 128 bits, place 4 or 9 of `IntegerType`. The first line with
+ * either decides. Int128 and UInt128 as types are no cause. Where neither is found the answer is that of `juzontefa_export_with_order`, 12, 13, 14 and 16
+ * too, and in the same room. The export above, which takes such fields, gives 17 and 18 never. */
+struct juzontefa_answer juzontefa_strict_export(const uint8_t *sheet, size_t sheet_len, uint64_t big, uint8_t *out, size_t out_len);
 
 /* By value; three words, which C returns through memory of the caller's. */
 struct juzontefa_measure {
@@ -217,6 +230,11 @@ struct juzontefa_trip juzontefa_round_trip(const uint8_t *sheet, size_t sheet_le
 struct juzontefa_trip juzontefa_round_trip_with_order(const uint8_t *sheet, size_t sheet_len, uint64_t big, uint8_t *exported, size_t exported_len,
                                                       uint8_t *imported, size_t imported_len, uint8_t *plain, size_t plain_len, uint8_t *again,
                                                       size_t again_len);
+
+/* The same with both exports strict: a field with a reserved key or a dictionary index of 128 bits is refused at its export, with 17 or 18. So 5 and 6 never
+ * come, whatever the field is; once its export is answered, only a sheet that is too long to be handed in (1) or for its buffer (16) is refused. */
+struct juzontefa_trip juzontefa_strict_round_trip(const uint8_t *sheet, size_t sheet_len, uint64_t big, uint8_t *exported, size_t exported_len,
+                                                  uint8_t *imported, size_t imported_len, uint8_t *plain, size_t plain_len, uint8_t *again, size_t again_len);
 
 #ifdef __cplusplus
 }

@@ -1,7 +1,7 @@
 //! Times the Rust from sheet to sheet: reading the sheet into its structs or values, its own call, and writing the sheet
 //! of the answer. Where our library is linked, it is timed beside it, batch by batch, and the ratio is printed. Plain form
-//! and the page are not in the Rust: ours are timed beside our own export of the same sheet, and a measure beside our own
-//! conversion. A sheet that a mapping is not defined for is timed up to its refusal.
+//! and the page are not in the Rust: ours are timed beside our own export of the same sheet, as strict export is, and a measure
+//! beside our own conversion. A sheet that a mapping is not defined for is timed up to its refusal.
 
 use std::hint::black_box;
 use std::io::Write;
@@ -22,9 +22,10 @@ use crate::refusal::{Number, UNDEFINED};
 const BATCH: Duration = Duration::from_millis(4);
 
 /// The calls that are timed: those from sheet to sheet, the page and the measures.
-pub const CALLS: [Call; 11] = [
+pub const CALLS: [Call; 12] = [
     Call::Import,
     Call::Export,
+    Call::StrictExport,
     Call::MeasureImport,
     Call::MeasureExport,
     Call::Plain,

@@ -21,9 +21,10 @@ pub enum Call {
     Page,
     MeasureImport,
     MeasureExport,
+    StrictExport,
 }
 
-pub const CALLS: [(Call, &str); 16] = [
+pub const CALLS: [(Call, &str); 17] = [
     (Call::Import, "import"),
     (Call::Export, "export"),
     (Call::Plain, "plain"),
@@ -40,6 +41,7 @@ pub const CALLS: [(Call, &str); 16] = [
     (Call::Page, "page"),
     (Call::MeasureImport, "measure_import"),
     (Call::MeasureExport, "measure_export"),
+    (Call::StrictExport, "strict_export"),
 ];
 
 /// What a call takes besides the buffer.
@@ -92,7 +94,7 @@ impl Call {
 
     /// Whether the call reads or writes metadata blocks, or measures what does, and so takes their byte order.
     pub fn takes_order(self) -> bool {
-        matches!(self.measured().unwrap_or(self), Call::Import | Call::Export)
+        matches!(self.measured().unwrap_or(self), Call::Import | Call::Export | Call::StrictExport)
     }
 
     /// Whether the call writes a sheet or a page; the others answer numbers and have no buffer.
@@ -102,7 +104,7 @@ impl Call {
 
     /// Whether an answer is never longer than its sheet, as `include/juzontefa.h` says of the mappings from sheet to sheet.
     pub fn never_lengthens(self) -> bool {
-        let lengthens = matches!(self, Call::Import | Call::Export | Call::Plain | Call::Page);
+        let lengthens = matches!(self, Call::Import | Call::Export | Call::StrictExport | Call::Plain | Call::Page);
         self.writes() && self.input() != Input::Place && !lengthens
     }
 }
@@ -174,15 +176,24 @@ impl Request {
         self.call.measured().map(|call| Request::new(call, self.argument))
     }
 
-    /// Plain form, the page and the measures are not in the Rust, and it takes the machine's order, which is little-endian: what it has
-    /// not is answered by the plain reading.
-    pub fn is_in_rust(self) -> bool {
-        !matches!(self.call, Call::Plain | Call::Page) && self.call.measured().is_none() && !self.is_big()
+    /// The conversion that a part of the answer comes from, under the same order: what is measured, and for strict export the present
+    /// one (document 02, #106).
+    pub fn rests_on(self) -> Option<Request> {
+        match self.call {
+            Call::StrictExport => Some(Request::new(Call::Export, self.argument)),
+            _ => self.measured(),
+        }
     }
 
-    /// Whether the Rust has the call, or what is measured, and so a part of the answer.
+    /// Plain form, the page, the measures and strict export are not in the Rust, and it takes the machine's order, which is
+    /// little-endian: what it has not is answered by the plain reading.
+    pub fn is_in_rust(self) -> bool {
+        !matches!(self.call, Call::Plain | Call::Page) && self.rests_on().is_none() && !self.is_big()
+    }
+
+    /// Whether the Rust has the call, or what it rests on, and so a part of the answer.
     pub fn is_partly_in_rust(self) -> bool {
-        self.measured().unwrap_or(self).is_in_rust()
+        self.rests_on().unwrap_or(self).is_in_rust()
     }
 }
 

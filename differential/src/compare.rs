@@ -1,6 +1,7 @@
 //! The Rust held against the plain reading, and against our library where one is linked, over generated sheets. What the Rust has
 //! not, big-endian metadata among it, is the plain reading held against our library. A measure has its length from the conversion's
-//! answer, so that both are held against that; for some sheets its lines are also found by what the Rust visits.
+//! answer, so that both are held against that; for some sheets its lines are also found by what the Rust visits. Strict export is held
+//! to export's answer, unless a cause to refuse stands in the sheet's columns.
 
 use std::collections::BTreeMap;
 use std::fmt;
@@ -8,11 +9,13 @@ use std::io::Write;
 
 use crate::answer::{Answer, Answered, Outcome};
 use crate::call::{Call, Input, Order, Request, BIG_NUMBERS, CALLS, ORDERS};
+use crate::causes;
 use crate::failure::Failure;
 use crate::generator::{limits, Generator, Kind, Random, Sheet};
 use crate::library;
 use crate::model::Model;
 use crate::oracle::Rust;
+use crate::refusal::{HEADING, LEVELS, LINE, NUMBERS};
 use crate::trip::{self, Trip};
 use crate::visits;
 
@@ -80,21 +83,26 @@ pub fn room(random: &mut Random, answered: &Answered) -> usize {
 /// How often each call gave each number, and a round trip each answer with its number, under each order.
 #[derive(Default)]
 pub struct Counts {
-    numbers: [[[u64; 17]; ORDERS.len()]; CALLS.len()],
-    trips: [BTreeMap<(u64, u64), u64>; ORDERS.len()],
+    numbers: [[[u64; NUMBERS]; ORDERS.len()]; CALLS.len()],
+    /// In the order of `TRIPS`.
+    trips: [[BTreeMap<(u64, u64), u64>; ORDERS.len()]; TRIPS.len()],
 }
+
+/// The round trips by what exports in them.
+pub const TRIPS: [(Call, &str); 2] = [(Call::Export, "round_trip"), (Call::StrictExport, "strict_round_trip")];
 
 impl Counts {
     pub fn add(&mut self, request: Request, number: u8) {
         self.numbers[request.call as usize][request.order() as usize][number as usize] += 1;
     }
 
-    fn add_trip(&mut self, order: Order, trip: &Trip) {
-        *self.trips[order as usize].entry((trip.answer, trip.number)).or_default() += 1;
+    fn add_trip(&mut self, export: Call, order: Order, trip: &Trip) {
+        let strict = (export == Call::StrictExport) as usize;
+        *self.trips[strict][order as usize].entry((trip.answer, trip.number)).or_default() += 1;
     }
 
     fn total(&self) -> u64 {
-        let trips = self.trips.iter().flat_map(BTreeMap::values);
+        let trips = self.trips.iter().flatten().flat_map(BTreeMap::values);
         self.numbers.iter().flatten().flatten().chain(trips).sum()
     }
 }
@@ -106,15 +114,20 @@ impl fmt::Display for Counts {
             let numbers = numbers.filter(|(_, count)| **count > 0).map(|(number, count)| format!("{number}: {count}"));
             write_row(f, Request::under(call, order.number()), numbers)?;
         }
-        for (name, trips) in ["round_trip", "round_trip, big-endian"].into_iter().zip(&self.trips) {
-            let answers = trips.iter().map(|((answer, number), count)| match number {
-                0 => format!("{answer}: {count}"),
-                _ => format!("{answer} by {number}: {count}"),
-            });
-            write_row(f, name, answers)?;
+        for ((_, name), trips) in TRIPS.iter().zip(&self.trips) {
+            write_row(f, name, trip_counts(&trips[0]))?;
+            write_row(f, format!("{name}, big-endian"), trip_counts(&trips[1]))?;
         }
         Ok(())
     }
+}
+
+/// How often each answer of a round trip came, with its number.
+fn trip_counts(trips: &BTreeMap<(u64, u64), u64>) -> impl Iterator<Item = String> + '_ {
+    trips.iter().map(|((answer, number), count)| match number {
+        0 => format!("{answer}: {count}"),
+        _ => format!("{answer} by {number}: {count}"),
+    })
 }
 
 /// A row of counts, if there are any.
@@ -131,8 +144,45 @@ fn write_row(f: &mut fmt::Formatter, name: impl fmt::Display, counts: impl Itera
 pub enum Scope {
     All,
     Only(Call),
-    /// Of our library, against its four steps.
-    RoundTrips,
+    /// Of our library, against its four steps, with these exports.
+    RoundTrips(Call),
+    /// Strict export, the present one and the strict round trip, on field sheets that are rich in what it refuses.
+    Strict,
+}
+
+impl Scope {
+    fn has(self, call: Call) -> bool {
+        match self {
+            Scope::All => true,
+            Scope::Only(only) => only == call,
+            Scope::RoundTrips(_) => false,
+            Scope::Strict => matches!(call, Call::Export | Call::StrictExport),
+        }
+    }
+
+    fn has_round_trips(self, export: Call) -> bool {
+        match self {
+            Scope::All => true,
+            Scope::Only(_) => false,
+            Scope::RoundTrips(of) => of == export,
+            Scope::Strict => export == Call::StrictExport,
+        }
+    }
+
+    /// The next sheet to compare on.
+    fn sheet(self, generator: &mut Generator) -> Sheet {
+        let input = match self {
+            Scope::Strict => return generator.strict_sheet(),
+            Scope::All => return generator.sheet(),
+            Scope::RoundTrips(_) => Input::FieldSheet,
+            Scope::Only(call) => call.input(),
+        };
+        match input {
+            Input::SchemaSheet => generator.sheet_of(Kind::Schema),
+            Input::FieldSheet => generator.sheet_of(Kind::Field),
+            Input::Place => generator.sheet(),
+        }
+    }
 }
 
 /// What is held against what, and over which calls.
@@ -152,16 +202,7 @@ pub fn compare(rust: &Rust, sheets: u64, seed: u64, scope: Scope, out: &mut dyn 
     compare_kind_names(rust, &comparison.model).map_err(Failure::Found)?;
     let mut generator = Generator::new(seed);
     for done in 0..sheets {
-        let input = match scope {
-            Scope::All => None,
-            Scope::Only(call) => Some(call.input()),
-            Scope::RoundTrips => Some(Input::FieldSheet),
-        };
-        let sheet = match input {
-            Some(Input::SchemaSheet) => generator.sheet_of(Kind::Schema),
-            Some(Input::FieldSheet) => generator.sheet_of(Kind::Field),
-            _ => generator.sheet(),
-        };
+        let sheet = scope.sheet(&mut generator);
         let compared = comparison.compare_sheet(&mut generator.random, &sheet);
         compared.map_err(|difference| Failure::Found(format!("sheet {done}: {difference}")))?;
     }
@@ -170,7 +211,9 @@ pub fn compare(rust: &Rust, sheets: u64, seed: u64, scope: Scope, out: &mut dyn 
     let counts = comparison.counts;
     writeln!(out, "numbers by call:")?;
     write!(out, "{counts}")?;
-    writeln!(out, "{} measures had as many lines as the Rust visits", comparison.visits)?;
+    if comparison.visits > 0 {
+        writeln!(out, "{} measures had as many lines as the Rust visits", comparison.visits)?;
+    }
     writeln!(out, "{sheets} sheets from seed {seed}, {} answers, no difference", counts.total())?;
     Ok(())
 }
@@ -179,11 +222,11 @@ impl Comparison<'_> {
     /// What is not in the Rust can only be our library held against the plain reading.
     fn wants(&self, request: Request) -> bool {
         let can_be = request.is_partly_in_rust() || library::has(request);
-        can_be && (self.scope == Scope::All || self.scope == Scope::Only(request.call))
+        can_be && self.scope.has(request.call)
     }
 
-    fn wants_round_trips(&self, order: Order) -> bool {
-        library::has_round_trip(order) && matches!(self.scope, Scope::All | Scope::RoundTrips)
+    fn wants_round_trips(&self, export: Call, order: Order) -> bool {
+        library::has_round_trip(export, order) && self.scope.has_round_trips(export)
     }
 
     fn compare_sheet(&mut self, random: &mut Random, sheet: &Sheet) -> Result<(), String> {
@@ -205,9 +248,9 @@ impl Comparison<'_> {
                 self.compare_sheet(random, &Sheet { kind: Kind::Field, bytes: field })?;
             }
         }
-        for order in ORDERS {
-            if sheet.kind == Kind::Field && self.wants_round_trips(order) {
-                self.compare_round_trip(random, &sheet.bytes, order)?;
+        for (export, order) in TRIPS.iter().flat_map(|(export, _)| ORDERS.map(|order| (*export, order))) {
+            if sheet.kind == Kind::Field && self.wants_round_trips(export, order) {
+                self.compare_round_trip(random, &sheet.bytes, export, order)?;
             }
         }
         Ok(())
@@ -236,18 +279,21 @@ impl Comparison<'_> {
     }
 
     /// Half of them have room in all four buffers.
-    fn compare_round_trip(&mut self, random: &mut Random, sheet: &[u8], order: Order) -> Result<(), String> {
-        let number = any_number(random, order);
-        let steps = trip::steps(self.rust, &self.model, sheet, number);
+    fn compare_round_trip(&mut self, random: &mut Random, sheet: &[u8], export: Call, order: Order) -> Result<(), String> {
+        let export = Request::new(export, any_number(random, order));
+        let steps = trip::steps(self.rust, &self.model, sheet, export);
         let any = random.below(8);
         let rooms = [0, 1, 2, 3].map(|step| match steps.get(step) {
             Some(Ok(Answer::Sheet(sheet))) if step != any => sheet.len() + random.below(50),
             Some(answered) => room(random, answered),
             None => random.below(50),
         });
-        let trip = trip::compared(self.rust, &self.model, sheet, &rooms.map(lent), number)?;
-        self.counts.add_trip(order, &trip);
-        Ok(())
+        let trip = trip::compared(self.rust, &self.model, sheet, &rooms.map(lent), export)?;
+        self.counts.add_trip(export.call, order, &trip);
+        match export.call == Call::StrictExport && !trip.is_strict() {
+            true => Err(format!("{trip} is the strict round trip of \"{}\"", sheet.escape_ascii())),
+            false => Ok(()),
+        }
     }
 
     /// Answers far longer than generated sheets have, each with some buffers.
@@ -337,15 +383,27 @@ fn compare_kind_names(rust: &Rust, model: &Model) -> Result<(), String> {
 }
 
 /// The answer that the others are held against: the Rust's, or the plain reading's for what the Rust has not. Of a measure it is the
-/// length of the conversion's answer, and the lines of the plain reading.
+/// length of the conversion's answer, and the lines of the plain reading; of strict export the answer of export, or the first cause.
 pub fn answer(rust: &Rust, model: &Model, request: Request, sheet: &[u8]) -> Answered {
-    match request.measured() {
-        Some(conversion) => match answer(rust, model, conversion, sheet)? {
-            Answer::Sheet(written) => Ok(Answer::Values(written.len() as u64, model.visited(conversion.call, sheet)?)),
-            values => Ok(values),
-        },
-        None if request.is_in_rust() => rust.answer(request, sheet),
-        None => model.answer(request, sheet),
+    let answered = match request.rests_on() {
+        None if request.is_in_rust() => return rust.answer(request, sheet),
+        None => return model.answer(request, sheet),
+        Some(conversion) => answer(rust, model, conversion, sheet),
+    };
+    match (request.measured(), answered) {
+        (None, answered) => strictly(answered, sheet),
+        (Some(conversion), Ok(Answer::Sheet(written))) => {
+            Ok(Answer::Values(written.len() as u64, model.visited(conversion.call, sheet)?))
+        }
+        (_, answered) => answered,
+    }
+}
+
+/// What export answers, but that a cause comes before all that is not the sheet's form.
+fn strictly(exported: Answered, sheet: &[u8]) -> Answered {
+    match (&exported, causes::first(sheet)) {
+        (Err(HEADING | LINE | LEVELS), _) | (_, None) => exported,
+        (_, Some(cause)) => Err(cause),
     }
 }
 

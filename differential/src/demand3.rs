@@ -3,6 +3,7 @@
 //! field is; and two such fields have equal exports exactly if their plain forms are equal. With big-endian metadata, which
 //! the Rust has not, it is run on the plain reading alone. Where our library has the three calls, it is run on those alone
 //! too, and on its round trip. What an export gives under the order that it was not made in is counted, and never a failure.
+//! These fields, and with each pair one that is rich in what strict export refuses, are exported strictly too (`strict_return.rs`).
 
 use std::fmt;
 use std::io::Write;
@@ -15,16 +16,20 @@ use crate::generator::Generator;
 use crate::library;
 use crate::model::Model;
 use crate::oracle::Rust;
+use crate::strict_return::Strict;
 use crate::trip;
 
 /// Sheets handed in have at most so many bytes.
-const LONGEST_SHEET: usize = 65_535;
+pub const LONGEST_SHEET: usize = 65_535;
 
 /// Runs it over at least `fields` fields that the demand speaks of, under each order.
 pub fn demand3(rust: &Rust, fields: u64, seed: u64, out: &mut dyn Write) -> Result<(), Failure> {
     let model = Model::new();
     let mut runs = ORDERS.map(|order| Run { rust, model: &model, order, counted: Counted::default() });
+    let mut strictly = ORDERS.map(|order| Strict::new(rust, &model, order));
     let mut generator = Generator::short(seed);
+    // of its own, so that the pairs are what they are without these
+    let mut causes = Generator::short(seed);
     let mut tried = 0;
     while runs.iter().any(|run| run.counted.returned < fields) {
         let (first, second) = generator.two_fields();
@@ -36,9 +41,18 @@ pub fn demand3(rust: &Rust, fields: u64, seed: u64, out: &mut dyn Write) -> Resu
         for (field, (little, big)) in two.iter().zip(come_back.iter().zip(&come_back_big)) {
             same_but_order(field, little, big).map_err(Failure::Found)?;
         }
+        let third = causes.strict_field();
+        for strict in &mut strictly {
+            for field in [&first, &second, &third] {
+                strict.try_field(field).map_err(Failure::Found)?;
+            }
+        }
     }
     for run in &runs {
         run.tell(tried, seed, out)?;
+    }
+    for strict in &strictly {
+        writeln!(out, "{strict}")?;
     }
     let [little, big] = runs.map(|run| run.counted);
     writeln!(
@@ -92,7 +106,7 @@ impl Run<'_> {
         for (field, back) in two.iter().zip(&both).filter_map(|(field, back)| Some((field, back.as_ref()?))) {
             self.counted.returned += 1;
             self.cross(back);
-            if library::has_round_trip(order) {
+            if library::has_round_trip(Call::Export, order) {
                 self.counted.trips += self.round_trips(field, back)? as u64;
             }
         }
@@ -121,7 +135,8 @@ impl Run<'_> {
     /// Whether the field's round trip can go all the way, which then answers that all came back the same.
     fn round_trips(&self, field: &[u8], (exported, plain): &Returned) -> Result<bool, String> {
         let rooms = [exported.len() + 3, plain.len(), plain.len() + 5, exported.len()];
-        let trip = trip::compared(self.rust, self.model, field, &rooms.map(lent), self.order.number())?;
+        let export = Request::under(Call::Export, self.order.number());
+        let trip = trip::compared(self.rust, self.model, field, &rooms.map(lent), export)?;
         let handed_in = exported.len() <= LONGEST_SHEET && plain.len() <= LONGEST_SHEET;
         match handed_in == (trip.answer == trip::ALL_SAME) {
             true => Ok(handed_in),
@@ -150,7 +165,7 @@ impl Run<'_> {
                 "{order}, the library: all of this with the same exports and plain forms, by its own export, import and plain form"
             )?;
         }
-        if library::has_round_trip(self.order) {
+        if library::has_round_trip(Call::Export, self.order) {
             writeln!(
                 out,
                 "{order}, the library: {trips} round trips of these fields answer 0, the four sheets in their buffers"
@@ -178,8 +193,8 @@ fn same_but_order(field: &[u8], little: &Option<Returned>, big: &Option<Returned
 /// A field's export and its plain form.
 pub type Returned = (Vec<u8>, Vec<u8>);
 
-/// What answers import, export and plain form.
-type Answers<'a> = &'a dyn Fn(Call, &[u8]) -> Answered;
+/// What answers import, the exports and plain form.
+pub type Answers<'a> = &'a dyn Fn(Call, &[u8]) -> Answered;
 
 /// Both fields come back, and have equal exports exactly if their plain forms are equal.
 fn two_come_back(model: &Model, fields: [&[u8]; 2], answers: Answers) -> Result<[Option<Returned>; 2], String> {

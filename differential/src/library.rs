@@ -5,7 +5,8 @@
 //!
 //! Import, export and the round trip have two functions each: one without the order of metadata blocks, which is asked where
 //! that is little-endian, and one with it (document 02, #104), which is asked where it is big-endian. `outcome_with_order` and
-//! `round_trip_with_order` ask the second for little-endian too, so that it can be compared there. A measure has one, with it.
+//! `round_trip_with_order` ask the second for little-endian too, so that it can be compared there. A measure, strict export and the
+//! strict round trip have one, with it.
 
 use std::ptr;
 
@@ -79,6 +80,7 @@ fn function(request: Request) -> Option<Function> {
     match request.call {
         Call::MeasureImport => has!("measure_import", Function::ToMeasure, juzontefa_measure_import),
         Call::MeasureExport => has!("measure_export", Function::ToMeasure, juzontefa_measure_export),
+        Call::StrictExport => has!("strict_export", Function::WithNumber, juzontefa_strict_export),
         call if request.is_big() => function_with_order(call),
         Call::Import => has!("import", Function::ToSheet, juzontefa_import),
         Call::Export => has!("export", Function::ToSheet, juzontefa_export),
@@ -108,10 +110,12 @@ fn function_with_order(call: Call) -> Option<Function> {
     }
 }
 
-fn trip_function(order: Order) -> Option<TripFunction> {
-    match order {
-        Order::Little => has!("round_trip", TripFunction::Little, juzontefa_round_trip),
-        Order::Big => trip_function_with_order(),
+/// The round trip with this export, under its order.
+fn trip_function(export: Request) -> Option<TripFunction> {
+    match (export.call, export.order()) {
+        (Call::StrictExport, _) => has!("strict_round_trip", TripFunction::WithOrder, juzontefa_strict_round_trip),
+        (_, Order::Little) => has!("round_trip", TripFunction::Little, juzontefa_round_trip),
+        (_, Order::Big) => trip_function_with_order(),
     }
 }
 
@@ -124,8 +128,9 @@ pub fn has(request: Request) -> bool {
     function(request).is_some()
 }
 
-pub fn has_round_trip(order: Order) -> bool {
-    trip_function(order).is_some()
+/// Whether it has the round trip with this export, under the order.
+pub fn has_round_trip(export: Call, order: Order) -> bool {
+    trip_function(Request::under(export, order.number())).is_some()
 }
 
 /// Whether demand 3 can be run on the library.
@@ -201,17 +206,17 @@ fn ask_function(function: Function, argument: u64, sheet: &[u8], out: &mut [u8])
     }
 }
 
-/// The round trip of a sheet under the order of this number; none where the library has no such call. Ends the program as
+/// The round trip of a sheet with this export, under its order; none where the library has no such call. Ends the program as
 /// `outcome` does.
-pub fn round_trip(sheet: &[u8], lent: &[Vec<u8>; 4], order: u64) -> Option<Trip> {
-    Some(trip_of(trip_function(Order::of_number(order))?, sheet, lent, order))
+pub fn round_trip(sheet: &[u8], lent: &[Vec<u8>; 4], export: Request) -> Option<Trip> {
+    Some(trip_of(trip_function(export)?, sheet, lent, export.argument))
 }
 
-/// The little-endian round trip by the function that takes the order; none for the others.
-pub fn round_trip_with_order(sheet: &[u8], lent: &[Vec<u8>; 4], order: u64) -> Option<Trip> {
-    match Order::of_number(order) {
-        Order::Little => Some(trip_of(trip_function_with_order()?, sheet, lent, order)),
-        Order::Big => None,
+/// The present little-endian round trip by the function that takes the order; none for the others.
+pub fn round_trip_with_order(sheet: &[u8], lent: &[Vec<u8>; 4], export: Request) -> Option<Trip> {
+    match (export.call, export.order()) {
+        (Call::Export, Order::Little) => Some(trip_of(trip_function_with_order()?, sheet, lent, export.argument)),
+        _ => None,
     }
 }
 

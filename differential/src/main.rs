@@ -1,11 +1,12 @@
-//! The driver: the Rust as oracle, a plain reading of document 01, of the page, of big-endian metadata and of the measures beside it, and
-//! what is run with both.
+//! The driver: the Rust as oracle, a plain reading of document 01, of the page, of big-endian metadata, of the measures and of strict
+//! export beside it, and what is run with both.
 //!
 //! Status: 0 done; 1 the answer is a refusal, or something was found to differ; 2 wrong arguments or unreadable input.
 
 mod answer;
 mod bench;
 mod call;
+mod causes;
 mod compare;
 mod demand3;
 mod failure;
@@ -18,6 +19,7 @@ mod mutants;
 mod oracle;
 mod records;
 mod refusal;
+mod strict_return;
 mod trip;
 mod visits;
 
@@ -26,13 +28,13 @@ use std::process::ExitCode;
 
 use answer::{Answer, Answered};
 use call::{Call, Input, Request, ORDERS};
-use compare::Scope;
+use compare::{Scope, TRIPS};
 use failure::Failure;
 use model::Model;
 use oracle::Rust;
 
 const USAGE: &str = "usage: juzontefa-differential answer CALL [NUMBER] | model CALL [NUMBER] | compare N [SEED [CALL]] | \
-    demand3 N [SEED] | mutants [N [SEED]] | record SEED | check FILE | bench [ROUNDS [CALL]] | workloads FOLDER CALL";
+    strict N [SEED] | demand3 N [SEED] | mutants [N [SEED]] | record SEED | check FILE | bench [ROUNDS [CALL]] | workloads FOLDER CALL";
 
 /// Deep sheets are read by recursion in the plain reading, and dropped by recursion in the Rust.
 const STACK: usize = 256 << 20;
@@ -74,6 +76,10 @@ fn run(arguments: &[String]) -> Result<(), Failure> {
         ["compare", ref rest @ ..] => {
             let (sheets, seed) = number_and_seed(rest, None)?;
             compare::compare(&Rust::new(), sheets, seed, Scope::All, out)
+        }
+        ["strict", ref rest @ ..] => {
+            let (sheets, seed) = number_and_seed(rest, None)?;
+            compare::compare(&Rust::new(), sheets, seed, Scope::Strict, out)
         }
         ["demand3", ref rest @ ..] => {
             let (fields, seed) = number_and_seed(rest, None)?;
@@ -142,9 +148,12 @@ fn call_of(name: &str) -> Result<Call, Failure> {
 
 /// What `compare` is asked to compare, by its last word.
 fn scope_of(name: &str) -> Result<Scope, Failure> {
-    let (scope, can_be) = match name {
-        "round_trip" => (Scope::RoundTrips, ORDERS.into_iter().any(library::has_round_trip)),
-        _ => {
+    let (scope, can_be) = match TRIPS.iter().find(|(_, trip)| *trip == name) {
+        Some((export, _)) => {
+            let can_be = ORDERS.into_iter().any(|order| library::has_round_trip(*export, order));
+            (Scope::RoundTrips(*export), can_be)
+        }
+        None => {
             let request = Request::new(call_of(name)?, 0);
             (Scope::Only(request.call), request.is_partly_in_rust() || library::has(request))
         }

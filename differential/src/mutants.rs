@@ -1,5 +1,5 @@
 //! Whether the generator tells each wrong reading of document 01 from the Rust, and each of what the Rust has not, the page, big-endian
-//! metadata and the measures, from the right one.
+//! metadata, the measures and strict export, from the right one.
 
 use std::io::Write;
 
@@ -32,6 +32,7 @@ pub fn mutants(rust: &Rust, limit: u64, seed: u64, out: &mut dyn Write) -> Resul
         try_big(&sheet, done, &mut mutants);
         try_measures(rust, &sheet, done, &mut mutants);
         if sheet.kind == Kind::Field {
+            try_strict(rust, &mut generator, &sheet, done, &mut mutants);
             try_plain(rust, &sheet, done, &mut mutants).map_err(Failure::Found)?;
             try_page(&sheet, done, &mut mutants);
         }
@@ -91,6 +92,24 @@ fn try_measures(rust: &Rust, sheet: &Sheet, done: u64, mutants: &mut [Mutant]) {
         let right = Outcome::of(&compare::answer(rust, &Model::new(), request, &sheet.bytes), Vec::new());
         for mutant in mutants.iter_mut().filter(|mutant| mutant.caught.is_none() && mutant.wrong.is_of_measures()) {
             if Model::wrongly(mutant.wrong).outcome(request, &sheet.bytes, Vec::new()) != right {
+                mutant.caught = Some((done, request.to_string()));
+            }
+        }
+    }
+}
+
+/// Strict export is not in the Rust, but what it answers where it lets a field through is: its readings, and only these, are told from
+/// the right one under both orders.
+fn try_strict(rust: &Rust, generator: &mut Generator, sheet: &Sheet, done: u64, mutants: &mut [Mutant]) {
+    if mutants.iter().all(|mutant| mutant.caught.is_some() || !mutant.wrong.is_of_strict_export()) {
+        return;
+    }
+    for request in ORDERS.map(|order| Request::under(Call::StrictExport, order.number())) {
+        let answered = compare::answer(rust, &Model::new(), request, &sheet.bytes);
+        let case = Case { request, sheet: &sheet.bytes, room: room(&mut generator.random, &answered) };
+        let right = Outcome::of(&answered, case.lent());
+        for mutant in mutants.iter_mut().filter(|mutant| mutant.caught.is_none() && mutant.wrong.is_of_strict_export()) {
+            if Model::wrongly(mutant.wrong).outcome(request, case.sheet, case.lent()) != right {
                 mutant.caught = Some((done, request.to_string()));
             }
         }

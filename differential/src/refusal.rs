@@ -1,6 +1,6 @@
-//! The refusals of document 01 by name.
+//! The refusals of document 01 and of document 02, #106, by name.
 
-/// A refusal's number, 1 to 16.
+/// A refusal's number, 1 to 18.
 pub type Number = u8;
 
 pub const HEADING: Number = 1;
@@ -19,3 +19,9 @@ pub const UNION_WITHOUT_IDS: Number = 13;
 pub const BYTE_ZERO: Number = 14;
 pub const UNDEFINED: Number = 15;
 pub const BUFFER_SHORT: Number = 16;
+/// Of strict export alone, as is the next.
+pub const RESERVED_KEY: Number = 17;
+pub const WIDE_INDEX: Number = 18;
+
+/// 0 and all of them.
+pub const NUMBERS: usize = 19;

@@ -1,5 +1,5 @@
-/* A fuzzer's entry for juzontefa_arrow.c: any bytes as a sheet, and as the recipe of a struct; but for the last byte, which says the order of the sheet's
- * metadata. Memory is exact, so that the address sanitizer sees a read or write past it. `host/fuzz` links it with libFuzzer's main, the sanitizers and the
+/* A fuzzer's entry for juzontefa_arrow.c: any bytes as a sheet of either kind, and as the recipe of a struct; but for the last byte, which says the order of
+ * the sheet's metadata. Memory is exact, so that the address sanitizer sees a read or write past it. `host/fuzz` links it with libFuzzer's main, the sanitizers and the
  * library. */
 #include <stdint.h>
 #include <stdlib.h>
@@ -25,7 +25,31 @@ static void *copy_of(const void *bytes, size_t size)
     return copy;
 }
 
-/* ── a sheet: 1, 2 and 3 as import says; else the struct walked back, in either order, imports to the same bytes */
+/* ── a field sheet: refused as strict export is, or too long for structs; else the struct, walked and imported, is the plain form */
+
+static void as_field(const uint8_t *data, size_t size)
+{
+    static uint8_t sheet[JUZONTEFA_EXPORT_ROOM(LIMIT)], back[LIMIT], plain[JUZONTEFA_PLAIN_FORM_ROOM(LIMIT)], again[JUZONTEFA_IMPORT_ROOM(LIMIT)];
+    uint8_t *field = copy_of(data, size);
+    struct ArrowSchema schema;
+    uint64_t number = juzontefa_strict_field_to_schema(field, size, &schema);
+    struct juzontefa_answer exported = juzontefa_strict_export(field, size, JUZONTEFA_LITTLE_ENDIAN, sheet, sizeof sheet);
+    struct juzontefa_answer form = juzontefa_plain_form(field, size, plain, sizeof plain);
+    require(memcmp(field, data, size) == 0);
+    free(field);
+    if (number != 0) {
+        require(!schema.release && number == (exported.number == 0 && exported.length > LIMIT ? JUZONTEFA_NOT_SHEET : exported.number));
+        return;
+    }
+    struct juzontefa_walked walked = juzontefa_schema_to_sheet(&schema, back, sizeof back);
+    require(exported.number == 0 && walked.number == 0 && walked.length == exported.length && memcmp(back, sheet, walked.length) == 0);
+    struct juzontefa_answer imported = juzontefa_import(back, walked.length, again, sizeof again);
+    require(imported.number == 0 && form.number == 0 && imported.length == form.length && memcmp(again, plain, form.length) == 0);
+    schema.release(&schema);
+    require(!schema.release);
+}
+
+/* ── a sheet: 1, 2 and 3 as import says; else the struct walked back, in either order, imports to the same bytes; and what was imported is a field */
 
 static void as_sheet(const uint8_t *data, size_t size, uint64_t big)
 {
@@ -36,6 +60,8 @@ static void as_sheet(const uint8_t *data, size_t size, uint64_t big)
     struct juzontefa_answer answer = juzontefa_import_with_order(sheet, size, big, field, sizeof field);
     require(memcmp(sheet, data, size) == 0);
     free(sheet);
+    if (answer.number == 0)
+        as_field(field, answer.length);
     if (number != 0) {
         require(!schema.release);
         if (number <= JUZONTEFA_TOO_DEEP)
@@ -206,6 +232,7 @@ int LLVMFuzzerTestOneInput(const uint8_t *data, size_t size)
         size--;
         big = data[size];
     }
+    as_field(data, size);
     as_sheet(data, size, big);
     as_struct(data, size, big);
     return 0;

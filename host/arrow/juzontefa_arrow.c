@@ -466,3 +466,19 @@ uint64_t juzontefa_sheet_to_schema_with_order(const uint8_t *sheet, size_t sheet
     *schema = (struct ArrowSchema){ 0 };
     return JUZONTEFA_NO_MEMORY;
 }
+
+uint64_t juzontefa_strict_field_to_schema(const uint8_t *field, size_t field_len, struct ArrowSchema *schema)
+{
+    *schema = (struct ArrowSchema){ 0 };
+    /* one byte at least, and no more than can be made into structs: an answer that is longer gets 16, and is no sheet to hand in */
+    size_t room = JUZONTEFA_EXPORT_ROOM(field_len) < SHEET_LIMIT ? JUZONTEFA_EXPORT_ROOM(field_len) + 1 : SHEET_LIMIT;
+    uint8_t *sheet = malloc(room);
+    if (!sheet)
+        return JUZONTEFA_NO_MEMORY;
+    struct juzontefa_answer a = juzontefa_strict_export(field, field_len, JUZONTEFA_LITTLE_ENDIAN, sheet, room);
+    uint64_t number = a.number == JUZONTEFA_NO_ROOM ? JUZONTEFA_NOT_SHEET : a.number;
+    if (number == 0)
+        number = juzontefa_sheet_to_schema(sheet, a.length, schema);
+    free(sheet);
+    return number;
+}

@@ -1,5 +1,5 @@
 /* ArrowSchema structs and schema sheets, both ways: what stands between a program that has schemas by the Arrow C data interface and the calls of
- * juzontefa.h. This header and juzontefa_arrow.c are all of it; C11 and the C library, callable from C++. Nothing is kept between calls, and calls may
+ * juzontefa.h. This header and juzontefa_arrow.c are all of it; C11, the C library and, for the last call, the archive; callable from C++. Nothing is kept between calls, and calls may
  * run at the same time on different schemas.
  *
  * The numbers are those of enum juzontefa_refusal, with one of its own where memory cannot be had. */
@@ -88,6 +88,13 @@ uint64_t juzontefa_sheet_to_schema(const uint8_t *sheet, size_t sheet_len, struc
 /* The same of a sheet whose metadata has the order that the caller says, `big` as above, such as `juzontefa_export_with_order` writes. With 0 it is the call
  * above. A block of the other order mostly gets 11, but not always, as with import. */
 uint64_t juzontefa_sheet_to_schema_with_order(const uint8_t *sheet, size_t sheet_len, uint64_t big, struct ArrowSchema *schema);
+
+/* Makes the ArrowSchema of a field sheet by `juzontefa_strict_export`, so that whoever walks and imports the struct gets the field's plain form. `*schema` is
+ * its owner's, or a released struct, as above. Numbers:
+ *    1, 2, 3, 12, 13, 14, 17, 18   of the strict export
+ *    1   also if the schema sheet that it would write has over 65,535 bytes
+ *  255   JUZONTEFA_NO_MEMORY, also where there is none for that sheet, before it is tried */
+uint64_t juzontefa_strict_field_to_schema(const uint8_t *field, size_t field_len, struct ArrowSchema *schema);
 
 #ifdef __cplusplus
 }

@@ -6,6 +6,7 @@ pub mod limits;
 pub mod published;
 mod random;
 mod schema;
+mod strict;
 mod texts;
 
 use crate::call::Order;
@@ -87,16 +88,20 @@ pub struct Generator {
     long_names: bool,
     /// Whether a third of the schema sheets have big-endian blocks. The recorded list was begun without these too.
     both_orders: bool,
+    /// Whether a sixth of the field sheets are rich in what strict export refuses. The recorded list was begun without these too.
+    strict_causes: bool,
 }
 
 impl Generator {
     pub fn new(seed: u64) -> Generator {
-        Generator { random: Random::new(seed), long_one_in: 400, long_names: true, both_orders: true }
+        let random = Random::new(seed);
+        Generator { random, long_one_in: 400, long_names: true, both_orders: true, strict_causes: true }
     }
 
-    /// Without the sheets of tens of thousands of bytes, without the long names and the big-endian blocks.
+    /// Without the sheets of tens of thousands of bytes, without the long names, the big-endian blocks and the causes.
     pub fn short(seed: u64) -> Generator {
-        Generator { random: Random::new(seed), long_one_in: 0, long_names: false, both_orders: false }
+        let random = Random::new(seed);
+        Generator { random, long_one_in: 0, long_names: false, both_orders: false, strict_causes: false }
     }
 
     /// `short`, but with the long names.
@@ -115,6 +120,9 @@ impl Generator {
     }
 
     pub fn sheet_of(&mut self, kind: Kind) -> Sheet {
+        if kind == Kind::Field && self.strict_causes && self.random.chance(1, 6) {
+            return self.strict_sheet();
+        }
         let order = self.order(kind);
         if self.long_one_in > 0 && self.random.chance(1, self.long_one_in) {
             return Sheet { kind, bytes: self.long_sheet(kind, order) };
@@ -131,6 +139,11 @@ impl Generator {
         if kind == Kind::Field && self.long_names {
             field::lengthen_names(&mut self.random, &mut lines);
         }
+        self.damaged(kind, lines)
+    }
+
+    /// The sheet of the lines; four of ten are damaged in some way.
+    fn damaged(&mut self, kind: Kind, mut lines: Vec<Line>) -> Sheet {
         let damaged = self.random.below(10);
         match damaged {
             0 => damage::damage_lines(&mut self.random, &mut lines),
@@ -145,6 +158,31 @@ impl Generator {
             _ => {}
         }
         Sheet { kind, bytes }
+    }
+
+    /// A field sheet that is rich in what strict export refuses, and in what looks like it; damaged as others are.
+    pub fn strict_sheet(&mut self) -> Sheet {
+        let lines = self.strict_lines();
+        self.damaged(Kind::Field, lines)
+    }
+
+    /// The same without damage.
+    pub fn strict_field(&mut self) -> Bytes {
+        join_lines(Kind::Field, &self.strict_lines())
+    }
+
+    fn strict_lines(&mut self) -> Vec<Line> {
+        let random = &mut self.random;
+        let mut lines = match random.below(12) {
+            _ if self.long_one_in > 0 && random.chance(1, self.long_one_in) => strict::wide(random),
+            0 => {
+                let levels = random.between(30, 35);
+                limits::levels(random, Kind::Field, levels)
+            }
+            _ => strict::lines(random),
+        };
+        strict::enrich(random, &mut lines);
+        lines
     }
 
     /// The order of a sheet's blocks; a field sheet has none.

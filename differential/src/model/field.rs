@@ -1,9 +1,10 @@
 //! Field sheets: fields and their types, read and written.
 
+use super::metadata::{METADATA_KEY, NAME_KEY};
 use super::text::{put_hex, put_list, put_number, put_text, split};
 use super::wrong::Wrong;
 use super::{Bytes, Model};
-use crate::refusal::{Number, LEVELS, LINE, NOT_UTF8};
+use crate::refusal::{Number, LEVELS, LINE, NOT_UTF8, RESERVED_KEY, WIDE_INDEX};
 
 pub const HEADING: &[u8] = b"kind p q text more name nullable pairs children";
 
@@ -100,7 +101,7 @@ impl DataType {
 }
 
 /// A line's columns, before its subtrees are taken.
-struct FieldLine {
+pub struct FieldLine {
     kind: u8,
     p: u64,
     q: u64,
@@ -110,6 +111,18 @@ struct FieldLine {
     /// None of a bare line.
     own: Option<Own>,
     children: u128,
+}
+
+impl FieldLine {
+    /// What strict export refuses the line for, by itself.
+    pub fn cause(&self) -> Option<Number> {
+        let mut pairs = self.own.iter().flat_map(|own| own.pairs.iter().flatten());
+        match (self.kind, self.p) {
+            _ if pairs.any(|(key, _)| key == NAME_KEY || key == METADATA_KEY) => Some(RESERVED_KEY),
+            (DICTIONARY, 4 | 9) => Some(WIDE_INDEX),
+            _ => None,
+        }
+    }
 }
 
 impl Model {
@@ -128,7 +141,7 @@ impl Model {
         Ok(Field { own, dtype })
     }
 
-    fn field_line(&self, line: &[u8]) -> Result<FieldLine, Number> {
+    pub fn field_line(&self, line: &[u8]) -> Result<FieldLine, Number> {
         let [kind, p, q, text, more, name, nullable, pairs, children] = self.columns(line)?;
         let mut kind = self.number(kind, 42)? as u8;
         if kind == 42 {

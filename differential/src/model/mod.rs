@@ -1,6 +1,6 @@
 //! A second, plain reading of document 01 that does not call the Rust: trees of enums over bytes, every rule written out
-//! once, no thought of speed. It also answers plain form, and of document 02 the page, big-endian metadata and the measures.
-//! Each wrong reading is a switch on it.
+//! once, no thought of speed. It also answers plain form, and of document 02 the page, big-endian metadata, the measures and strict
+//! export. Each wrong reading is a switch on it.
 
 // The functions bear the Rust's names, `to_field` and the like, and all take the reading.
 #![allow(clippy::wrong_self_convention)]
@@ -15,6 +15,7 @@ mod metadata;
 mod page;
 mod plain;
 mod schema;
+mod strict;
 mod text;
 mod wrong;
 
@@ -52,6 +53,7 @@ impl Model {
         }
         match request.call {
             Call::Import => self.import(sheet, request.order()),
+            Call::StrictExport => self.strict_export(sheet, request.order()),
             Call::FromIntegerType => Ok(Answer::Sheet(write_bare(&self.from_integer_type(argument)?))),
             Call::FromPrimitiveType => Ok(Answer::Sheet(write_bare(&self.from_primitive_type(argument)?))),
             _ => self.of_field(request, &self.read_field(sheet)?),
@@ -117,7 +119,10 @@ impl Model {
 
     /// The number, the values or the length, and every byte of the lent buffer.
     pub fn outcome(&self, request: Request, sheet: &[u8], lent: Bytes) -> Outcome {
-        let answered = self.answer(request, sheet);
+        let answered = match self.strict_room(request, sheet, lent.len()) {
+            Some(number) => Err(number),
+            None => self.answer(request, sheet),
+        };
         let len = match &answered {
             Ok(Answer::Sheet(sheet)) => sheet.len(),
             Ok(Answer::Values(first, second)) => {

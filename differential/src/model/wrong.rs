@@ -1,5 +1,6 @@
-//! Deliberately wrong readings of document 01, of #103, of big-endian metadata, of the page and of the measures, each a switch of the plain
-//! reading. A generator is good if its sheets tell each of them from the Rust, or those of what the Rust has not from the right one.
+//! Deliberately wrong readings of document 01, of #103, of big-endian metadata, of the page, of the measures and of strict export, each a
+//! switch of the plain reading. A generator is good if its sheets tell each of them from the Rust, or those of what the Rust has not from
+//! the right one.
 
 macro_rules! wrong_readings {
     ($($variant:ident $what:literal)*) => {
@@ -242,6 +243,48 @@ wrong_readings! {
     MeasureGives16 "a measure is 16, as of a conversion without a buffer"
     MeasureCountsKept "a measure that is refused keeps its counts"
     MeasureOrderIgnored "a measure reads every block little-endian"
+    // Strict export (#106).
+    StrictUntested "strict export is the present export"
+    StrictVisitedOnly "strict export tests the lines that export visits"
+    StrictValuesPass "strict export does not test a dictionary's values, and what is below them"
+    StrictFirstLineOnly "strict export tests the first line alone"
+    StrictFirstLinePasses "strict export tests all lines but the first"
+    StrictLastLine "the last line with a cause decides"
+    StrictChildrenFirst "a line is tested after those below it"
+    StrictKeysFirst "all lines are tested for keys, then for indices"
+    StrictIndicesFirst "all lines are tested for indices, then for keys"
+    StrictIndexFirst "18 before 17 on one line"
+    StrictKeyIs18 "a reserved key is 18"
+    StrictIndexIs17 "an index of 128 bits is 17"
+    StrictBeforeLines "17 and 18 before 2, as lines are read"
+    StrictBeforeLevels "17 and 18 before 3"
+    StrictNoFormatFirst "12 before 17 and 18"
+    StrictIdsFirst "13 before 17 and 18"
+    StrictZeroFirst "14 before 17 and 18"
+    StrictRoomFirst "16 before 17 and 18"
+    StrictNameOnly "ARROW:extension:name alone is reserved"
+    StrictMetadataOnly "ARROW:extension:metadata alone is reserved"
+    StrictKeyPrefix "all keys after ARROW:extension: are refused"
+    StrictKeyLonger "a key that begins with a reserved one is refused"
+    StrictKeyShorter "a key that a reserved one begins with is refused"
+    StrictKeyAnyCase "a reserved key in other letters' case is refused"
+    StrictValueToo "a value that is a reserved key is refused"
+    StrictFirstPair "a line's first pair alone is tested"
+    StrictLastPair "a line's last pair alone is tested"
+    StrictEmptyValuePasses "a reserved key without a value passes"
+    StrictLoneMetadataPasses "ARROW:extension:metadata without a name beside it passes"
+    StrictExtensionKeysPass "a reserved key on an extension's line passes"
+    StrictOverwrittenPasses "a reserved key passes where export writes over it"
+    StrictEqualPairPasses "a reserved key passes where export writes an equal pair over it"
+    StrictInnerDictionaryPasses "an index of 128 bits passes directly in an extension"
+    StrictWideTypeToo "Int128 and UInt128 as types are 18"
+    StrictPlace4Passes "an index Int128 passes"
+    StrictPlace9Passes "an index UInt128 passes"
+    StrictPlace3Too "an index Int64 is 18"
+    StrictPlace8Too "an index UInt64 is 18"
+    StrictOrderIgnored "strict export writes every block little-endian"
+    StrictBigUntested "big-endian strict export does not test"
+    StrictLongIs1 "strict export of more than 65,535 bytes is 1"
 }
 
 impl Wrong {
@@ -268,6 +311,11 @@ impl Wrong {
     /// Whether it is about measures over 65,535 bytes, which only long sheets tell.
     pub fn is_of_long_measures(self) -> bool {
         self.is_within(Wrong::MeasureLengthWraps, Wrong::MeasureLongIs1)
+    }
+
+    /// Whether it is one of strict export.
+    pub fn is_of_strict_export(self) -> bool {
+        self.is_within(Wrong::StrictUntested, Wrong::StrictLongIs1)
     }
 
     /// Whether it stands from the one to the other.

@@ -1,11 +1,12 @@
 //! What stands in the recorded list: cases made by hand, all kinds, the published formats, the limits, the smallest sheets
 //! that tell the wrong readings, and generated sheets until each call has given each of its numbers often enough. What came
-//! later, the page, negative flags, big-endian metadata and the measures, has stages of its own at the end, so that what stands
-//! before them stays as it is.
+//! later, the page, negative flags, big-endian metadata, the measures and strict export, has stages of its own at the end, so that
+//! what stands before them stays as it is.
 
 mod measure;
 mod order;
 mod page;
+mod strict;
 
 use std::collections::HashSet;
 
@@ -59,6 +60,7 @@ pub fn choose(rust: &Rust, seed: u64) -> Result<Vec<Record>, String> {
     chooser.negative_flags()?;
     chooser.orders(seed)?;
     chooser.measures(seed)?;
+    chooser.strict_exports(seed)?;
     chooser.check_numbers()?;
     chooser.check_readings()?;
     Ok(chooser.records)
@@ -72,6 +74,7 @@ fn numbers_of(call: Call) -> &'static [u8] {
         Call::Plain | Call::ToStorage | Call::Page => &[0, 1, 2, 3, 16],
         Call::MeasureImport => &[0, 1, 2, 3, 4, 5, 6, 7, 8, 9, 10, 11],
         Call::MeasureExport => &[0, 1, 2, 3, 12, 13, 14],
+        Call::StrictExport => &[0, 1, 2, 3, 12, 13, 14, 16, 17, 18],
         Call::ToPhysicalType => &[0, 1, 2, 3, 15],
         Call::IsNested | Call::ContainsDictionary => &[0, 1, 2, 3],
         Call::FromIntegerType | Call::FromPrimitiveType => &[0, 15, 16],
@@ -87,16 +90,21 @@ fn sheet_of(kind: Kind, lines: &[&str]) -> Vec<u8> {
     join_lines(kind, &lines.iter().map(columns).collect::<Vec<_>>())
 }
 
-/// The calls that read a field sheet, but the page and the measure.
-fn field_calls() -> impl Iterator<Item = Request> {
-    let reads = |call: &Call| call.input() == Input::FieldSheet && *call != Call::Page && call.measured().is_none();
-    CALLS.iter().map(|(call, _)| *call).filter(reads).map(|call| Request::new(call, 0))
+/// Whether the call has a stage of its own: the page, the measures and strict export.
+fn has_own_stage(request: Request) -> bool {
+    request.call == Call::Page || request.rests_on().is_some()
 }
 
-/// The requests that a sheet of this kind can be put to, but what has stages of its own: the page, big-endian metadata and the measures.
+/// The calls that read a field sheet, but those with stages of their own.
+fn field_calls() -> impl Iterator<Item = Request> {
+    let calls = CALLS.iter().map(|(call, _)| Request::new(*call, 0));
+    calls.filter(|request| request.call.input() == Input::FieldSheet && !has_own_stage(*request))
+}
+
+/// The requests that a sheet of this kind can be put to, but what has stages of its own, big-endian metadata too.
 fn first_requests(random: &mut Random, kind: Kind) -> Vec<Request> {
     let mut requests = requests(random, kind);
-    requests.retain(|request| request.call != Call::Page && !request.is_big() && request.measured().is_none());
+    requests.retain(|request| !has_own_stage(*request) && !request.is_big());
     requests
 }
 
@@ -358,7 +366,7 @@ impl Chooser<'_> {
 
     /// Generated sheets until each call has given each number so often.
     fn generated(&mut self, seed: u64) -> Result<(), String> {
-        let mut counts = [[0usize; 17]; CALLS.len()];
+        let mut counts = [[0usize; NUMBERS]; CALLS.len()];
         let mut generator = Generator::short(seed.wrapping_add(1));
         for _ in 0..TRIED {
             let Sheet { kind, bytes } = generator.sheet();
@@ -439,10 +447,11 @@ fn is_about_length(wrong: Wrong) -> bool {
     matches!(wrong, Wrong::LongSheetTaken | Wrong::LongestSheetRefused)
 }
 
-/// The readings that came after the list was begun. The page, big-endian metadata and the measures have stages of their own; those of
-/// #103 are told by what is there.
+/// The readings that came after the list was begun. The page, big-endian metadata, the measures and strict export have stages of their
+/// own; those of #103 are told by what is there.
 fn came_later(wrong: Wrong) -> bool {
-    wrong.is_of_page() || wrong.is_of_order() || wrong.is_of_fixed_names() || wrong.is_of_measures()
+    let has_stage = wrong.is_of_page() || wrong.is_of_order() || wrong.is_of_measures() || wrong.is_of_strict_export();
+    has_stage || wrong.is_of_fixed_names()
 }
 
 /// A single line whose name fills the sheet.

@@ -27,8 +27,8 @@
 //! # The library that is linked
 //!
 //! The build takes `libjuzontefa.a` from the folder that the variable `JUZONTEFA_LIB` names, or else from `target/staticlib` of the
-//! repository. Of that library it is proved that a call's number is 0 to 16, and of a measure never 16, that a length is within the buffer,
-//! that yes or no is 1 or 0, and that a round trip's answer is 0 to 6. A linker cannot see this, so each is tested here when a call comes back: where it
+//! repository. Of that library it is proved that a call's number is 0 to 16, of a measure never 16 and of strict export 0 to 18, that a
+//! length is within the buffer, that yes or no is 1 or 0, and that a round trip's answer is 0 to 6, of a strict one 0 to 4. A linker cannot see this, so each is tested here when a call comes back: where it
 //! does not hold, another archive stands under the name, and the function panics. It is the one panic of this crate.
 
 #![no_std]
@@ -44,7 +44,7 @@ mod told;
 pub use order::ByteOrder;
 pub use refusal::{Party, Refusal};
 pub use rooms::{export_room, import_room, mapping_room, page_room, plain_form_room, CONVERTED_ROOM, LONGEST_SHEET, STACK};
-use told::{length_of, measure_of, refused, trip_of, yes_or_no};
+use told::{length_of, measure_of, refused, strict_length_of, strict_trip_of, trip_of, yes_or_no};
 
 /// What a conversion would write and visit.
 ///
@@ -104,7 +104,8 @@ pub enum Trip {
     PlainRefused(Refusal),
     /// The export of the plain form is refused.
     AgainRefused(Refusal),
-    /// What was imported is not the plain form. It comes only where a line has a reserved key or a dictionary index of 128 bits.
+    /// What was imported is not the plain form. It comes only where a line has a reserved key or a dictionary index of 128 bits, and
+    /// never from [`strict_round_trip`].
     ImportDiffers,
     /// It is, but the second export is not the first. That it never comes is proved.
     AgainDiffers,
@@ -201,6 +202,36 @@ pub fn export(sheet: &[u8], out: &mut [u8]) -> Result<usize, Refusal> {
 /// ```
 pub fn export_with_order(sheet: &[u8], order: ByteOrder, out: &mut [u8]) -> Result<usize, Refusal> {
     to_sheet_with(raw::juzontefa_export_with_order, sheet, order.big(), out)
+}
+
+/// An export that is sure to return: what it writes imports, under the same order, to the field's plain form, so that only lengths are
+/// left to the caller: a sheet of over 65,535 bytes cannot be handed in.
+///
+/// After the sheet's form and before all else every line is tested, in the sheet's order, also where [`export`] would not visit it. It is
+/// refused with [`Refusal::ReservedKey`] if one of its keys is `ARROW:extension:name` or `ARROW:extension:metadata`, then with
+/// [`Refusal::WideIndex`] if it is a dictionary with an index of 128 bits; the first line with either decides. Where neither is found,
+/// the answer is that of [`export_with_order`]. A buffer of [`export_room`] is long enough.
+///
+/// ```
+/// use juzontefa::{export_room, import_room, import_with_order, strict_export, ByteOrder, Refusal};
+///
+/// const SHEET: &[u8] = b"kind p q text more name nullable pairs children\n27 0 0 ~ ~ 70 1 ~ 1\n14 0 0 ~ ~ 69 0 6d=31 0\n";
+/// let mut schema = [0; export_room(SHEET.len())];
+/// let length = strict_export(SHEET, ByteOrder::BigEndian, &mut schema)?;
+/// let mut field = [0; import_room(export_room(SHEET.len()))];
+/// let back = import_with_order(&schema[..length], ByteOrder::BigEndian, &mut field)?;
+/// assert_eq!(&field[..back], SHEET); // it is its own plain form
+///
+/// // a dictionary with an index of 128 bits, whose format import does not take
+/// let wide = b"kind p q text more name nullable pairs children\n32 9 0 ~ ~ 70 1 ~ 1\n25 0 0 ~ ~ ~ ~ ~ 0\n";
+/// assert_eq!(strict_export(wide, ByteOrder::BigEndian, &mut schema), Err(Refusal::WideIndex));
+/// # Ok::<(), Refusal>(())
+/// ```
+pub fn strict_export(sheet: &[u8], order: ByteOrder, out: &mut [u8]) -> Result<usize, Refusal> {
+    // SAFETY: as in `to_sheet`.
+    let told =
+        unsafe { raw::juzontefa_strict_export(sheet.as_ptr(), sheet.len(), order.big(), out.as_mut_ptr(), out.len()) };
+    strict_length_of(told, out.len())
 }
 
 /// How much [`import_with_order`] would write, under the same order: nothing is written. The length is exact. The lines are those of the
@@ -505,6 +536,46 @@ pub fn round_trip_with_order(
     // SAFETY: as in `round_trip`.
     trip_of(unsafe {
         raw::juzontefa_round_trip_with_order(
+            sheet.as_ptr(),
+            sheet.len(),
+            order.big(),
+            exported.as_mut_ptr(),
+            exported.len(),
+            imported.as_mut_ptr(),
+            imported.len(),
+            plain.as_mut_ptr(),
+            plain.len(),
+            again.as_mut_ptr(),
+            again.len(),
+        )
+    })
+}
+
+/// [`round_trip_with_order`] with both exports strict: a field with a reserved key or a dictionary index of 128 bits is refused at its
+/// export, and nothing ever differs. Once its export is answered, only a sheet that is too long to be handed in or for its buffer is
+/// refused. The buffers and their rooms are the same.
+///
+/// ```
+/// use juzontefa::{strict_round_trip, ByteOrder, Refusal, Trip};
+///
+/// // ARROW:extension:name among the pairs: after `export` it would come back as an extension
+/// let sheet = b"kind p q text more name nullable pairs children\n4 0 0 ~ ~ 70 1 4152524f573a657874656e73696f6e3a6e616d65=78 0\n";
+/// let (mut exported, mut imported, mut plain, mut again) = ([7; 128], [7; 128], [7; 128], [7; 128]);
+/// let trip = strict_round_trip(sheet, ByteOrder::LittleEndian, &mut exported, &mut imported, &mut plain, &mut again);
+/// assert_eq!(trip, Trip::ExportRefused(Refusal::ReservedKey));
+/// assert_eq!([exported, imported, plain, again], [[0; 128]; 4]);
+/// ```
+pub fn strict_round_trip(
+    sheet: &[u8],
+    order: ByteOrder,
+    exported: &mut [u8],
+    imported: &mut [u8],
+    plain: &mut [u8],
+    again: &mut [u8],
+) -> Trip {
+    // SAFETY: as in `round_trip`.
+    strict_trip_of(unsafe {
+        raw::juzontefa_strict_round_trip(
             sheet.as_ptr(),
             sheet.len(),
             order.big(),

@@ -70,6 +70,7 @@ extern "C" {
         out: *mut u8,
         out_len: usize,
     ) -> Answer;
+    pub fn juzontefa_strict_export(sheet: *const u8, sheet_len: usize, big: u64, out: *mut u8, out_len: usize) -> Answer;
     pub fn juzontefa_measure_import(sheet: *const u8, sheet_len: usize, big: u64) -> Measure;
     pub fn juzontefa_measure_export(sheet: *const u8, sheet_len: usize, big: u64) -> Measure;
     pub fn juzontefa_plain_form(sheet: *const u8, sheet_len: usize, out: *mut u8, out_len: usize) -> Answer;
@@ -97,6 +98,19 @@ extern "C" {
         again_len: usize,
     ) -> Trip;
     pub fn juzontefa_round_trip_with_order(
+        sheet: *const u8,
+        sheet_len: usize,
+        big: u64,
+        exported: *mut u8,
+        exported_len: usize,
+        imported: *mut u8,
+        imported_len: usize,
+        plain: *mut u8,
+        plain_len: usize,
+        again: *mut u8,
+        again_len: usize,
+    ) -> Trip;
+    pub fn juzontefa_strict_round_trip(
         sheet: *const u8,
         sheet_len: usize,
         big: u64,

@@ -45,8 +45,12 @@ pub enum Refusal {
     ZeroByte = 14,
     /// The mapping is undefined there, there is no such child (`inner_dtype` of other kinds too), or no such place to convert.
     UndefinedMapping = 15,
-    /// The sheet that is the answer is longer than the buffer.
+    /// The sheet that is the answer is longer than the buffer. It is tested last, though it is not the greatest number.
     NoRoom = 16,
+    /// A reserved key, `ARROW:extension:name` or `ARROW:extension:metadata`, stands among the pairs of a line. Of strict export alone.
+    ReservedKey = 17,
+    /// A dictionary has an index of 128 bits. Of strict export alone.
+    WideIndex = 18,
 }
 
 /// Whose a refusal is: who can do something about it.
@@ -63,7 +67,7 @@ pub enum Party {
     SheetMaker,
     /// Who made the schema that the sheet tells: 4 to 11.
     SchemaProducer,
-    /// Whose field it is: 12 to 15.
+    /// Whose field it is: 12 to 15, 17 and 18.
     FieldOwner,
     /// Who lent the buffer: 16.
     Caller,
@@ -75,10 +79,10 @@ impl Refusal {
     /// ```
     /// use juzontefa::Refusal;
     ///
-    /// assert_eq!(Refusal::ALL.len(), 16);
+    /// assert_eq!(Refusal::ALL.len(), 18);
     /// assert!(Refusal::ALL.iter().all(|refusal| Refusal::from_number(refusal.number()) == Some(*refusal)));
     /// ```
-    pub const ALL: [Refusal; 16] = [
+    pub const ALL: [Refusal; 18] = [
         Refusal::NotSheet,
         Refusal::BadLines,
         Refusal::TooDeep,
@@ -95,9 +99,11 @@ impl Refusal {
         Refusal::ZeroByte,
         Refusal::UndefinedMapping,
         Refusal::NoRoom,
+        Refusal::ReservedKey,
+        Refusal::WideIndex,
     ];
 
-    /// Its number, 1 to 16, as the library's calls tell it.
+    /// Its number, 1 to 18, as the library's calls tell it.
     ///
     /// ```
     /// assert_eq!(juzontefa::Refusal::UndefinedMapping.number(), 15);
@@ -106,14 +112,14 @@ impl Refusal {
         self as u64
     }
 
-    /// The refusal of a number; none for 0, which is no refusal, and for numbers past 16.
+    /// The refusal of a number; none for 0, which is no refusal, and for numbers past 18.
     ///
     /// ```
     /// use juzontefa::Refusal;
     ///
     /// assert_eq!(Refusal::from_number(16), Some(Refusal::NoRoom));
     /// assert_eq!(Refusal::from_number(0), None);
-    /// assert_eq!(Refusal::from_number(17), None);
+    /// assert_eq!(Refusal::from_number(19), None);
     /// ```
     pub const fn from_number(number: u64) -> Option<Refusal> {
         Some(match number {
@@ -133,6 +139,8 @@ impl Refusal {
             14 => Refusal::ZeroByte,
             15 => Refusal::UndefinedMapping,
             16 => Refusal::NoRoom,
+            17 => Refusal::ReservedKey,
+            18 => Refusal::WideIndex,
             _ => return None,
         })
     }
@@ -164,6 +172,10 @@ impl Refusal {
                 "the mapping is undefined there, there is no such child (`inner_dtype` of other kinds too), or no such place to convert"
             }
             Refusal::NoRoom => "the sheet is longer than the buffer",
+            Refusal::ReservedKey => {
+                "a reserved key, ARROW:extension:name or ARROW:extension:metadata, stands among the pairs of a line"
+            }
+            Refusal::WideIndex => "a dictionary has an index of 128 bits",
         }
     }
 
@@ -178,8 +190,8 @@ impl Refusal {
         match self.number() {
             1..=3 => Party::SheetMaker,
             4..=11 => Party::SchemaProducer,
-            12..=15 => Party::FieldOwner,
-            _ => Party::Caller,
+            16 => Party::Caller,
+            _ => Party::FieldOwner,
         }
     }
 }

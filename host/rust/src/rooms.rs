@@ -34,7 +34,8 @@ pub const fn import_room(sheet_len: usize) -> usize {
     part(sheet_len, 19, 13)
 }
 
-/// A buffer that is long enough for the export of a field sheet of so many bytes. What is longer than 65,535 bytes import refuses.
+/// A buffer that is long enough for the export of a field sheet of so many bytes, strict or not. What is longer than 65,535 bytes import
+/// refuses.
 ///
 /// ```
 /// assert_eq!(juzontefa::export_room(100), 481);

@@ -4,13 +4,14 @@ use crate::raw;
 use crate::{Measure, Refusal, Trip};
 
 /// The archive told what the library cannot tell, so it is another one. There is no answer that a caller could be given, and no
-/// refusal of the sixteen says it; a panic keeps it from being taken for one.
+/// refusal of the eighteen says it; a panic keeps it from being taken for one.
 #[cold]
 fn another_archive() -> ! {
     panic!("the archive linked as libjuzontefa.a is not the library of this crate")
 }
 
-pub fn refused(number: u64) -> Result<(), Refusal> {
+/// A number of strict export, which has two of its own.
+fn strictly_refused(number: u64) -> Result<(), Refusal> {
     match (number, Refusal::from_number(number)) {
         (0, _) => Ok(()),
         (_, Some(refusal)) => Err(refusal),
@@ -18,9 +19,26 @@ pub fn refused(number: u64) -> Result<(), Refusal> {
     }
 }
 
+/// A number of any other call.
+pub fn refused(number: u64) -> Result<(), Refusal> {
+    match strictly_refused(number) {
+        Err(Refusal::ReservedKey | Refusal::WideIndex) => another_archive(),
+        refused => refused,
+    }
+}
+
 pub fn length_of(told: raw::Answer, room: usize) -> Result<usize, Refusal> {
     refused(told.number)?;
-    match usize::try_from(told.length) {
+    length_within(told.length, room)
+}
+
+pub fn strict_length_of(told: raw::Answer, room: usize) -> Result<usize, Refusal> {
+    strictly_refused(told.number)?;
+    length_within(told.length, room)
+}
+
+fn length_within(length: u64, room: usize) -> Result<usize, Refusal> {
+    match usize::try_from(length) {
         Ok(length) if length <= room => Ok(length),
         _ => another_archive(),
     }
@@ -48,7 +66,24 @@ pub fn yes_or_no(told: raw::YesNo) -> Result<bool, Refusal> {
 }
 
 pub fn trip_of(told: raw::Trip) -> Trip {
-    match (told.answer, refused(told.number)) {
+    trip(told.answer, refused(told.number))
+}
+
+/// Nothing differs in a strict one, and its two numbers are its exports'; the second export, of a plain form, does not give them.
+pub fn strict_trip_of(told: raw::Trip) -> Trip {
+    match trip(told.answer, strictly_refused(told.number)) {
+        Trip::ImportDiffers | Trip::AgainDiffers => another_archive(),
+        Trip::ImportRefused(refusal) | Trip::PlainRefused(refusal) | Trip::AgainRefused(refusal)
+            if refusal > Refusal::NoRoom =>
+        {
+            another_archive()
+        }
+        trip => trip,
+    }
+}
+
+fn trip(answer: u64, refused: Result<(), Refusal>) -> Trip {
+    match (answer, refused) {
         (0, Ok(())) => Trip::AllSame,
         (1, Err(refusal)) => Trip::ExportRefused(refusal),
         (2, Err(refusal)) => Trip::ImportRefused(refusal),
@@ -74,10 +109,12 @@ mod tests {
 
     #[test]
     fn numbers() {
-        assert_eq!(refused(0), Ok(()));
+        assert_eq!((refused(0), strictly_refused(0)), (Ok(()), Ok(())));
         assert!((1..=16).all(|number| refused(number).is_err_and(|refusal| refusal.number() == number)));
-        for number in [17, 255, 256, 257, 1 << 32, u64::MAX] {
+        assert!((1..=18).all(|number| strictly_refused(number).is_err_and(|refusal| refusal.number() == number)));
+        for number in [17, 18, 19, 255, 256, 257, 1 << 32, u64::MAX] {
             assert!(is_another(|| refused(number)), "{number}");
+            assert!(number <= 18 || is_another(|| strictly_refused(number)), "{number}");
         }
     }
 
@@ -86,6 +123,10 @@ mod tests {
         let told = |number, length| raw::Answer { number, length };
         assert_eq!(length_of(told(0, 100), 100), Ok(100));
         assert_eq!(length_of(told(16, 0), 0), Err(Refusal::NoRoom));
+        assert_eq!(strict_length_of(told(0, 100), 100), Ok(100));
+        assert_eq!(strict_length_of(told(17, 0), 0), Err(Refusal::ReservedKey));
+        assert!(is_another(|| length_of(told(17, 0), 0)));
+        assert!(is_another(|| strict_length_of(told(0, 101), 100)));
         assert!(is_another(|| length_of(told(0, 101), 100)));
         assert!(is_another(|| length_of(told(0, u64::MAX), 100)));
     }
@@ -119,5 +160,18 @@ mod tests {
         let [export, import, plain, again] = refused.map(|trip| Some(trip(Refusal::ZeroByte)));
         let with = [0, 1, 2, 3, 4, 5, 6, 7].map(|answer| told(answer, 14));
         assert_eq!(with, [None, export, import, plain, again, None, None, None]);
+    }
+
+    /// The numbers of strict export come from the first step alone.
+    #[test]
+    fn strict_trips() {
+        let told = |answer, number| catch_unwind(|| strict_trip_of(raw::Trip { answer, number })).ok();
+        let without = [0, 1, 2, 3, 4, 5, 6, 7].map(|answer| told(answer, 0));
+        assert_eq!(without, [Some(Trip::AllSame), None, None, None, None, None, None, None]);
+        let with = [0, 1, 2, 3, 4, 5].map(|answer| told(answer, 18));
+        assert_eq!(with, [None, Some(Trip::ExportRefused(Refusal::WideIndex)), None, None, None, None]);
+        assert_eq!(told(2, 16), Some(Trip::ImportRefused(Refusal::NoRoom)));
+        let present = [17, 18].map(|number| catch_unwind(|| trip_of(raw::Trip { answer: 1, number })).ok());
+        assert_eq!(present, [None, None]);
     }
 }

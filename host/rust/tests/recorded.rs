@@ -6,7 +6,7 @@ use juzontefa::*;
 use list::{records, Record};
 
 /// How many records there are.
-const RECORDS: usize = 4826;
+const RECORDS: usize = 5559;
 /// What a lent buffer holds before a call.
 const FILLER: u8 = 0xa5;
 
@@ -33,7 +33,7 @@ fn refused(refusal: Refusal) -> Numbers {
     [refusal.number(), 0, 0]
 }
 
-/// The order that a record of import, export or a measure names.
+/// The order that a record of import, an export or a measure names.
 fn order_of(argument: u64) -> ByteOrder {
     if argument == 0 {
         ByteOrder::LittleEndian
@@ -62,6 +62,7 @@ fn ask(record: &Record, out: &mut [u8]) -> Numbers {
         13 => of_sheet(page(sheet, out)),
         14 => of_measure(measure_import(sheet, order_of(argument))),
         15 => of_measure(measure_export(sheet, order_of(argument))),
+        16 => of_sheet(strict_export(sheet, order_of(argument), out)),
         code => panic!("no call has the code {code}"),
     }
 }
@@ -71,7 +72,7 @@ fn ample(record: &Record) -> Option<usize> {
     let n = record.input.len();
     match record.call {
         0 => Some(import_room(n)),
-        1 => Some(export_room(n)),
+        1 | 16 => Some(export_room(n)),
         2 => Some(plain_form_room(n)),
         4..=8 => Some(mapping_room(n)),
         11 | 12 => Some(CONVERTED_ROOM),
@@ -144,6 +145,33 @@ fn measures_are_of_the_conversions() {
     assert!(answered > 0);
 }
 
+/// Every recorded sheet, put to both exports under both orders: strict export is the present one, or its own refusal after the form.
+#[test]
+fn strict_export_is_export_or_refused() {
+    let mut sheets: Vec<Vec<u8>> = records().into_iter().map(|record| record.input).collect();
+    sheets.sort();
+    sheets.dedup();
+    let (mut answered, mut refused) = (0, 0);
+    for (sheet, order) in sheets.iter().flat_map(|sheet| [0, 1].map(|order| (sheet, order_of(order)))) {
+        let (mut out, mut strict) = (vec![FILLER; export_room(sheet.len())], vec![FILLER; export_room(sheet.len())]);
+        let present = export_with_order(sheet, order, &mut out);
+        match strict_export(sheet, order, &mut strict) {
+            Err(Refusal::ReservedKey | Refusal::WideIndex) => {
+                let form = [Refusal::NotSheet, Refusal::BadLines, Refusal::TooDeep];
+                assert!(present.map_or_else(|refusal| !form.contains(&refusal), |_| true), "{}", sheet.escape_ascii());
+                assert!(strict.iter().all(|byte| *byte == 0));
+                refused += 1;
+            }
+            answer => {
+                assert_eq!((answer, strict == out), (present, true), "{}", sheet.escape_ascii());
+                answered += answer.is_ok() as usize;
+            }
+        }
+    }
+    println!("strict export: {answered} answered, {refused} refused by itself");
+    assert!(answered > 0 && refused > 0);
+}
+
 /// With the room that the crate says is enough no call is refused for want of it; a record that says 16 gets an answer.
 #[test]
 fn rooms_are_enough() {
@@ -162,10 +190,13 @@ fn rooms_are_enough() {
     assert!(answered > 0);
 }
 
+/// What exports in a round trip.
+type Export = fn(&[u8], ByteOrder, &mut [u8]) -> Result<usize, Refusal>;
+
 /// The round trip by the single calls.
-fn steps(sheet: &[u8], order: ByteOrder, buffers: &mut [Vec<u8>; 4]) -> Trip {
+fn steps(sheet: &[u8], export: Export, order: ByteOrder, buffers: &mut [Vec<u8>; 4]) -> Trip {
     let [exported, imported, plain, again] = buffers;
-    let first = match export_with_order(sheet, order, exported) {
+    let first = match export(sheet, order, exported) {
         Ok(length) => &exported[..length],
         Err(refusal) => return Trip::ExportRefused(refusal),
     };
@@ -177,7 +208,7 @@ fn steps(sheet: &[u8], order: ByteOrder, buffers: &mut [Vec<u8>; 4]) -> Trip {
         Ok(length) => &plain[..length],
         Err(refusal) => return Trip::PlainRefused(refusal),
     };
-    let second = match export_with_order(form, order, again) {
+    let second = match export(form, order, again) {
         Ok(length) => &again[..length],
         Err(refusal) => return Trip::AgainRefused(refusal),
     };
@@ -188,22 +219,36 @@ fn steps(sheet: &[u8], order: ByteOrder, buffers: &mut [Vec<u8>; 4]) -> Trip {
     }
 }
 
-/// The trip by the call; without an order where there is none.
-fn at_once(sheet: &[u8], order: Option<ByteOrder>, buffers: &mut [Vec<u8>; 4]) -> Trip {
+/// A round trip: without an order, with one, or with strict exports.
+#[derive(Clone, Copy)]
+enum Way {
+    Little,
+    With(ByteOrder),
+    Strict(ByteOrder),
+}
+
+/// The trip by the call.
+fn at_once(sheet: &[u8], way: Way, buffers: &mut [Vec<u8>; 4]) -> Trip {
     let [exported, imported, plain, again] = buffers;
-    match order {
-        Some(order) => round_trip_with_order(sheet, order, exported, imported, plain, again),
-        None => round_trip(sheet, exported, imported, plain, again),
+    match way {
+        Way::Little => round_trip(sheet, exported, imported, plain, again),
+        Way::With(order) => round_trip_with_order(sheet, order, exported, imported, plain, again),
+        Way::Strict(order) => strict_round_trip(sheet, order, exported, imported, plain, again),
     }
 }
 
-/// The trip is its steps in this order, little-endian where there is none, and so are its buffers, or they are zeros.
-fn trip_is_its_steps(sheet: &[u8], order: Option<ByteOrder>) -> Trip {
+/// The trip is its steps, and so are its buffers, or they are zeros.
+fn trip_is_its_steps(sheet: &[u8], way: Way) -> Trip {
     let n = sheet.len();
     let rooms = [export_room(n), import_room(export_room(n)), plain_form_room(n), export_room(n)];
     let (mut held, mut expected) = (rooms.map(|room| vec![FILLER; room]), rooms.map(|room| vec![FILLER; room]));
-    let trip = at_once(sheet, order, &mut held);
-    assert_eq!(trip, steps(sheet, order.unwrap_or(ByteOrder::LittleEndian), &mut expected));
+    let trip = at_once(sheet, way, &mut held);
+    let (export, order): (Export, ByteOrder) = match way {
+        Way::Little => (export_with_order, ByteOrder::LittleEndian),
+        Way::With(order) => (export_with_order, order),
+        Way::Strict(order) => (strict_export, order),
+    };
+    assert_eq!(trip, steps(sheet, export, order, &mut expected));
     if !matches!(trip, Trip::AllSame | Trip::ImportDiffers | Trip::AgainDiffers) {
         expected = rooms.map(|room| vec![0; room]);
     }
@@ -213,15 +258,20 @@ fn trip_is_its_steps(sheet: &[u8], order: Option<ByteOrder>) -> Trip {
 
 #[test]
 fn trips_are_their_steps() {
-    let reads_field = |record: &Record| matches!(record.call, 1..=10 | 13 | 15);
+    let reads_field = |record: &Record| matches!(record.call, 1..=10 | 13 | 15 | 16);
     let mut sheets: Vec<Vec<u8>> = records().into_iter().filter(reads_field).map(|record| record.input).collect();
     sheets.sort();
     sheets.dedup();
     let (mut same, mut differ, mut refused) = (0, 0, 0);
+    let orders = [ByteOrder::LittleEndian, ByteOrder::BigEndian];
     for sheet in &sheets {
-        let orders = [None, Some(ByteOrder::LittleEndian), Some(ByteOrder::BigEndian)];
-        let trips = orders.map(|order| trip_is_its_steps(sheet, order));
+        let ways = [Way::Little, Way::With(orders[0]), Way::With(orders[1])];
+        let trips = ways.map(|way| trip_is_its_steps(sheet, way));
         assert_eq!(trips, [trips[0]; 3]);
+        let strict = orders.map(|order| trip_is_its_steps(sheet, Way::Strict(order)));
+        let own =
+            Trip::ExportRefused(Refusal::ReservedKey) == strict[0] || Trip::ExportRefused(Refusal::WideIndex) == strict[0];
+        assert_eq!(strict, [if own { strict[0] } else { trips[0] }; 2]);
         match trips[0] {
             Trip::AllSame => same += 1,
             Trip::ImportDiffers | Trip::AgainDiffers => differ += 1,

@@ -235,7 +235,7 @@ impl Chooser<'_> {
 
     /// Generated sheets until each number came so often under each order.
     fn measure_generated(&mut self, seed: u64) -> Result<(), String> {
-        let mut counts = [[[0usize; 17]; ORDERS.len()]; CALLS.len()];
+        let mut counts = [[[0usize; NUMBERS]; ORDERS.len()]; CALLS.len()];
         let mut generator = Generator::short_with_both_orders(seed);
         for _ in 0..TRIED {
             let sheet = generator.sheet();

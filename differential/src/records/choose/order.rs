@@ -313,7 +313,7 @@ impl Chooser<'_> {
 
     /// Generated sheets until each number came so often; those that are answered are such as the other order answers otherwise.
     fn order_generated(&mut self, seed: u64) -> Result<(), String> {
-        let mut counts = [[0usize; 17]; CALLS.len()];
+        let mut counts = [[0usize; NUMBERS]; CALLS.len()];
         let mut generator = Generator::short_with_both_orders(seed);
         for _ in 0..TRIED {
             let sheet = generator.sheet();

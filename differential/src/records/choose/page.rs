@@ -181,7 +181,7 @@ impl Chooser<'_> {
 
     /// Generated sheets until each number came so often.
     fn page_generated(&mut self, seed: u64) -> Result<(), String> {
-        let mut counts = [0usize; 17];
+        let mut counts = [0usize; NUMBERS];
         let mut generator = Generator::short_with_long_names(seed);
         for _ in 0..TRIED {
             let sheet = generator.sheet_of(Kind::Field).bytes;
