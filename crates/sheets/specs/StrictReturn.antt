@@ -7,7 +7,8 @@ use mathlib.Core.Logic.{_↔_}
 use mathlib.Core.Bool.{Bool, true, false}
 use mathlib.Core.List.{List, [], _∷_, _++_, map}
 use mathlib.Core.Option.{some}
-use Rattle.sheets.specs.Refusal.{Refusal, reservedKey, wideIndex, numberOf, oneOf}
+use Prim.Native.Nat.{ℕ}
+use Rattle.sheets.specs.Refusal.{Refusal, notSheet, badLines, tooDeep, noFormat, noUnionIds, zeroByte, reservedKey, wideIndex, numberOf, noRoom, oneOf}
 use Rattle.sheets.specs.Bytes.{Bytes}
 use Rattle.sheets.specs.Rule.{Rule, _and_, each, passes, Meets}
 use Rattle.sheets.specs.Answer.{refused, given}
@@ -73,16 +74,20 @@ pub record StrictReturn (big : Bool) : Type 0 where
 
 -- ── `round_trip` with the strict export
 
+-- the number is 16, or that of one of these reasons
+abbrev pub roomOr : List Refusal → ℕ → Bool
+roomOr rs n = oneOf (noRoom ∷ map numberOf rs) n
+
 -- What it can answer to any sheet, with any buffers: all is the same, or a step was refused. The export is refused with the numbers of the sheet's maker, 17, 18,
 -- those of the field's owner, or 16; import with 1, where the export is too long to be handed in, or 16, so never with 9; the plain form with 16; the second
 -- export with 1, where the plain form is too long to be handed in, or 16. Import never gives another field than the plain form, and the second export never
 -- differs from the first.
 abbrev pub StrictAnswer : RoundTrip → Type 0
 StrictAnswer allSame = Unit {0}
-StrictAnswer (exportRefused n) = oneOf (16 ∷ 1 ∷ 2 ∷ 3 ∷ 17 ∷ 18 ∷ 12 ∷ 13 ∷ 14 ∷ []) n ≡ true
-StrictAnswer (importRefused n) = oneOf (16 ∷ 1 ∷ []) n ≡ true
-StrictAnswer (plainRefused n) = oneOf (16 ∷ []) n ≡ true
-StrictAnswer (againRefused n) = oneOf (16 ∷ 1 ∷ []) n ≡ true
+StrictAnswer (exportRefused n) = roomOr (notSheet ∷ badLines ∷ tooDeep ∷ reservedKey ∷ wideIndex ∷ noFormat ∷ noUnionIds ∷ zeroByte ∷ []) n ≡ true
+StrictAnswer (importRefused n) = roomOr (notSheet ∷ []) n ≡ true
+StrictAnswer (plainRefused n) = roomOr [] n ≡ true
+StrictAnswer (againRefused n) = roomOr (notSheet ∷ []) n ≡ true
 StrictAnswer importDiffers = ⊥
 StrictAnswer againDiffers = ⊥
 

@@ -533,22 +533,7 @@ pub fn round_trip_with_order(
     plain: &mut [u8],
     again: &mut [u8],
 ) -> Trip {
-    // SAFETY: as in `round_trip`.
-    trip_of(unsafe {
-        raw::juzontefa_round_trip_with_order(
-            sheet.as_ptr(),
-            sheet.len(),
-            order.big(),
-            exported.as_mut_ptr(),
-            exported.len(),
-            imported.as_mut_ptr(),
-            imported.len(),
-            plain.as_mut_ptr(),
-            plain.len(),
-            again.as_mut_ptr(),
-            again.len(),
-        )
-    })
+    trip_of(ordered_trip(raw::juzontefa_round_trip_with_order, sheet, order, [exported, imported, plain, again]))
 }
 
 /// [`round_trip_with_order`] with both exports strict: a field with a reserved key or a dictionary index of 128 bits is refused at its
@@ -573,9 +558,15 @@ pub fn strict_round_trip(
     plain: &mut [u8],
     again: &mut [u8],
 ) -> Trip {
+    strict_trip_of(ordered_trip(raw::juzontefa_strict_round_trip, sheet, order, [exported, imported, plain, again]))
+}
+
+/// One of the two calls that take a field out and back under an order.
+fn ordered_trip(call: raw::OrderedTrip, sheet: &[u8], order: ByteOrder, lent: [&mut [u8]; 4]) -> raw::Trip {
+    let [exported, imported, plain, again] = lent;
     // SAFETY: as in `round_trip`.
-    strict_trip_of(unsafe {
-        raw::juzontefa_strict_round_trip(
+    unsafe {
+        call(
             sheet.as_ptr(),
             sheet.len(),
             order.big(),
@@ -588,5 +579,5 @@ pub fn strict_round_trip(
             again.as_mut_ptr(),
             again.len(),
         )
-    })
+    }
 }

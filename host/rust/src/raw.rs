@@ -53,6 +53,10 @@ pub type ToSheetWith = unsafe extern "C" fn(*const u8, usize, u64, *mut u8, usiz
 /// A sheet and a byte order, and nothing to write into.
 pub type ToMeasure = unsafe extern "C" fn(*const u8, usize, u64) -> Measure;
 
+/// The calls that take a field out and back under an order: the sheet, the order, then the four buffers.
+pub type OrderedTrip =
+    unsafe extern "C" fn(*const u8, usize, u64, *mut u8, usize, *mut u8, usize, *mut u8, usize, *mut u8, usize) -> Trip;
+
 extern "C" {
     pub fn juzontefa_import(sheet: *const u8, sheet_len: usize, out: *mut u8, out_len: usize) -> Answer;
     pub fn juzontefa_export(sheet: *const u8, sheet_len: usize, out: *mut u8, out_len: usize) -> Answer;
