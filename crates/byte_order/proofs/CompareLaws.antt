@@ -2,13 +2,13 @@
 -- big-endian order, four at a time. Assumes nothing.
 use mathlib.Core.Path.{_≡_, refl, sym, ap, _∙_}
 use mathlib.Core.Bool.{Bool, true, false}
-use mathlib.Core.List.{_∷_}
+use mathlib.Core.List.{[], _∷_}
 use mathlib.Core.Logic.{_⊎_, inl, inr, ⊎-elim}
-use Prim.Native.Nat.{ℕ, suc, _+_, _*_, _≤_, _<_}
+use Prim.Native.Nat.{ℕ, zero, suc, _+_, _*_, _≤_, _<_}
 use native.Mathlib.Omega.{arith}
 use native.Mathlib.Numerals.{add-one}
 use lib.Dec.{ltb}
-use lib.ListN.{length, getD, drop, drop-of-length-le}
+use lib.ListN.{length, getD, take, drop, drop-of-length-le}
 use lib.Seq.{drop-cons}
 use borrow.Author.Tests.{lt-ltb, le-ltb, ltb-true, ltb-false, eq-eqb, ne-eqb}
 use Rattle.sheets.specs.Bytes.{Bytes, same}
@@ -51,6 +51,15 @@ cons-greater x y a b h = rw (le-ltb x y (omega arith), ne-eqb x y (λ e. omega a
 cons-same : (x y : ℕ) (a b : Bytes) → x ≡ y → ordering (x ∷ a) (y ∷ b) ≡ ordering a b
 unfolding ordering
 cons-same x y a b e = rw (le-ltb x y (omega arith), eq-eqb x y e)
+
+-- ── after what both begin with
+
+pub after-same : (n : ℕ) (a b : Bytes) → take n a ≡ take n b → ordering a b ≡ ordering (drop n a) (drop n b)
+after-same zero a b e = refl
+after-same (suc n) [] [] e = refl
+after-same (suc n) [] (y ∷ b) e = absurd (omega (arith, ap length e))
+after-same (suc n) (x ∷ a) [] e = absurd (omega (arith, ap length e))
+after-same (suc n) (x ∷ a) (y ∷ b) e = cons-same x y a b (ap (λ (l : Bytes). getD l 0 0) e) ∙ after-same n a b (ap (drop 1) e)
 
 -- ── at a place, byte by byte
 

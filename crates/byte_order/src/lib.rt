@@ -13,7 +13,7 @@ pub enum Ordering {
 }
 
 // Four bytes as one number: two such numbers stand in the order of their bytes, so that a comparison takes four bytes at a time.
-fn word_at(s: &[u8], i: usize) -> u32
+pub fn word_at(s: &[u8], i: usize) -> u32
     requires { ⌜ i + 4 ≤ length (now s) ⌝ }
     ensures { λ r. ⌜ Word (now (s .entry)) i r ⌝ }
 {

@@ -15,7 +15,7 @@ use Rattle.sheets.proofs.FormatLaws.{found-some}
 use Rattle.decimal.specs.Column.{columnBelow, signedColumn}
 use Rattle.decimal.proofs.ColumnLaws.{column-within, column-given, signed-within, signed-given}
 use Rattle.columns.specs.Columns.{part, isStop, columnEnd, ColumnAt}
-use Rattle.columns.specs.NumberColumns.{numberIn, signedIn, HasSigned}
+use Rattle.columns.specs.NumberColumns.{numberIn, signedIn}
 use Rattle.columns.proofs.ColumnLaws.{column-there, column-same}
 
 module _ (stop : ℕ) (s : Bytes) (a : ℕ) where
@@ -92,9 +92,3 @@ module _ (s : Bytes) (a stop : ℕ) (is : isStop stop ≡ true) where
       let n = signed-given (2 ^ 63) (part s a (p .1)) (p .0) (v .1) in
       (v .0, n .0, n .1)
   finds-signed (refused r) h = λ e z c reads small. not-given (h ∙ column-signed is c z reads small)
-
--- ── a number that is known to stand
-
-module _ (s : Bytes) (a b : ℕ) (h : HasSigned s a b) where
-  pub signed-known : signedColumn (2 ^ 63) (part s a b) ≡ given (h .0)
-  signed-known = signed-within (2 ^ 63) (part s a b) (h .0) (h .1) (h .2)

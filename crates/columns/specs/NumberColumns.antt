@@ -1,14 +1,12 @@
 -- The numbers in columns: what the column from a place on says, and where it ends. Assumes nothing.
 use mathlib.Core.Path.{_≡_}
 use mathlib.Core.Bool.{true}
-use Prim.Native.Nat.{ℕ, _^_, _≤_, _<_}
+use Prim.Native.Nat.{ℕ, _^_, _<_}
 use lib.IntN.{ℤ}
-use lib.Signed.{mag}
-use lib.ListN.{length}
 use Rattle.sheets.specs.Refusal.{badLines}
 use Rattle.sheets.specs.Bytes.{Bytes}
 use Rattle.sheets.specs.Answer.{Answer, refused, given, _>>=_, found}
-use Rattle.sheets.specs.Number.{readNumber, readSigned}
+use Rattle.sheets.specs.Number.{readNumber}
 use Rattle.decimal.specs.Column.{columnBelow, signedColumn}
 use Rattle.columns.specs.Columns.{part, isStop, stopFrom, columnEnd, ColumnAt}
 use Rattle.columns.specs.declared.number.NumberColumn.{NumberColumn}
@@ -50,7 +48,3 @@ HasNumber s a = (e : ℕ) × (stop : ℕ) × ColumnAt s a e stop × (isStop stop
 -- this is the number, and there its column ends
 abbrev pub NumberStands : Bytes → ℕ → NumberTo → Type 0
 NumberStands s a r = (r .end ≡ stopFrom s a) × (readNumber (part s a (r .end)) ≡ given (r .value))
-
--- the bytes from a to b are a signed number of 64 bits
-abbrev pub HasSigned : Bytes → ℕ → ℕ → Type 0
-HasSigned s a b = (z : ℤ) × (readSigned (part s a b) ≡ given z) × (mag z < 2 ^ 63) × (a ≤ b) × (b ≤ length s)

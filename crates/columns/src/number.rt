@@ -3,10 +3,9 @@ ghost use mathlib.Core.Path.{_≡_};
 ghost use mathlib.Core.Bool.{true};
 ghost use lib.ListN.{drop};
 ghost use Rattle.sheets.specs.Bytes.{space};
-ghost use Rattle.sheets.specs.Answer.{given};
-ghost use Rattle.sheets.specs.Number.{isDigit, readNumber, readSigned};
-ghost use Rattle.columns.specs.Columns.{isStop, part, oneOf};
-ghost use Rattle.columns.specs.NumberColumns.{numberIn, signedIn, numberAnswer, signedColumnAnswer, HasNumber, NumberStands, HasSigned};
+ghost use Rattle.sheets.specs.Number.{isDigit};
+ghost use Rattle.columns.specs.Columns.{isStop, oneOf};
+ghost use Rattle.columns.specs.NumberColumns.{numberIn, signedIn, numberAnswer, signedColumnAnswer, HasNumber, NumberStands};
 use crate::Place;
 use decimal::Signed64;
 use decimal::Unsigned64;
@@ -97,15 +96,4 @@ pub fn number_at(s: &[u8], at: usize) -> NumberTo
         i += 1;
     }
     NumberTo { value: v, end: i }
-}
-
-// The signed number that stands from place at up to end.
-pub fn signed_at(s: &[u8], at: usize, end: usize) -> i64
-    requires { ⌜ HasSigned (now s) at end ⌝ }
-    ensures { λ r. ⌜ readSigned (part (now (s .entry)) at end) ≡ given r ⌝ }
-{
-    let Signed64::Value(z) = decimal::read_i64(&s[at..end]) else {
-        return 0;
-    };
-    z
 }

@@ -2,11 +2,11 @@
 -- Assumes nothing.
 use mathlib.Core.Path.{_≡_, refl, sym, ap, ap₂, _∙_}
 use mathlib.Core.Bool.{Bool, true, false}
-use mathlib.Core.List.{[], _∷_}
+use mathlib.Core.List.{[], _∷_, _++_}
 use Prim.Native.Nat.{ℕ, suc, _+_, _*_, _/_, _%_, _≤_, _<_}
 use native.Mathlib.Omega.{arith}
 use lib.ListN.{length, getD, take, drop}
-use lib.Seq.{drop-cons}
+use lib.Seq.{drop-cons, drop-drop, take-add}
 use borrow.Author.Tests.{lt-ltb}
 use Rattle.sheets.specs.Bytes.{Bytes}
 use Rattle.sheets.specs.Text.{hexDigit, hex}
@@ -14,10 +14,10 @@ use Rattle.sheets.specs.Metadata.{littleValue, inOrder, word32, value32}
 use Rattle.sheets.proofs.MetadataLaws.{word-length}
 use Rattle.hex.specs.Hex.{bytesOf}
 use Rattle.hex.proofs.HexLaws.{twice-length}
-use Rattle.hex.proofs.PartLaws.{length-hex}
-use Rattle.words.specs.Words.{lowBytes}
-use Rattle.words.proofs.WordLaws.{low-is}
-use Rattle.endian.specs.Word.{wordValue, wordBytes, HasWord, fourAt}
+use Rattle.hex.proofs.PartLaws.{length-hex, bytes-hex, bytes-part}
+use Rattle.words.specs.Words.{WordAt, WordOf, lowBytes}
+use Rattle.words.proofs.WordLaws.{word-is, low-is}
+use Rattle.endian.specs.Word.{wordValue, wordBytes, HasWord, HasThree, fourAt}
 
 pub value-word : (big : Bool) (bs : Bytes) → wordValue big bs ≡ value32 big bs
 unfolding wordValue
@@ -74,6 +74,30 @@ small-bytes big n h =
     let c : n / 65536 % 256 ≡ 0 = omega arith in
     let d : n / 16777216 % 256 ≡ 0 = omega arith in
     bytes-one-by-one big n ∙ ap (inOrder big) (rw (a, b, c, d))
+
+-- three bytes whose text is the word of six digits `0`
+pub three-there : (s : Bytes) (k w v : ℕ) → HasThree s k → WordAt 6 s (2 * k) w → WordOf (hex (0 ∷ 0 ∷ 0 ∷ [])) v → w ≡ v → take 3 (drop k (bytesOf s)) ≡ 0 ∷ 0 ∷ 0 ∷ []
+three-there s k w v h a b e =
+    sym (bytes-part s (h .0) k 3)
+    ∙ ap bytesOf (word-is a (h .1) (hex (0 ∷ 0 ∷ 0 ∷ [])) refl (b .1) (sym (b .0) ∙ sym e))
+    ∙ bytes-hex (0 ∷ 0 ∷ 0 ∷ []) (refl, (refl, (refl, refl)))
+
+-- the number of four bytes of which three are 0 is the fourth
+module _ (s : Bytes) (k : ℕ) (h : HasWord s k) where
+  one : (i : ℕ) → i < k + 4 → take 1 (drop i (bytesOf s)) ≡ getD (bytesOf s) i 0 ∷ []
+  one i l = ap (take 1) (drop-cons (bytesOf s) i 0 (omega (arith, twice-length s (h .0), h .1)))
+
+  pub last-alone : take 3 (drop k (bytesOf s)) ≡ 0 ∷ 0 ∷ 0 ∷ [] → wordValue true (fourAt s k) ≡ getD (bytesOf s) (k + 3) 0
+  unfolding wordValue
+  last-alone e =
+      ap (value32 true) (take-add 3 1 (drop k (bytesOf s)) ∙ ap₂ _++_ e (ap (take 1) (drop-drop 3 k (bytesOf s)) ∙ one (k + 3) (omega arith)))
+      ∙ omega arith
+
+  pub first-alone : take 3 (drop (k + 1) (bytesOf s)) ≡ 0 ∷ 0 ∷ 0 ∷ [] → wordValue false (fourAt s k) ≡ getD (bytesOf s) k 0
+  unfolding wordValue
+  first-alone e =
+      ap (value32 false) (take-add 1 3 (drop k (bytesOf s)) ∙ ap₂ _++_ (one k (omega arith)) (ap (take 3) (drop-drop 1 k (bytesOf s)) ∙ e))
+      ∙ omega arith
 
 -- its text is the word of its two digits, with six zeros before or after them
 module _ (n a b w : ℕ) (h : n < 256) (e : a ≡ hexDigit (n / 16)) (f : b ≡ hexDigit (n % 16)) (la : a < 256) (lb : b < 256) where

@@ -21,6 +21,10 @@ wordBytes big n = word32 big n
 abbrev pub HasWord : Bytes → ℕ → Type 0
 HasWord s k = (isHex s ≡ true) × (2 * k + 8 ≤ length s)
 
--- those four bytes
+-- the same of three bytes
+abbrev pub HasThree : Bytes → ℕ → Type 0
+HasThree s k = (isHex s ≡ true) × (2 * k + 6 ≤ length s)
+
+-- the four bytes from pair k on
 abbrev pub fourAt : Bytes → ℕ → Bytes
 fourAt s k = take 4 (drop k (bytesOf s))

@@ -1,13 +1,15 @@
 // The 32-bit counts and lengths of a metadata block in hexadecimal text, most significant byte first (`big`) or last. They stay unsigned: a negative one
 // is 2147483648 or more.
 ghost use mathlib.Core.Path.{_≡_};
+ghost use mathlib.Core.Bool.{true};
+ghost use mathlib.Core.List.{[], _∷_};
 ghost use Prim.Native.Nat.{_+_, _*_, _<_};
-ghost use lib.ListN.{getD};
+ghost use lib.ListN.{getD, take, drop};
 ghost use Rattle.sheets.specs.Text.{hexDigit, hex};
 ghost use Rattle.buffer.specs.Over.{IsUsize, PutAt};
 ghost use Rattle.hex.specs.Hex.{bytesOf, HasPair};
 ghost use Rattle.words.specs.Words.{lowBytes};
-ghost use Rattle.endian.specs.Word.{wordValue, wordBytes, HasWord, fourAt};
+ghost use Rattle.endian.specs.Word.{wordValue, wordBytes, HasWord, HasThree, fourAt};
 
 // The byte of pair k, as a number of 32 bits.
 fn wide_at(s: &[u8], k: usize) -> u32
@@ -25,8 +27,8 @@ fn joined(a: u32, b: u32, c: u32, d: u32) -> u32
     a + 256 * (b + 256 * (c + 256 * d))
 }
 
-// The number in the four bytes from pair k on.
-pub fn word_at(s: &[u8], k: usize, big: bool) -> u32
+// The number in the four bytes from pair k on, each byte decoded.
+fn bytes_at(s: &[u8], k: usize, big: bool) -> u32
     requires { ⌜ HasWord (now s) k ⌝ }
     ensures { λ r. ⌜ r ≡ wordValue big (fourAt (now (s .entry)) k) ⌝ }
 {
@@ -38,6 +40,31 @@ pub fn word_at(s: &[u8], k: usize, big: bool) -> u32
         return joined(d, c, b, a);
     }
     joined(a, b, c, d)
+}
+
+// Whether the three bytes from pair k on are 0: their digits are one word.
+fn three_zeros(s: &[u8], k: usize) -> bool
+    requires { ⌜ HasThree (now s) k ⌝ }
+    ensures { λ r. ⌜ (r ≡ true → take 3 (drop k (bytesOf (now (s .entry)))) ≡ 0 ∷ 0 ∷ 0 ∷ []) ⌝ }
+{
+    words::word6_at(s, 2 * k) == words::hex_digits::three_pairs(0, 0, 0)
+}
+
+// The number in the four bytes from pair k on. Most are below 256: one byte is decoded then.
+pub fn word_at(s: &[u8], k: usize, big: bool) -> u32
+    requires { ⌜ HasWord (now s) k ⌝ }
+    ensures { λ r. ⌜ r ≡ wordValue big (fourAt (now (s .entry)) k) ⌝ }
+{
+    if big {
+        if three_zeros(s, k) {
+            return wide_at(s, k + 3);
+        }
+        return bytes_at(s, k, big);
+    }
+    if three_zeros(s, k + 1) {
+        return wide_at(s, k);
+    }
+    bytes_at(s, k, big)
 }
 
 fn word_bytes(n: u32, big: bool) -> [u8; 4]

@@ -18,7 +18,7 @@ use Rattle.sheets.specs.Number.{decimal, readNumber}
 use Rattle.sheets.specs.Text.{hex}
 use Rattle.sheets.specs.Sheet.{ended}
 use Rattle.sheets.specs.Field.{Info, Scalar, leaf, scalar, hasUnit, isLeaf, scalarRule}
-use Rattle.sheets.specs.FieldSheet.{ofScalar, fieldLine, lineOf, Entry}
+use Rattle.sheets.specs.FieldSheet.{Columns, Shape, ofScalar, columns, infoColumns, fieldLine, lineOf, Entry}
 use Rattle.sheets.specs.FieldTrees.{ownRule, readHead, placeHead, entryHead, fields}
 use Rattle.sheets.specs.TreeWalks.{LineAt}
 use Rattle.sheets.proofs.Tests.{not-some, same-some, passing, meets, and-left, and-right, first-gave}
@@ -34,7 +34,7 @@ use Rattle.words.proofs.WordLaws.{word-is}
 use Rattle.columns.specs.Columns.{part}
 use Rattle.columns.specs.Pairs.{pairsFrom}
 use Rattle.columns.proofs.PairsLaws.{Plain, plain, pairs-are, pairs-two, part-append}
-use Rattle.field_leaf.specs.LeafText.{unusedText, headText, tailText, leafText}
+use Rattle.field_leaf.specs.LeafText.{unusedText, headText, tailText, shortText}
 use Rattle.field_leaf.specs.FieldLeaves.{isShort, shortKind, kindOf, kindEnd, nullableAt, leafRule, Told, leafFrom, fieldLeafIn, leafInfo, leafLine, FieldLeafAt}
 use Rattle.field_leaf.proofs.KindLaws.{end-near}
 
@@ -68,7 +68,7 @@ pub record Kept (s : Bytes) (k e : ℕ) : Type 0 where
   pub unused : part s k (k + 9) ≡ unusedText
   pub long : k + 9 < e
   pub flag : nullableAt s e < 2
-  pub tail : part s e (e + 7) ≡ tailText (nullableAt s e)
+  pub tail : part s e (e + 7) ≡ tailText (nullableAt s e) 0
 
 module _ (s : Bytes) (k e : ℕ) where
   kept : Meets (leafRule s k e) → Kept s k e
@@ -77,7 +77,7 @@ module _ (s : Bytes) (k e : ℕ) where
         unused = same-eq (part s k (k + 9)) unusedText (m .0);
         long = ltb-true (k + 9) e (m .1 .0);
         flag = ltb-true (nullableAt s e) 2 (m .1 .1 .0);
-        tail = same-eq (part s e (e + 7)) (tailText (nullableAt s e)) (m .1 .1 .1);
+        tail = same-eq (part s e (e + 7)) (tailText (nullableAt s e) 0) (m .1 .1 .1);
       }
 
   keeps : Kept s k e → Meets (leafRule s k e)
@@ -87,7 +87,7 @@ module _ (s : Bytes) (k e : ℕ) where
       lt-ltb (k + 9) e (h .long),
       (
         lt-ltb (nullableAt s e) 2 (h .flag),
-        ap (λ (b : Bytes). same b (tailText (nullableAt s e))) (h .tail) ∙ same-refl (tailText (nullableAt s e)),
+        ap (λ (b : Bytes). same b (tailText (nullableAt s e) 0)) (h .tail) ∙ same-refl (tailText (nullableAt s e) 0),
       ),
     ),
   )
@@ -100,7 +100,7 @@ module _ {s : Bytes} {k e : ℕ} (h : Kept s k e) where
   nine : take 9 (drop k s) ≡ unusedText
   nine = let n : 9 ≡ k + 9 - k = omega arith in ap (λ (i : ℕ). take i (drop k s)) n ∙ h .unused
 
-  seven : take 7 (drop e s) ≡ tailText (nullableAt s e)
+  seven : take 7 (drop e s) ≡ tailText (nullableAt s e) 0
   seven = let n : 7 ≡ e + 7 - e = omega arith in ap (λ (i : ℕ). take i (drop e s)) n ∙ h .tail
 
   pub kept-kind : {w : ℕ} → WordAt 8 s k w → w ≡ afterKind
@@ -115,13 +115,13 @@ module _ {s : Bytes} {k e : ℕ} (h : Kept s k e) where
 
   pub kept-end : {w : ℕ} → WordAt 4 s (e + 3) w → w ≡ lineEnds
   unfolding tailText
-  kept-end {w} a = a .is ∙ ap littleValue (within s e 7 (tailText (nullableAt s e)) seven 3 4 (omega arith))
+  kept-end {w} a = a .is ∙ ap littleValue (within s e 7 (tailText (nullableAt s e) 0) seven 3 4 (omega arith))
 
   pub kept-flag : {w : ℕ} → WordAt 4 s e w → w ≡ notNullable + 256 * nullableAt s e
   unfolding tailText
   kept-flag {w} a =
       let z : e + 0 ≡ e = omega arith in
-      let t = tailText (nullableAt s e) in
+      let t = tailText (nullableAt s e) 0 in
       omega (arith, a .is ∙ ap (λ (i : ℕ). littleValue (take 4 (drop i s))) (sym z) ∙ ap littleValue (within s e 7 t seven 0 4 (omega arith)))
 
 -- the words are these
@@ -144,7 +144,7 @@ module _ (s : Bytes) (k e n w v u : ℕ) where
         let b : getD s (e + 1) 0 ≡ 48 + n = sym (getD-drop e s 1 0) ∙ sym (getD-take 4 (drop e s) 1 0 (omega arith)) ∙ ap (λ (l : Bytes). getD l 1 0) four in
         omega arith
 
-    tail-there : WordAt 4 s (e + 3) u → u ≡ lineEnds → part s e (e + 7) ≡ tailText n
+    tail-there : WordAt 4 s (e + 3) u → u ≡ lineEnds → part s e (e + 7) ≡ tailText n 0
     unfolding tailText
     tail-there b is =
         let m : e + 7 - e ≡ 3 + 4 = omega arith in
@@ -160,7 +160,7 @@ module _ (s : Bytes) (k e n w v u : ℕ) where
           unused = unused-there there c is-kind space;
           long = long;
           flag = omega (arith, flag-there);
-          tail = tail-there b is-end ∙ ap tailText (sym flag-there);
+          tail = tail-there b is-end ∙ ap (λ (i : ℕ). tailText i 0) (sym flag-there);
         }
 
 -- ── where no such line stands, and where one does
@@ -204,12 +204,29 @@ module _ (s : Bytes) (at : ℕ) where
 
 -- ── the line as it is written
 
-pub line-text : (kind : ℕ) (b : Bytes) (n : ℕ) → 0 < length b → n < 2 → leafText kind (hex b) n ≡ ended (leafLine kind b n ∷ [])
-unfolding unusedText headText tailText decimal
-line-text kind [] n h l = absurd (omega arith)
-line-text kind (x ∷ b) zero h l = simp append-assoc
-line-text kind (x ∷ b) (suc zero) h l = simp append-assoc
-line-text kind (x ∷ b) (suc (suc n)) h l = absurd (omega arith)
+-- the line of a leaf, if it had children
+count-text : (kind : ℕ) (b : Bytes) (n c : ℕ) → 0 < length b → n < 2
+    → (headText kind ++ hex b) ++ (32 ∷ (48 + n) ∷ 32 ∷ 126 ∷ 32 ∷ (decimal c ++ (10 ∷ []))) ≡ ended (fieldLine .write (lineOf (ofScalar (leaf kind 0)) (some (leafInfo b n)) c) ∷ [])
+unfolding unusedText headText decimal
+count-text kind [] n c h l = absurd (omega arith)
+count-text kind (x ∷ b) zero c h l = simp append-assoc
+count-text kind (x ∷ b) (suc zero) c h l = simp append-assoc
+count-text kind (x ∷ b) (suc (suc n)) c h l = absurd (omega arith)
+
+-- of any type that its kind alone tells, with one digit of children
+pub short-text : (x : Shape) (kind : ℕ) → columns x ≡ columns (ofScalar (leaf kind 0)) → (b : Bytes) (n c : ℕ) → decimal c ≡ (48 + c) ∷ [] → 0 < length b → n < 2
+    → shortText kind (hex b) n c ≡ ended (fieldLine .write (lineOf x (some (leafInfo b n)) c) ∷ [])
+unfolding tailText
+short-text x kind e b n c d h l =
+    let own = infoColumns (some (leafInfo b n)) in
+    ap (λ (t : Bytes). (headText kind ++ hex b) ++ (32 ∷ (48 + n) ∷ 32 ∷ 126 ∷ 32 ∷ (t ++ (10 ∷ [])))) (sym d)
+    ∙ count-text kind b n c h l
+    ∙ ap (λ (k : Columns). ended (fieldLine .write (k .kind, (k .p, (k .q, (k .text, (k .more, (own .0, (own .1 .0, (own .1 .1, (c, tt))))))))) ∷ [])) (sym e)
+
+-- of a leaf
+pub line-text : (kind : ℕ) (b : Bytes) (n : ℕ) → 0 < length b → n < 2 → shortText kind (hex b) n 0 ≡ ended (leafLine kind b n ∷ [])
+unfolding decimal
+line-text kind b n h l = short-text (ofScalar (leaf kind 0)) kind refl b n 0 refl h l
 
 -- a line that a scalar is written as reads as that
 head-read : (t : Scalar) (i : Option Info) → Meets (ownRule i) → Meets (scalarRule t) → readHead (fieldLine .write (lineOf (ofScalar t) i 0)) ≡ given (entryHead (i, scalar t))
@@ -248,7 +265,7 @@ module _ (s : Bytes) (at kind k e : ℕ) (digits : part s at k ≡ decimal kind)
     some-byte : 0 < length (p .bytes)
     some-byte = omega (arith, h .long, kept-high h, ap length (p .is), length-hex (p .bytes), length-take (e - (k + 9)) (drop (k + 9) s), length-drop (k + 9) s)
 
-    whole : part s at (e + 7) ≡ leafText kind (hex (p .bytes)) (nullableAt s e)
+    whole : part s at (e + 7) ≡ shortText kind (hex (p .bytes)) (nullableAt s e) 0
     unfolding headText
     whole =
         part-append s at e (e + 7) (omega (arith, h .long)) (omega arith)

@@ -59,7 +59,7 @@ leafRule s k e =
     is (same (part s k (k + 9)) unusedText)
     and (is (ltb (k + 9) e)
     and (is (ltb (nullableAt s e) 2)
-    and is (same (part s e (e + 7)) (tailText (nullableAt s e)))))
+    and is (same (part s e (e + 7)) (tailText (nullableAt s e) 0))))
 
 -- its kind, where its name begins, where that ends, `nullable`
 abbrev pub Told : Type 0

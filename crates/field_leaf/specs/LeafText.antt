@@ -1,4 +1,4 @@
--- The field line of a leaf that has no unit and no pairs, in its pieces. Assumes nothing.
+-- The field line of a type that its kind alone tells, and that has no pairs, in its pieces. Assumes nothing.
 use mathlib.Core.List.{[], _∷_, _++_}
 use Prim.Native.Nat.{ℕ, _+_}
 use Rattle.sheets.specs.Bytes.{Bytes}
@@ -13,10 +13,10 @@ unfoldable pub headText : ℕ → Bytes
 unfolding unusedText
 headText kind = decimal kind ++ unusedText
 
--- after the name: nullable pairs children, ` n ~ 0` and byte 10
-unfoldable pub tailText : ℕ → Bytes
-tailText n = 32 ∷ (48 + n) ∷ 32 ∷ 126 ∷ 32 ∷ 48 ∷ 10 ∷ []
+-- after the name: nullable pairs children, ` n ~ c` and byte 10, of one digit of children
+unfoldable pub tailText : ℕ → ℕ → Bytes
+tailText n c = 32 ∷ (48 + n) ∷ 32 ∷ 126 ∷ 32 ∷ (48 + c) ∷ 10 ∷ []
 
--- the line of a leaf of this kind, with this column for its name
-abbrev pub leafText : ℕ → Bytes → ℕ → Bytes
-leafText kind name n = (headText kind ++ name) ++ tailText n
+-- the line of a type of this kind, with this column for its name
+abbrev pub shortText : ℕ → Bytes → ℕ → ℕ → Bytes
+shortText kind name n c = (headText kind ++ name) ++ tailText n c

@@ -1,21 +1,25 @@
--- What is known at each place of `end_type`: the last subtrees are skipped. Assumes nothing.
+-- What is known at each place of `end_type`: the last subtrees are read. Assumes nothing.
 use mathlib.Core.Path.{_≡_, refl, subst}
 use mathlib.Core.List.{List}
 use Prim.Native.Nat.{ℕ}
-use native.Mathlib.Omega.{arith}
 use Rattle.sheets.specs.Bytes.{Bytes}
 use Rattle.sheets.specs.Answer.{given}
 use Rattle.sheets.specs.Schema.{Schema}
-use Rattle.schema_sheet.specs.Subtrees.{skipAnswer, SkipsRow}
-use Rattle.schema_sheet.specs.declared.subtrees.Skipped.{Skipped}
-use Rattle.schema_sheet.specs.declared.subtrees.Skipped.the-variants.{To, Deep}
+use Rattle.schema_sheet.specs.Trees.{treeAnswer, ReadsRow}
+use Rattle.schema_sheet.proofs.ReadLaws.{reads-standing}
+use Rattle.schema_sheet.specs.declared.trees.TreeRead.{TreeRead}
+use Rattle.schema_sheet.specs.declared.trees.TreeRead.the-variants.{To}
 use Rattle.outcome.specs.declared.Size.{Size}
-use Rattle.import_field.specs.Contracts.{LeftAt, Ends}
+use Rattle.import_field.specs.Contracts.{LeftAt, Ends, LastRead}
 
-module _ (s : Bytes) (at count levels : ℕ) (us ts : List Schema) (h : LeftAt s at count levels us ts) (k : Skipped) (skips : SkipsRow s at count levels (skipAnswer k)) where
-  -- none has too many levels
-  pub left-low : k ≡ Deep → ⊥
-  left-low e = let l = subst (λ (y : Skipped). SkipsRow s at count levels (skipAnswer y)) e skips .1 us ts (h .stands) (h .counted) in omega (arith, l, h .deep)
+module _ (s : Bytes) (at count levels : ℕ) (k : TreeRead) (reads : ReadsRow s at count levels (treeAnswer k)) where
+  pub last-read : (size : Size) (next : ℕ) → k ≡ To next → LastRead s at count levels size (given (next, size))
+  last-read size next e = (refl, subst (λ (y : TreeRead). ReadsRow s at count levels (treeAnswer y)) e reads)
 
-  pub left-skipped : (size : Size) (next : ℕ) → k ≡ To next → Ends s at size ts (given (next, size))
-  left-skipped size next e = let d = subst (λ (y : Skipped). SkipsRow s at count levels (skipAnswer y)) e skips us ts (h .stands) (h .counted) in (refl, d .1, d .2, d .3)
+  module _ (us ts : List Schema) (h : LeftAt s at count levels us ts) where
+    -- trees that stand are read
+    pub left-to : (next : ℕ) × (k ≡ To next)
+    left-to = reads-standing s at count levels us ts (h .stands) (h .counted) (h .deep) k reads
+
+    pub left-read : (size : Size) (next : ℕ) → k ≡ To next → Ends s at size ts (given (next, size))
+    left-read size next e = let d = last-read size next e .1 .1 us ts (h .stands) (h .counted) in (refl, d .1, d .2, d .3)

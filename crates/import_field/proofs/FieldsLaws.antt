@@ -18,7 +18,9 @@ use Rattle.buffer.proofs.OverLaws.{over-nothing, put-lent}
 use Rattle.outcome.specs.declared.Size.{Size}
 use Rattle.refusal.specs.declared.Refusal.{Refusal as Reason}
 use Rattle.refusal.specs.Refusals.{refusalOf}
-use Rattle.import_field.specs.Contracts.{FieldAt, FieldsAt, HasField, Wrote, FieldWrote}
+use Rattle.schema_sheet.proofs.ReadLaws.{Reading, reading-none, reading-more, reading-all}
+use Rattle.schema_sheet.specs.declared.trees.TreeRead.the-variants.{To}
+use Rattle.import_field.specs.Contracts.{FieldAt, FieldsAt, Wrote, FieldWrote, stepAnswer, RowRead, FieldRead}
 use Rattle.import_field.specs.declared.Tree.{Tree}
 use Rattle.import_field.specs.declared.Step.{Step}
 use Rattle.import_field.specs.declared.Step.the-variants.{Done, Refused}
@@ -35,6 +37,41 @@ both-before a b (given ls) = ap given (sym (append-assoc a b ls))
 abbrev pub treeAt : ℕ → ℕ → Bool → Bool → Tree
 treeAt here levels bare big = record { at = here; levels = levels; bare = bare; big = big }
 
+-- ── what is read, whatever stands there
+
+-- of a row of n trees, i were read up to here; what was written for them is not long
+pub record RowGoing (s : Bytes) (at n levels here sum seen i : ℕ) : Type 0 where
+  pub reading : Reading s at n levels here (n - i)
+  pub long : sum + 32 * at ≤ 32 * here
+  pub each : seen + at ≤ here
+  pub past : i + at ≤ here
+
+pub row-none : (s : Bytes) (at n levels : ℕ) → at ≤ length s → RowGoing s at n levels at 0 0 0
+row-none s at n levels h =
+    record { reading = subst (λ (k : ℕ). Reading s at n levels at k) (omega arith) (reading-none s at n levels h); long = omega arith; each = omega arith; past = omega arith }
+
+module _ {s : Bytes} {at n levels here sum seen i : ℕ} (g : RowGoing s at n levels here sum seen i) where
+  pub row-more : i < n → (r : Step) (next : ℕ) (size : Size) → r ≡ Done next size → FieldRead s here levels (stepAnswer r) → RowGoing s at n levels next (sum + size .len) (seen + size .lines) (i + 1)
+  row-more l r next size e f =
+      let (t, long, each) = subst (λ (y : Step). FieldRead s here levels (stepAnswer y)) e f in
+      record {
+        reading = subst (λ (k : ℕ). Reading s at n levels next k) (omega arith) (reading-more (g .reading) (omega arith) (To next) t next refl);
+        long = omega (arith, long, g .long);
+        each = omega (arith, each, g .each);
+        past = omega (arith, t .0 .0, g .past);
+      }
+
+  pub row-within : here ≤ length s
+  row-within = g .reading .high
+
+  pub row-all : n ≤ i → RowRead s at n levels (given (here, record { len = sum; lines = seen }))
+  row-all l = (reading-all (g .reading) (omega arith), omega (arith, g .long), g .each)
+
+  pub row-past : n ≤ i → n + at ≤ here
+  row-past l = omega (arith, g .past)
+
+-- ── what is written for the trees that stand there
+
 -- i of the n trees us, which stood at `at` with ts after them, are written, for `seen` lines: their lines are laid over out₀, and vs are left at here
 pub record Going (s : Bytes) (at n levels : ℕ) (bare big : Bool) (out₀ out : Bytes) (here sum seen i : ℕ) (us : Schemas) (ts : List Schema) : Type 0 where
   pub vs : Schemas
@@ -42,9 +79,7 @@ pub record Going (s : Bytes) (at n levels : ℕ) (bare big : Bool) (out₀ out :
   pub left : FieldsAt s here (n - i) levels vs ts
   pub becomes : rowWritten big bare us ≡ (rowWritten big bare vs >>= λ ls. given (lines ++ ls))
   pub put : PutFirst (ended lines) sum out₀ out
-  pub long : sum + 32 * at ≤ 32 * here
   pub counted : rowLines us ≡ seen + rowLines vs
-  pub each : seen + at ≤ here
 
 module _ (s : Bytes) (at n levels : ℕ) (bare big : Bool) (out₀ : Bytes) (us : Schemas) (ts : List Schema) where
   pub going-none : FieldsAt s at n levels us ts → Going s at n levels bare big out₀ out₀ at 0 0 0 us ts
@@ -55,22 +90,13 @@ module _ (s : Bytes) (at n levels : ℕ) (bare big : Bool) (out₀ : Bytes) (us 
         left = record { stands = h .stands; counted = omega (arith, h .counted); deep = h .deep; within = h .within; short = h .short };
         becomes = none-before (rowWritten big bare us);
         put = (refl, sym (over-nothing out₀));
-        long = omega arith;
         counted = omega arith;
-        each = omega arith;
       }
 
   module _ (out : Bytes) (here sum seen i : ℕ) (g : Going s at n levels bare big out₀ out here sum seen i us ts) where
     -- the first tree that is left
     first-at : (t : Schema) (vs : Schemas) → FieldsAt s here (n - i) levels (t & vs) ts → FieldAt s here levels t (pushChildren vs ts)
     first-at t vs h = record { stands = h .stands; deep = omega (arith, h .deep); short = h .short }
-
-    pub going-field : i < n → HasField s (treeAt here levels bare big)
-    going-field l = go (g .vs) (g .left)
-      where
-        go : (vs : Schemas) → FieldsAt s here (n - i) levels vs ts → HasField s (treeAt here levels bare big)
-        go end h = absurd (omega (arith, h .counted))
-        go (t & vs) h = (t, pushChildren vs ts, first-at t vs h)
 
     -- it is written
     pub going-more : i < n → (w : ℕ) → w ≡ min sum (length out) → (part : Bytes) (r : Step) (next : ℕ) (size : Size) → r ≡ Done next size
@@ -84,7 +110,7 @@ module _ (s : Bytes) (at n levels : ℕ) (bare big : Bool) (out₀ : Bytes) (us 
         go (t & vs) h b m =
             let f : FieldWrote s (treeAt here levels bare big) (take (length out - w) (drop w out)) part (Done next size) =
             subst (λ (x : Step). FieldWrote s (treeAt here levels bare big) (take (length out - w) (drop w out)) part x) isDone wrote in
-            let (ls, is, put, there, long, within, lines, each) = f t (pushChildren vs ts) (first-at t vs h) in
+            let (ls, is, put, there, within, lines) = f t (pushChildren vs ts) (first-at t vs h) in
             record {
               vs = vs;
               lines = g .lines ++ ls;
@@ -94,9 +120,7 @@ module _ (s : Bytes) (at n levels : ℕ) (bare big : Bool) (out₀ : Bytes) (us 
                   ∙ ap (λ (o : Answer (List Bytes)). (o >>= λ a. rowWritten big bare vs >>= λ b. given (a ++ b)) >>= λ b. given (g .lines ++ b)) is
                   ∙ both-before (g .lines) ls (rowWritten big bare vs);
               put = subst (λ (x : Bytes). PutFirst x (sum + size .len) out₀ (take w out ++ (part ++ drop (length out - w) (drop w out)))) (sym (ended-append (g .lines) ls)) (put-lent (ended (g .lines)) (ended ls) out₀ (g .put) e put refl);
-              long = omega (arith, g .long, long);
               counted = omega (arith, m, lines);
-              each = omega (arith, g .each, each);
             }
 
     -- it is refused
@@ -112,10 +136,10 @@ module _ (s : Bytes) (at n levels : ℕ) (bare big : Bool) (out₀ : Bytes) (us 
             b ∙ ap (λ (o : Answer (List Bytes)). (o >>= λ a. rowWritten big bare vs >>= λ b. given (a ++ b)) >>= λ b. given (g .lines ++ b)) (f t (pushChildren vs ts) (first-at t vs h))
 
     -- all are written
-    pub going-all : n ≤ i → Wrote s at 0 ts (rowWritten big bare us) (rowLines us) out₀ out (Done here (record { len = sum; lines = seen }))
+    pub going-all : n ≤ i → Wrote s ts (rowWritten big bare us) (rowLines us) out₀ out (Done here (record { len = sum; lines = seen }))
     going-all l = go (g .vs) (g .left) (g .becomes) (g .counted)
       where
         go : (vs : Schemas) → FieldsAt s here (n - i) levels vs ts → rowWritten big bare us ≡ (rowWritten big bare vs >>= λ ls. given (g .lines ++ ls)) → rowLines us ≡ seen + rowLines vs
-            → Wrote s at 0 ts (rowWritten big bare us) (rowLines us) out₀ out (Done here (record { len = sum; lines = seen }))
-        go end h b m = (g .lines, b ∙ ap given (append-nil (g .lines)), g .put, h .stands, omega (arith, g .long), h .within, omega (arith, m), g .each)
+            → Wrote s ts (rowWritten big bare us) (rowLines us) out₀ out (Done here (record { len = sum; lines = seen }))
+        go end h b m = (g .lines, b ∙ ap given (append-nil (g .lines)), g .put, h .stands, h .within, omega (arith, m))
         go (t & vs) h b m = absurd (omega (arith, h .counted))

@@ -10,7 +10,9 @@ use Rattle.sheets.specs.Schema.{Schema, end, _&_}
 use Rattle.sheets.proofs.FormLaws.{standing-row, row-many}
 use Rattle.sheets.specs.ImportLines.{written}
 use Rattle.sheets.specs.Visits.{importLines, rowLines}
-use Rattle.import_field.specs.Contracts.{FieldAt, FieldsAt, HasField, HasFields, Wrote, FieldWrote, FieldsWrote}
+use Rattle.import_field.specs.Contracts.{FieldAt, FieldsAt, Wrote, FieldWrote, FieldsWrote, stepAnswer, RowRead, RowPast, FieldRead, FieldTold, FieldsTold}
+use Rattle.outcome.specs.declared.Size.{Size}
+use Rattle.schema_sheet.proofs.ReadLaws.{row-one}
 use Rattle.import_field.specs.declared.Tree.{Tree}
 use Rattle.import_field.specs.declared.Trees.{Trees}
 use Rattle.import_field.specs.declared.Step.{Step}
@@ -30,9 +32,6 @@ module _ (s : Bytes) (t : Tree) where
         short = f .short;
       }
 
-  pub row-there : HasField s t → HasFields s (rowOf t)
-  row-there h = (h .0 & end, h .1, row-at (h .0) (h .1) (h .2))
-
   one-written : (m : Answer (List Bytes)) → (m >>= λ a. given (a ++ [])) ≡ m
   one-written (refused r) = refl
   one-written (given a) = ap given (append-nil a)
@@ -40,7 +39,15 @@ module _ (s : Bytes) (t : Tree) where
   one-counted : (u : Schema) → rowLines (u & end) ≡ importLines u
   one-counted u = omega arith
 
-  pub row-wrote : (out out' : Bytes) (r : Step) → FieldsWrote s (rowOf t) out out' r → FieldWrote s t out out' r
+  row-wrote : (out out' : Bytes) (r : Step) → FieldsWrote s (rowOf t) out out' r → FieldWrote s t out out' r
   row-wrote out out' r h u ts f =
-      subst (λ (n : ℕ). Wrote s (t .at) 0 ts (written (t .big) (t .bare) u) n out out' r) (one-counted u)
-      (subst (λ (o : Answer (List Bytes)). Wrote s (t .at) 0 ts o (rowLines (u & end)) out out' r) (one-written (written (t .big) (t .bare) u)) (h (u & end) ts (row-at u ts f)))
+      subst (λ (n : ℕ). Wrote s ts (written (t .big) (t .bare) u) n out out' r) (one-counted u)
+      (subst (λ (o : Answer (List Bytes)). Wrote s ts o (rowLines (u & end)) out out' r) (one-written (written (t .big) (t .bare) u)) (h (u & end) ts (row-at u ts f)))
+
+  -- a row of one that was read is a tree that was read
+  one-read : (a : Answer (ℕ × Size)) → RowRead s (t .at) 1 (t .levels) a → RowPast (t .at) 1 a → FieldRead s (t .at) (t .levels) a
+  one-read (refused q) h p = tt
+  one-read (given (next, size)) (h, long, each) p = (row-one s (t .at) (t .levels) next (omega arith) h, omega (arith, long), each)
+
+  pub row-told : (out out' : Bytes) (r : Step) → FieldsTold s (rowOf t) out out' r → FieldTold s t out out' r
+  row-told out out' r h = (one-read (stepAnswer r) (h .0) (h .1), row-wrote out out' r (h .2))

@@ -1,17 +1,15 @@
 -- The line of a leaf that was written at once is what import makes of the tree that stands there. Assumes nothing.
-use mathlib.Core.Path.{_≡_, refl, sym, ap, subst, _∙_}
+use mathlib.Core.Path.{_≡_, sym, ap, subst, _∙_}
 use mathlib.Core.Bool.{Bool, true, false}
-use mathlib.Core.List.{List, [], _∷_, _++_}
+use mathlib.Core.List.{List, [], _∷_}
 use mathlib.Core.Option.{none, some}
-use Prim.Native.Nat.{ℕ, _+_, _*_, _-_, _/_, _%_, _≤_, _<_}
+use Prim.Native.Nat.{ℕ, _+_, _*_, _/_, _%_, _≤_, _<_}
 use native.Mathlib.Omega.{arith}
 use lib.IntN.{pos}
-use lib.ListN.{length, drop, length-append, length-take, length-drop}
-use borrow.Author.Tests.{le-leb}
+use lib.ListN.{drop}
 use Rattle.sheets.specs.Bytes.{Bytes}
 use Rattle.sheets.specs.Answer.{given}
 use Rattle.sheets.specs.Sheet.{ended}
-use Rattle.sheets.specs.Number.{decimal}
 use Rattle.sheets.specs.Flags.{isSorted, nullable}
 use Rattle.sheets.specs.Utf8.{isUtf8}
 use Rattle.sheets.specs.Field.{Info, leaf}
@@ -23,18 +21,19 @@ use Rattle.sheets.proofs.FormLaws.{standing-on}
 use Rattle.sheets.specs.ImportLines.{written}
 use Rattle.sheets.specs.Visits.{importLines}
 use Rattle.sheets.proofs.ImportVisits.{own-line, no-line-below}
-use Rattle.sheets.proofs.Utf8Laws.{ascii-utf8}
-use Rattle.decimal.proofs.WriteLaws.{decimal-length}
 use Rattle.buffer.specs.Over.{PutFirst}
 use Rattle.columns.specs.Columns.{part}
-use Rattle.leaf_line.proofs.LeafLaws.{leaf-says, name-some}
-use Rattle.field_leaf.specs.LeafText.{unusedText, headText, tailText, leafText}
+use Rattle.leaf_line.proofs.ShortLaws.{name-some, short-says}
+use Rattle.field_leaf.specs.LeafText.{shortText}
 use Rattle.field_leaf.proofs.LeafLaws.{line-text}
 use Rattle.outcome.specs.declared.Size.{Size}
+use Rattle.put_leaf.proofs.LineLaws.{short-length}
 use Rattle.put_leaf.specs.Written.{LeafWritten, isPut, LeafPuts}
 use Rattle.put_leaf.specs.declared.LeafPut.{LeafPut}
 use Rattle.put_leaf.specs.declared.LeafPut.the-variants.{Put, Other}
-use Rattle.import_field.specs.Contracts.{FieldWrote, Wrote}
+use Rattle.schema_sheet.specs.Trees.{ReadsTree}
+use Rattle.schema_sheet.proofs.ReadLaws.{leaf-read}
+use Rattle.import_field.specs.Contracts.{FieldWrote, Wrote, FieldRead, FieldTold}
 use Rattle.import_field.specs.declared.Tree.{Tree}
 use Rattle.import_field.proofs.FieldsLaws.{treeAt}
 use Rattle.import_field.specs.declared.Step.{Step}
@@ -59,41 +58,34 @@ sizeOf len = record { len = len; lines = 1 }
 -- ── the tree that stands there
 
 module _ {s : Bytes} {at : ℕ} {out out' : Bytes} {next len : ℕ} (big : Bool) (w : LeafWritten s at out out' next len) where
-  text : leafText (w .kind) (part s (at + 3) (w .e)) (w .flags / 2 % 2) ≡ ended (fieldText (w .kind) (w .leaf .bytes) (w .flags) ∷ [])
+  text : shortText (w .kind) (part s (at + 3) (w .e)) (w .flags / 2 % 2) 0 ≡ ended (fieldText (w .kind) (w .leaf .bytes) (w .flags) ∷ [])
   text =
-      ap (λ (b : Bytes). leafText (w .kind) b (w .flags / 2 % 2)) (w .leaf .name)
+      ap (λ (b : Bytes). shortText (w .kind) b (w .flags / 2 % 2) 0) (w .leaf .name)
       ∙ line-text (w .kind) (w .leaf .bytes) (w .flags / 2 % 2) (name-some (w .leaf)) (omega arith)
 
   -- the line is not much longer than the schema's
   text-short : len + 32 * at ≤ 32 * next
-  unfolding unusedText headText tailText
   text-short =
       let k = w .leaf in
-      let name = part s (at + 3) (w .e) in
-      let a : length (headText (w .kind)) ≡ length (decimal (w .kind)) + 9 = length-append (decimal (w .kind)) unusedText in
-      let b : length (decimal (w .kind)) ≤ 2 = decimal-length 2 (w .kind) (omega arith) (omega (arith, k .known)) in
-      let c : length name ≡ w .e - (at + 3) = length-take (w .e - (at + 3)) (drop (at + 3) s) ∙ omega (arith, length-drop (at + 3) s, k .high, k .some) in
-      omega (arith, w .put .0, w .after, k .some, length-append (headText (w .kind) ++ name) (tailText (w .flags / 2 % 2)), length-append (headText (w .kind)) name)
+      omega (arith, short-length k (w .kind) (w .flags / 2 % 2) 0 (omega (arith, k .names .known)), w .put .0, w .after, k .some)
 
   module _ (t : Schema) (ts : List Schema) where
     abbrev node : Line → Schema
     node x = schema (nodeOf x) end absent
 
     opened : (cs : Schemas) (d : Dictionary) → countSchemas cs ≡ 0 → countDictionary d ≡ 0 → t ≡ schema (nodeOf (w .leaf .line .line)) cs d
-        → Standing (drop (w .e + 9) s) (pushChildren cs (pushDictionary d ts)) → Wrote s at 0 ts (written big false t) (importLines t) out out' (Done next (sizeOf len))
+        → Standing (drop (w .e + 9) s) (pushChildren cs (pushDictionary d ts)) → Wrote s ts (written big false t) (importLines t) out out' (Done next (sizeOf len))
     opened (c & cs) d n m e h = absurd (omega arith)
     opened end (present c) n m e h = absurd (omega arith)
     opened end absent n m e h =
         let k = w .leaf in (
           fieldText (w .kind) (k .bytes) (w .flags) ∷ [],
-          ap (written big false) (e ∙ ap node (leaf-says k))
-              ∙ leaf-becomes big (k .byte ∷ []) (k .bytes) (w .kind) (w .flags) (ascii-utf8 (k .byte ∷ []) (le-leb (k .byte) 127 (omega (arith, k .names .ascii)), refl)) (k .utf8) (k .names .means),
+          ap (written big false) (e ∙ ap node (short-says k))
+              ∙ leaf-becomes big (k .format) (k .bytes) (w .kind) (w .flags) (k .names .utf8) (k .utf8) (k .names .means),
           subst (λ (b : Bytes). PutFirst b len out out') text (w .put),
           subst (λ (i : ℕ). Standing (drop i s) ts) (sym (w .after)) h,
-          omega (arith, text-short),
           omega (arith, w .after, k .high),
           omega (arith, ap importLines e, own-line (nodeOf (k .line .line)) end absent, no-line-below (nodeOf (k .line .line))),
-          omega (arith, w .after, k .some),
         )
 
   -- all that `to_field` tells
@@ -104,15 +96,22 @@ module _ {s : Bytes} {at : ℕ} {out out' : Bytes} {next len : ℕ} (big : Bool)
       let o = standing-on (q .bytes) (drop (w .e + 9) s) (q .free) (p .line) (q .reads) t ts (subst (λ (b : Bytes). Standing b (t ∷ ts)) (q .is) (f .stands)) in
       opened t ts (o .children) (o .dictionary) (o .counted ∙ sym (p .shows .children)) (o .one ∙ sym (p .shows .dictionary)) (o .isNode) (o .stands)
 
+  -- and the tree is read
+  pub leaf-tree : (levels : ℕ) → 0 < levels → FieldRead s at levels (given (next, sizeOf len))
+  leaf-tree levels l =
+      (subst (λ (i : ℕ). ReadsTree s at levels (given i)) (sym (w .after)) (leaf-read (w .leaf) levels l), text-short, omega (arith, w .after, w .leaf .some))
+
 -- ── at the places of `next_field`
 
 module _ (s : Bytes) (t : Tree) (out mid : Bytes) (r : LeafPut) (h : LeafPuts s (t .at) (t .bare) out mid r) where
-  pub leaf-done : (next len : ℕ) → r ≡ Put next len → FieldWrote s t out mid (Done next (sizeOf len))
-  leaf-done next len e =
-      let p : (t .bare ≡ false) × LeafWritten s (t .at) out mid next len = subst (LeafPuts s (t .at) (t .bare) out mid) e h in
-      subst (λ (b : Bool). FieldWrote s (treeAt (t .at) (t .levels) b (t .big)) out mid (Done next (sizeOf len))) (sym (p .0)) (leaf-field (t .big) (p .1) (t .levels))
+  pub leaf-done : (next len : ℕ) → r ≡ Put next len → 0 < t .levels → FieldTold s t out mid (Done next (sizeOf len))
+  leaf-done next len e l =
+      let p : (t .bare ≡ false) × LeafWritten s (t .at) out mid next len = subst (LeafPuts s (t .at) (t .bare) out mid) e h in (
+        leaf-tree (t .big) (p .1) (t .levels) l,
+        subst (λ (b : Bool). FieldWrote s (treeAt (t .at) (t .levels) b (t .big)) out mid (Done next (sizeOf len))) (sym (p .0)) (leaf-field (t .big) (p .1) (t .levels)),
+      )
 
-  pub leaf-other : r ≡ Other → (last : Bytes) (z : Step) → FieldWrote s t mid last z → FieldWrote s t out last z
+  pub leaf-other : r ≡ Other → (last : Bytes) (z : Step) → FieldTold s t mid last z → FieldTold s t out last z
   leaf-other e last z f =
       let p : (isPut s (t .at) (t .bare) out ≡ false) × (mid ≡ out) = subst (LeafPuts s (t .at) (t .bare) out mid) e h in
-      subst (λ (b : Bytes). FieldWrote s t b last z) (p .1) f
+      subst (λ (b : Bytes). FieldTold s t b last z) (p .1) f

@@ -6,3 +6,5 @@ pub mod TypeLaws
 pub mod OwnLaws
 pub mod LeafLaws
 pub mod FirstLaws
+pub mod NestedLaws
+pub mod FieldLaws

@@ -1,98 +1,60 @@
--- What is known at each place of `to_dtype` after its type's line is written: what its fields come to, and what is left to skip. Assumes nothing.
+-- What is known at each place of `to_dtype`: its fields are read and written, and the subtrees after them are read: two rows that adjoin. Assumes nothing.
 use mathlib.Core.Path.{_≡_, sym, ap, subst, _∙_}
-use mathlib.Core.Bool.{Bool}
-use mathlib.Core.List.{List, [], _∷_, _++_}
-use Prim.Native.Nat.{ℕ, _+_, _-_, _≤_, min}
+use mathlib.Core.List.{List, _++_}
+use Prim.Native.Nat.{ℕ, _+_, _≤_}
 use native.Mathlib.Omega.{arith}
-use lib.ListN.{length, take, drop, length-take, length-drop}
+use lib.ListN.{length}
 use Rattle.sheets.specs.Bytes.{Bytes}
-use Rattle.sheets.specs.Answer.{Answer, refused, given, _>>=_}
-use Rattle.sheets.specs.Sheet.{ended}
-use Rattle.sheets.specs.Schema.{Schema}
+use Rattle.sheets.specs.Answer.{Answer, refused, given}
+use Rattle.sheets.specs.Schema.{Schema, Schemas, schemaLevels}
+use Rattle.sheets.specs.LineTrees.{tallest}
 use Rattle.sheets.specs.ImportLines.{rowWritten}
 use Rattle.sheets.specs.Visits.{rowLines}
-use Rattle.sheets.proofs.SheetLaws.{ended-append}
+use Rattle.sheets.specs.Sheet.{ended}
 use Rattle.buffer.specs.Over.{PutFirst}
-use Rattle.buffer.proofs.OverLaws.{put-lent}
 use Rattle.outcome.specs.declared.Size.{Size}
 use Rattle.refusal.specs.declared.Refusal.{Refusal as Reason}
 use Rattle.refusal.specs.Refusals.{refusalOf}
-use Rattle.schema_line.specs.declared.SchemaLine.{SchemaLine}
-use Rattle.node.specs.declared.lines.Shown.{Shown}
-use Rattle.node.specs.Nodes.{columnIn, metadataIn}
-use Rattle.node.proofs.LineLaws.{shown-short}
+use Rattle.schema_sheet.proofs.ReadLaws.{reads-both}
 use Rattle.import_field.specs.declared.Trees.{Trees}
-use Rattle.import_field.specs.declared.Visit.{Visit}
 use Rattle.import_field.specs.declared.Step.{Step}
 use Rattle.import_field.specs.declared.Step.the-variants.{Done, Refused}
-use Rattle.import_field.specs.Contracts.{LeftAt, HasFields, HasLeft, HasType, typeLength, stepAnswer, WroteAs, Wrote, FieldsWrote, LineBegins, Ends, TypeEnds}
+use Rattle.import_field.specs.Contracts.{FieldsAt, LeftAt, stepAnswer, WroteAs, Wrote, FieldsWrote, TypeWrote, FieldsTold, TypeTold, RowRead, Ends, LastRead, EndedTold}
 
--- the row that a type visits
-abbrev pub rowAt : ℕ → ℕ → Visit → Bool → Trees
-rowAt from levels v big = record { at = from; count = v .count; levels = levels; bare = v .bare; big = big }
+module _ (s : Bytes) (w : Trees) (last : ℕ) (out out' : Bytes) (r : Step) (h : FieldsTold s w out out' r) where
+  -- one of the fields is refused
+  pub type-refused : (q : Reason) → r ≡ Refused q → TypeTold s w last out out' (Refused q)
+  type-refused q e = (tt, λ us vs ts f n low. subst (λ (y : Step). FieldsWrote s w out out' y) e (h .2) us (vs ++ ts) f)
 
--- the line of a type is no longer than a sheet allows
-pub type-short : {s : Bytes} {l : SchemaLine} {w : Shown} {levels : ℕ} {es : List ℕ} → HasType s l w levels es → typeLength s l w es ≤ 1507420
-type-short {s = s} {l = l} {w = w} {es = es} h =
-    omega (
-      arith,
-      length-take (l .format .end - l .format .start) (drop (l .format .start) s),
-      length-drop (l .format .start) s,
-      h .there .short,
-      shown-short (columnIn s (l .name)) (metadataIn s l) es w (h .ready),
-      h .ready .named,
-      h .ready .pairs .short,
-    )
+  module _ (next : ℕ) (size : Size) (e : r ≡ Done next size) where
+    rows : RowRead s (w .at) (w .count) (w .levels) (given (next, size))
+    rows = subst (λ (y : Step). RowRead s (w .at) (w .count) (w .levels) (stepAnswer y)) e (h .0)
 
-module _ {big : Bool} {s : Bytes} {l : SchemaLine} {levels : ℕ} {o : Answer (List Bytes)} {n extra : ℕ} {ts : List Schema} {out mid : Bytes} {from len : ℕ} {v : Visit} (g : LineBegins big s l levels o n extra ts out mid from len v) where
-  -- the visited trees are there
-  pub fields-there : HasFields s (rowAt from levels v big)
-  fields-there = (g .us, g .vs ++ ts, g .visited)
+    pub rows-within : next ≤ length s
+    rows-within = rows .0 .0 .1
 
-  abbrev after : Answer (List Bytes) → Answer (List Bytes)
-  after m = m >>= λ ls. given (g .line ∷ ls)
-
-  -- one of them is refused
-  pub fields-refused : (lent part : Bytes) (r : Step) (q : Reason) → r ≡ Refused q → FieldsWrote s (rowAt from levels v big) lent part r → o ≡ refused (refusalOf q)
-  fields-refused lent part r q e h =
-      let w : FieldsWrote s (rowAt from levels v big) lent part (Refused q) = subst (λ (y : Step). FieldsWrote s (rowAt from levels v big) lent part y) e h in
-      g .becomes ∙ ap after (w (g .us) (g .vs ++ ts) (g .visited))
-
-  module _ (lent part : Bytes) (r : Step) (next : ℕ) (below : Size) (e : r ≡ Done next below) (h : FieldsWrote s (rowAt from levels v big) lent part r) where
-    fields-done : Wrote s from 0 (g .vs ++ ts) (rowWritten big (v .bare) (g .us)) (rowLines (g .us)) lent part (Done next below)
-    fields-done = subst (λ (y : Step). FieldsWrote s (rowAt from levels v big) lent part y) e h (g .us) (g .vs ++ ts) (g .visited)
-
-    -- the others are there
-    left-at : LeftAt s next (v .last) levels (g .vs) ts
-    left-at = let d = fields-done in record { stands = d .3; counted = g .others; deep = g .low; within = d .5 }
-
-    pub left-there : HasLeft s next (v .last) levels
-    left-there = (g .vs, ts, left-at)
-
-    -- the sum of both lengths does not wrap
-    pub both-long : len + below .len ≤ 2097120 + extra
-    both-long = let d = fields-done in omega (arith, g .long, d .4, d .5, g .visited .short)
-
-    -- all is written
-    pub type-ended : (w : ℕ) → w ≡ min len (length mid) → lent ≡ take (length mid - w) (drop w mid)
-        → (z : Step) → TypeEnds s next (v .last) levels (record { len = len + below .len; lines = below .lines }) z
-        → Wrote s (l .end) extra ts o n out (take w mid ++ (part ++ drop (length mid - w) (drop w mid))) z
-    type-ended w e₁ e₂ z k = go (stepAnswer z) (k (g .vs) ts left-at)
+    pub type-told : (z : Step) → EndedTold s next last (w .levels) size z → TypeTold s w last out out' z
+    type-told z (read, ends) = (all-read (stepAnswer z) read, wrote)
       where
-        go : (y : Answer (ℕ × Size)) → Ends s next (record { len = len + below .len; lines = below .lines }) ts y
-            → WroteAs s (l .end) extra ts o n out (take w mid ++ (part ++ drop (length mid - w) (drop w mid))) y
-        go (refused q) k = absurd k
-        go (given (past, size)) k =
-            let (ls, is, put, there, long, within, lines, each) = fields-done in
-            let sum : size .len ≡ len + below .len = ap (λ (x : Size). x .len) (k .0) in
-            let seen : size .lines ≡ below .lines = ap (λ (x : Size). x .lines) (k .0) in (
-              g .line ∷ ls,
-              g .becomes ∙ ap after is,
-              subst (λ (x : Bytes). PutFirst x (size .len) out (take w mid ++ (part ++ drop (length mid - w) (drop w mid)))) (sym (ended-append (g .line ∷ []) ls))
-                  (put-lent (ended (g .line ∷ [])) (ended ls) out (g .put) e₁ (subst (λ (x : Bytes). PutFirst (ended ls) (below .len) x part) e₂ put) sum),
-              k .1,
-              omega (arith, g .long, long, sum, k .2),
-              k .3,
-              seen ∙ lines ∙ sym (g .lines),
-              omega (arith, g .after, each, seen, k .2),
-            )
+        all-read : (y : Answer (ℕ × Size)) → LastRead s next last (w .levels) size y → RowRead s (w .at) (w .count + last) (w .levels) y
+        all-read (refused q) k = tt
+        all-read (given (past, more)) (same, k) =
+            let long : more .len ≡ size .len = ap (λ (x : Size). x .len) same in
+            let seen : more .lines ≡ size .lines = ap (λ (x : Size). x .lines) same in
+            (reads-both s (w .at) (w .count) next last past (w .levels) (rows .0) k, omega (arith, rows .1, k .0 .0, long), omega (arith, rows .2, k .0 .0, seen))
+
+        wrote : TypeWrote s w last out out' z
+        wrote us vs ts f n low = go (stepAnswer z) (ends vs ts left)
+          where
+            done : Wrote s (vs ++ ts) (rowWritten (w .big) (w .bare) us) (rowLines us) out out' (Done next size)
+            done = subst (λ (y : Step). FieldsWrote s w out out' y) e (h .2) us (vs ++ ts) f
+
+            left : LeftAt s next last (w .levels) vs ts
+            left = record { stands = done .3; counted = n; deep = low; within = done .4 }
+
+            go : (y : Answer (ℕ × Size)) → Ends s next size ts y → WroteAs s ts (rowWritten (w .big) (w .bare) us) (rowLines us) out out' y
+            go (refused q) k = absurd k
+            go (given (past, more)) k =
+                let long : size .len ≡ more .len = sym (ap (λ (x : Size). x .len) (k .0)) in
+                let seen : more .lines ≡ size .lines = ap (λ (x : Size). x .lines) (k .0) in
+                (done .0, done .1, subst (λ (n : ℕ). PutFirst (ended (done .0)) n out out') long (done .2), k .1, k .3, seen ∙ done .5)

@@ -4,7 +4,7 @@ use mathlib.Core.Path.{_≡_}
 use mathlib.Core.Bool.{Bool, true, false}
 use mathlib.Core.List.{List, [], _∷_, _++_}
 use mathlib.Core.Option.{Option}
-use Prim.Native.Nat.{ℕ, _+_, _*_, _-_, _≤_, max}
+use Prim.Native.Nat.{ℕ, _+_, _*_, _-_, _≤_, _<_, max}
 use lib.ListN.{length, drop}
 use Rattle.sheets.specs.Bytes.{Bytes}
 use Rattle.sheets.specs.Answer.{Answer, refused, given, _>>=_}
@@ -19,7 +19,8 @@ use Rattle.refusal.specs.Refusals.{refusalOf}
 use Rattle.buffer.specs.Over.{PutFirst}
 use Rattle.outcome.specs.declared.Size.{Size}
 use Rattle.schema_line.specs.declared.SchemaLine.{SchemaLine}
-use Rattle.schema_line.specs.Lines.{Shows}
+use Rattle.schema_line.specs.Lines.{Shows, LineAt}
+use Rattle.schema_sheet.specs.Trees.{ReadsTree, ReadsRow}
 use Rattle.import_type.specs.declared.Below.{Below}
 use Rattle.import_type.specs.declared.Below.the-variants.{Nothing, First, All, Values}
 use Rattle.node.specs.declared.lines.Shown.{Shown}
@@ -29,8 +30,10 @@ use Rattle.node.specs.Nodes.{columnIn, metadataIn, shownIn, pendingAnswer}
 use Rattle.import_field.specs.declared.Tree.{Tree}
 use Rattle.import_field.specs.declared.Trees.{Trees}
 use Rattle.import_field.specs.declared.Visit.{Visit}
-use Rattle.import_field.specs.declared.TypeBegun.{TypeBegun}
-use Rattle.import_field.specs.declared.TypeBegun.the-variants as Begun
+use Rattle.import_field.specs.declared.TypeBegun.{TypeBegun as Begun}
+use Rattle.import_field.specs.declared.TypeBegun.the-variants as BegunCase
+use Rattle.import_field.specs.declared.NodeBegun.{NodeBegun}
+use Rattle.import_field.specs.declared.NodeBegun.the-variants as Node
 use Rattle.import_field.specs.declared.Step.{Step}
 use Rattle.import_field.specs.declared.Step.the-variants as Step
 
@@ -69,24 +72,13 @@ pub record TypeAt (s : Bytes) (l : SchemaLine) (levels : ℕ) (x : Line) (cs : S
 
 -- ── what is required
 
-abbrev pub HasField : Bytes → Tree → Type 0
-HasField s t = (u : Schema) × (ts : List Schema) × FieldAt s (t .at) (t .levels) u ts
-
-abbrev pub HasFields : Bytes → Trees → Type 0
-HasFields s w = (us : Schemas) × (ts : List Schema) × FieldsAt s (w .at) (w .count) (w .levels) us ts
-
-abbrev pub HasLeft : Bytes → ℕ → ℕ → ℕ → Type 0
-HasLeft s at count levels = (us : List Schema) × (ts : List Schema) × LeftAt s at count levels us ts
-
--- the node's line is there, and what its type's line shows of a field, info, can be written
-pub record HasType (s : Bytes) (l : SchemaLine) (w : Shown) (levels : ℕ) (es : List ℕ) : Type 0 where
+-- a node's line was found, and what its type's line shows of a field can be written
+pub record HasLine (s : Bytes) (l : SchemaLine) (w : Shown) (es : List ℕ) : Type 0 where
   pub line : Line
-  pub children : Schemas
-  pub dictionary : Dictionary
-  pub after : List Schema
-  pub info : Option Info
-  pub there : TypeAt s l levels line children dictionary after
-  pub shows : shownIn s l es w ≡ infoPiece info
+  pub shows : Shows s l line
+  pub one : dictionaryOf line < 2
+  pub within : l .end ≤ length s
+  pub short : length s ≤ 65535
   pub ready : CanShow (columnIn s (l .name)) (metadataIn s l) es w
 
 -- ── what is told
@@ -96,40 +88,69 @@ abbrev pub stepAnswer : Step → Answer (ℕ × Size)
 stepAnswer (Step.Done next size) = given (next, size)
 stepAnswer (Step.Refused r) = refused (refusalOf r)
 
--- The lines o were to be written, for what stands from `from` on with ts after it, n lines of it visited: `extra` bytes, and 32 bytes at most for each byte
--- that was read; each line that was visited has a byte.
-abbrev pub WroteAs : Bytes → ℕ → ℕ → List Schema → Answer (List Bytes) → ℕ → Bytes → Bytes → Answer (ℕ × Size) → Type 0
-WroteAs s from extra ts o n out out' (refused q) = o ≡ refused q
-WroteAs s from extra ts o n out out' (given (next, size)) =
+-- The lines o were to be written, for what stands before `next`, n lines of it visited, and then ts stands.
+abbrev pub WroteAs : Bytes → List Schema → Answer (List Bytes) → ℕ → Bytes → Bytes → Answer (ℕ × Size) → Type 0
+WroteAs s ts o n out out' (refused q) = o ≡ refused q
+WroteAs s ts o n out out' (given (next, size)) =
     (ls : List Bytes)
     × (o ≡ given ls)
     × PutFirst (ended ls) (size .len) out out'
     × Standing (drop next s) ts
-    × (size .len + 32 * from ≤ 32 * next + extra)
     × (next ≤ length s)
     × (size .lines ≡ n)
-    × (size .lines + from ≤ next)
 
-abbrev pub Wrote : Bytes → ℕ → ℕ → List Schema → Answer (List Bytes) → ℕ → Bytes → Bytes → Step → Type 0
-Wrote s from extra ts o n out out' r = WroteAs s from extra ts o n out out' (stepAnswer r)
+abbrev pub Wrote : Bytes → List Schema → Answer (List Bytes) → ℕ → Bytes → Bytes → Step → Type 0
+Wrote s ts o n out out' r = WroteAs s ts o n out out' (stepAnswer r)
 
 abbrev pub FieldWrote : Bytes → Tree → Bytes → Bytes → Step → Type 0
 FieldWrote s t out out' r =
-    (u : Schema) (ts : List Schema) → FieldAt s (t .at) (t .levels) u ts → Wrote s (t .at) 0 ts (written (t .big) (t .bare) u) (importLines u) out out' r
+    (u : Schema) (ts : List Schema) → FieldAt s (t .at) (t .levels) u ts → Wrote s ts (written (t .big) (t .bare) u) (importLines u) out out' r
 
 abbrev pub FieldsWrote : Bytes → Trees → Bytes → Bytes → Step → Type 0
 FieldsWrote s w out out' r =
-    (us : Schemas) (ts : List Schema) → FieldsAt s (w .at) (w .count) (w .levels) us ts → Wrote s (w .at) 0 ts (rowWritten (w .big) (w .bare) us) (rowLines us) out out' r
+    (us : Schemas) (ts : List Schema) → FieldsAt s (w .at) (w .count) (w .levels) us ts → Wrote s ts (rowWritten (w .big) (w .bare) us) (rowLines us) out out' r
 
--- a type's line is not much longer than its format and what it shows
-abbrev pub typeLength : Bytes → SchemaLine → Shown → List ℕ → ℕ
-typeLength s l w es = 108 + 21 * length (columnIn s (l .format)) + length (shownIn s l es w)
+-- of the fields of a type and of the subtrees vs after them, so many, which it does not visit
+abbrev pub TypeWrote : Bytes → Trees → ℕ → Bytes → Bytes → Step → Type 0
+TypeWrote s w last out out' r =
+    (us : Schemas) (vs ts : List Schema) → FieldsAt s (w .at) (w .count) (w .levels) us (vs ++ ts) → length vs ≡ last → tallest schemaLevels vs ≤ w .levels
+    → Wrote s ts (rowWritten (w .big) (w .bare) us) (rowLines us) out out' r
 
--- of the type of a node, whose line shows j of a field; the node's own line is its field's
-abbrev pub TypeWrote : Bytes → SchemaLine → Shown → ℕ → List ℕ → Bytes → Bytes → Step → Type 0
-TypeWrote s l w levels es out out' r =
-    (x : Line) (cs : Schemas) (d : Dictionary) (ts : List Schema) (j : Option Info) → TypeAt s l levels x cs d ts → shownIn s l es w ≡ infoPiece j
-    → Wrote s (l .end) (typeLength s l w es) ts (typeWritten (w .big) j (schema (nodeOf x) cs d)) (belowLines (schema (nodeOf x) cs d)) out out' r
+-- ── what is told of the sheet, whatever stands there
+
+-- The trees from `from` on, so many, were read up to next: a row of them stands there exactly if the rest of it does at next, and none has more levels.
+-- What was written for them is not long: 32 bytes at most for each byte that was read; each line that was visited has a byte.
+abbrev pub RowRead : Bytes → ℕ → ℕ → ℕ → Answer (ℕ × Size) → Type 0
+RowRead s from count levels (refused q) = Unit {0}
+RowRead s from count levels (given (next, size)) =
+    ReadsRow s from count levels (given next)
+    × (size .len + 32 * from ≤ 32 * next)
+    × (size .lines + from ≤ next)
+
+-- the same of one tree
+abbrev pub FieldRead : Bytes → ℕ → ℕ → Answer (ℕ × Size) → Type 0
+FieldRead s at levels (refused q) = Unit {0}
+FieldRead s at levels (given (next, size)) =
+    ReadsTree s at levels (given next)
+    × (size .len + 32 * at ≤ 32 * next)
+    × (size .lines + at ≤ next)
+
+-- What a function tells: of the sheet, and, if a tree stands there, of what is written for it. Where none does, it answers some refusal.
+abbrev pub FieldTold : Bytes → Tree → Bytes → Bytes → Step → Type 0
+FieldTold s t out out' r = FieldRead s (t .at) (t .levels) (stepAnswer r) × FieldWrote s t out out' r
+
+-- each tree has a byte
+abbrev pub RowPast : ℕ → ℕ → Answer (ℕ × Size) → Type 0
+RowPast from count (refused q) = Unit {0}
+RowPast from count (given (next, size)) = count + from ≤ next
+
+abbrev pub FieldsTold : Bytes → Trees → Bytes → Bytes → Step → Type 0
+FieldsTold s w out out' r =
+    RowRead s (w .at) (w .count) (w .levels) (stepAnswer r) × RowPast (w .at) (w .count) (stepAnswer r) × FieldsWrote s w out out' r
+
+-- the subtrees that are visited and the last ones were read
+abbrev pub TypeTold : Bytes → Trees → ℕ → Bytes → Bytes → Step → Type 0
+TypeTold s w last out out' r = RowRead s (w .at) (w .count + last) (w .levels) (stepAnswer r) × TypeWrote s w last out out' r
 
 -- ── the subtrees below a node
 
@@ -147,13 +168,13 @@ HasFirst First c = 1 ≤ c
 HasFirst All c = Unit {0}
 HasFirst Values c = Unit {0}
 
-abbrev pub begunAnswer : TypeBegun → Answer (ℕ × (ℕ × Visit))
-begunAnswer (Begun.Row from len v) = given (from, (len, v))
-begunAnswer (Begun.Refused r) = refused (refusalOf r)
+abbrev pub begunAnswer : Begun → Answer (ℕ × (ℕ × Visit))
+begunAnswer (BegunCase.Row from len v) = given (from, (len, v))
+begunAnswer (BegunCase.Refused r) = refused (refusalOf r)
 
 -- The type's line is written, and, with metadata in that order, from `from` on stand the trees us that it visits, then vs that it does not, then ts; for the
 -- trees us n lines are visited.
-pub record LineBegins (big : Bool) (s : Bytes) (l : SchemaLine) (levels : ℕ) (o : Answer (List Bytes)) (n extra : ℕ) (ts : List Schema) (out out' : Bytes) (from len : ℕ) (v : Visit) : Type 0 where
+pub record LineBegins (big : Bool) (s : Bytes) (levels : ℕ) (o : Answer (List Bytes)) (n : ℕ) (ts : List Schema) (out out' : Bytes) (from len : ℕ) (v : Visit) : Type 0 where
   pub us : Schemas
   pub vs : List Schema
   pub line : Bytes
@@ -163,17 +184,30 @@ pub record LineBegins (big : Bool) (s : Bytes) (l : SchemaLine) (levels : ℕ) (
   pub becomes : o ≡ (rowWritten big (v .bare) us >>= λ ls. given (line ∷ ls))
   pub lines : n ≡ rowLines us
   pub put : PutFirst (ended (line ∷ [])) len out out'
-  pub long : len + 32 * l .end ≤ 32 * from + extra
-  pub after : l .end ≤ from
 
-abbrev pub BeginsAs : Bool → Bytes → SchemaLine → ℕ → Answer (List Bytes) → ℕ → ℕ → List Schema → Bytes → Bytes → Answer (ℕ × (ℕ × Visit)) → Type 0
-BeginsAs big s l levels o n extra ts out out' (given (from, (len, v))) = LineBegins big s l levels o n extra ts out out' from len v
-BeginsAs big s l levels o n extra ts out out' (refused q) = o ≡ refused q
+abbrev pub BeginsAs : Bool → Bytes → ℕ → Answer (List Bytes) → ℕ → List Schema → Bytes → Bytes → Answer (ℕ × (ℕ × Visit)) → Type 0
+BeginsAs big s levels o n ts out out' (given (from, (len, v))) = LineBegins big s levels o n ts out out' from len v
+BeginsAs big s levels o n ts out out' (refused q) = o ≡ refused q
 
-abbrev pub TypeBegins : Bytes → SchemaLine → Shown → ℕ → List ℕ → Bytes → Bytes → TypeBegun → Type 0
+abbrev pub TypeBegins : Bytes → SchemaLine → Shown → ℕ → List ℕ → Bytes → Bytes → Begun → Type 0
 TypeBegins s l w levels es out out' r =
     (x : Line) (cs : Schemas) (d : Dictionary) (ts : List Schema) (j : Option Info) → TypeAt s l levels x cs d ts → shownIn s l es w ≡ infoPiece j
-    → BeginsAs (w .big) s l levels (typeWritten (w .big) j (schema (nodeOf x) cs d)) (belowLines (schema (nodeOf x) cs d)) (typeLength s l w es) ts out out' (begunAnswer r)
+    → BeginsAs (w .big) s levels (typeWritten (w .big) j (schema (nodeOf x) cs d)) (belowLines (schema (nodeOf x) cs d)) ts out out' (begunAnswer r)
+
+-- a type's line is not much longer than its format and what it shows
+abbrev pub typeLength : Bytes → SchemaLine → Shown → List ℕ → ℕ
+typeLength s l w es = 108 + 21 * length (columnIn s (l .format)) + length (shownIn s l es w)
+
+-- the first subtrees were read up to `from`; with those that are visited and the last ones they are all below the node
+abbrev pub FirstRead : Bytes → SchemaLine → ℕ → ℕ → Answer (ℕ × (ℕ × Visit)) → Type 0
+FirstRead s l levels most (refused q) = Unit {0}
+FirstRead s l levels most (given (from, (len, v))) =
+    ReadsRow s (l .end) (v .first) levels (given from)
+    × (v .first + v .count + v .last ≡ l .dictionary + l .children)
+    × (len ≤ most)
+
+abbrev pub BegunTold : Bytes → SchemaLine → Shown → ℕ → List ℕ → Bytes → Bytes → Begun → Type 0
+BegunTold s l w levels es out out' r = FirstRead s l levels (typeLength s l w es) (begunAnswer r) × TypeBegins s l w levels es out out' r
 
 -- ── what is left
 
@@ -185,6 +219,14 @@ Ends s at size ts (given (next, size')) = (size' ≡ size) × Standing (drop nex
 abbrev pub TypeEnds : Bytes → ℕ → ℕ → ℕ → Size → Step → Type 0
 TypeEnds s at count levels size r = (us ts : List Schema) → LeftAt s at count levels us ts → Ends s at size ts (stepAnswer r)
 
+-- what is left was read
+abbrev pub LastRead : Bytes → ℕ → ℕ → ℕ → Size → Answer (ℕ × Size) → Type 0
+LastRead s at count levels size (refused q) = Unit {0}
+LastRead s at count levels size (given (next, size')) = (size' ≡ size) × ReadsRow s at count levels (given next)
+
+abbrev pub EndedTold : Bytes → ℕ → ℕ → ℕ → Size → Step → Type 0
+EndedTold s at count levels size r = LastRead s at count levels size (stepAnswer r) × TypeEnds s at count levels size r
+
 -- what was pending is refused now
 abbrev pub endedField : Answer (Unit {0}) → ℕ → Size → Answer (ℕ × Size)
 endedField (given u) next size = given (next, size)
@@ -192,3 +234,40 @@ endedField (refused q) next size = refused q
 
 abbrev pub FieldEnds : Pending → ℕ → Size → Step → Type 0
 FieldEnds p next size r = stepAnswer r ≡ endedField (pendingAnswer p) next size
+
+-- ── a node's own lines
+
+-- where its visited subtrees stand, how long its lines are, what is to be done below, and what is pending; or the refusal
+abbrev pub nodeAnswer : NodeBegun → Answer (ℕ × (ℕ × (Visit × Answer (Unit {0}))))
+nodeAnswer (Node.Row from len v p) = given (from, (len, (v, pendingAnswer p)))
+nodeAnswer (Node.Refused r) = refused (refusalOf r)
+
+-- the node's line was read, and the first subtrees below it up to `from`
+pub record NodeRead (s : Bytes) (t : Tree) (from len : ℕ) (v : Visit) : Type 0 where
+  pub line : SchemaLine
+  pub there : LineAt s (t .at) line
+  pub first : ReadsRow s (line .end) (v .first) (t .levels - 1) (given from)
+  pub all : v .first + v .count + v .last ≡ line .dictionary + line .children
+  pub long : len + 32 * t .at ≤ 32 * from
+
+-- The tree u stands there: its own lines are written, or a refusal of its own is pending; from `from` on stand the trees us that it visits, then vs that it does
+-- not, then ts.
+pub record NodeBegins (s : Bytes) (t : Tree) (u : Schema) (ts : List Schema) (out out' : Bytes) (from len : ℕ) (v : Visit) (pending : Answer (Unit {0})) : Type 0 where
+  pub us : Schemas
+  pub vs : List Schema
+  pub own : Answer (List Bytes)
+  pub visited : FieldsAt s from (v .count) (t .levels - 1) us (vs ++ ts)
+  pub others : length vs ≡ v .last
+  pub low : tallest schemaLevels vs ≤ t .levels - 1
+  pub becomes : written (t .big) (t .bare) u ≡ (rowWritten (t .big) (v .bare) us >>= λ ls. own >>= λ a. given (a ++ ls))
+  pub lines : importLines u ≡ 1 + rowLines us
+  pub pends : pending ≡ (own >>= λ a. given tt)
+  pub put : (a : List Bytes) → own ≡ given a → PutFirst (ended a) len out out'
+
+abbrev pub NodeAs : Bytes → Tree → Bytes → Bytes → Answer (ℕ × (ℕ × (Visit × Answer (Unit {0})))) → Type 0
+NodeAs s t out out' (refused q) = (u : Schema) (ts : List Schema) → FieldAt s (t .at) (t .levels) u ts → written (t .big) (t .bare) u ≡ refused q
+NodeAs s t out out' (given (from, (len, (v, p)))) =
+    NodeRead s t from len v × ((u : Schema) (ts : List Schema) → FieldAt s (t .at) (t .levels) u ts → NodeBegins s t u ts out out' from len v p)
+
+abbrev pub NodeTold : Bytes → Tree → Bytes → Bytes → NodeBegun → Type 0
+NodeTold s t out out' r = NodeAs s t out out' (nodeAnswer r)

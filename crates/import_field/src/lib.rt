@@ -1,17 +1,24 @@
-// The lines of a field from the lines of its schema, in a lent buffer. A field is read through its type, and a type through its fields.
+// The lines of a field from the lines of its schema, in a lent buffer. A field is read through its type, and a type through its fields. Each line is tested
+// when it is come to, and no line is looked at twice: where one breaks its rules, or has too many levels, some refusal is answered, and whoever asked
+// tests the sheet to tell which one comes first.
 ghost use mathlib.Core.Path.{_≡_};
+ghost use Prim.Native.Nat.{_≤_};
+ghost use lib.ListN.{length};
 ghost use Rattle.node.specs.Info.{HasEntries};
-ghost use Rattle.import_field.specs.Contracts.{HasFirst, visitOf, HasField, HasFields, HasLeft, HasType};
-ghost use Rattle.import_field.specs.Contracts.{TypeBegins, TypeEnds, FieldEnds, FieldWrote, FieldsWrote, TypeWrote};
+ghost use Rattle.sheets.specs.Sheet.{sheetLimit};
+ghost use Rattle.import_field.specs.Contracts.{HasFirst, visitOf, HasLine};
+ghost use Rattle.import_field.specs.Contracts.{BegunTold, NodeTold, EndedTold, FieldEnds, FieldTold, FieldsTold, TypeTold};
 use import_type::Below;
 use import_type::FormatPut;
 use node::Pending;
 use node::lines::Shown;
 use outcome::Size;
 use put_leaf::LeafPut;
+use put_leaf::NestedPut;
 use refusal::Refusal;
 use schema_line::SchemaLine;
-use schema_sheet::subtrees::Skipped;
+use schema_line::read::LineRead;
+use schema_sheet::trees::TreeRead;
 
 // A schema of at most `levels` levels that stands at `at`; the first line of its field is bare or not, and its metadata is big-endian or not.
 pub struct Tree {
@@ -83,7 +90,7 @@ fn visit_of(b: Below, children: u64) -> Visit
     }
 }
 
-// Writes the line of the type of a node and skips the subtrees before those that it visits; below the node are `levels` levels at most.
+// Writes the line of the type of a node and passes the subtrees before those that it visits; below the node are `levels` levels at most.
 fn begin_type(
     s: &[u8],
     line: SchemaLine,
@@ -92,36 +99,32 @@ fn begin_type(
     out: &mut [u8],
     entries: &[u32],
 ) -> TypeBegun
-    requires { ⌜ HasType (now s) line shown levels (now entries) ⌝ }
-    ensures { λ r. ⌜ TypeBegins (now (s .entry)) line shown levels (now (entries .entry)) (now (out .entry)) (now (out .exit)) r ⌝ }
+    requires { ⌜ HasLine (now s) line shown (now entries) ⌝ }
+    ensures { λ r. ⌜ BegunTold (now (s .entry)) line shown levels (now (entries .entry)) (now (out .entry)) (now (out .exit)) r ⌝ }
 {
     match node::put_type_line(s, line, shown, out, entries) {
         FormatPut::Refused(r) => TypeBegun::Refused(r),
         FormatPut::Put(len, b) => {
             let visit = visit_of(b, line.children);
-            // The whole sheet was read before, and no tree has more levels: this refusal never comes.
-            let Skipped::To(next) = schema_sheet::subtrees::skip_row(
-                s,
-                line.end,
-                visit.first,
-                levels,
-            ) else {
-                return TypeBegun::Refused(Refusal::TooDeep);
-            };
-            TypeBegun::Row(next, len, visit)
+            match schema_sheet::trees::read_row(s, line.end, visit.first, levels) {
+                TreeRead::Deep => TypeBegun::Refused(Refusal::TooDeep),
+                TreeRead::Bad => TypeBegun::Refused(Refusal::BadLines),
+                TreeRead::To(next) => TypeBegun::Row(next, len, visit),
+            }
         }
     }
 }
 
-// Skips the last `count` subtrees of a node.
+// Passes the last `count` subtrees of a node.
 fn end_type(s: &[u8], at: usize, count: u64, levels: usize, size: Size) -> Step
-    requires { ⌜ HasLeft (now s) at count levels ⌝ }
-    ensures { λ r. ⌜ TypeEnds (now (s .entry)) at count levels size r ⌝ }
+    requires { ⌜ at ≤ length (now s) ⌝ }
+    ensures { λ r. ⌜ EndedTold (now (s .entry)) at count levels size r ⌝ }
 {
-    let Skipped::To(next) = schema_sheet::subtrees::skip_row(s, at, count, levels) else {
-        return Step::Refused(Refusal::TooDeep);
-    };
-    Step::Done { next, size }
+    match schema_sheet::trees::read_row(s, at, count, levels) {
+        TreeRead::Deep => Step::Refused(Refusal::TooDeep),
+        TreeRead::Bad => Step::Refused(Refusal::BadLines),
+        TreeRead::To(next) => Step::Done { next, size },
+    }
 }
 
 // Metadata and name are refused after what stands below.
@@ -134,85 +137,127 @@ fn end_field(pending: Pending, next: usize, size: Size) -> Step
     }
 }
 
-// Writes the lines of a field, as far as they fit. Its metadata and its name are read first, since its line shows them, and refused last.
-pub fn to_field(
+// Where the visited subtrees of a node begin, how many bytes its own lines have, what is to be done below it, and the refusal that comes after that; or why the
+// node is refused at once.
+enum NodeBegun {
+    Row(usize, usize, Visit, Pending),
+    Refused(Refusal),
+}
+
+// Writes a node's own lines, that of its extension, if there is one, and its type's, and passes the subtrees before those that the type visits. Its metadata and
+// its name are read first, since its line shows them, and refused last.
+fn begin_any(
     s: &[u8],
     tree: Tree,
     out: &mut [u8],
     entries: &mut [u32],
     spare: &mut [u32],
-) -> Step
-    requires { ⌜ HasField (now s) tree × HasEntries (now s) (now entries) (now spare) ⌝ }
-    ensures { λ r. ⌜ FieldWrote (now (s .entry)) tree (now (out .entry)) (now (out .exit)) r ⌝ }
+) -> NodeBegun
+    requires { ⌜ 1 ≤ tree .levels ⌝ }
+    requires { ⌜ length (now s) ≤ sheetLimit ⌝ }
+    requires { ⌜ HasEntries (now s) (now entries) (now spare) ⌝ }
+    ensures { λ r. ⌜ NodeTold (now (s .entry)) tree (now (out .entry)) (now (out .exit)) r ⌝ }
 {
-    let line = schema_line::read::line_at(s, tree.at);
+    let LineRead::Line(line) = schema_line::read::read_line(s, tree.at) else {
+        return NodeBegun::Refused(Refusal::BadLines);
+    };
     let begun = node::begin_field(s, line, tree.bare, tree.big, out, entries, spare);
     let shown = begun.shown;
     let pending = begun.pending;
     let w = buffer::within(begun.len, out.len());
-    match to_dtype(
-        s,
-        line,
-        shown,
-        tree.levels - 1,
-        &mut out[w..],
-        entries,
-        spare,
-    ) {
-        Step::Refused(r) => Step::Refused(r),
-        Step::Done { next, size: below } => {
-            // An extension that the metadata makes is written as a line of its own, and is no line of the schema sheet.
-            let size = Size {
-                len: begun.len + below.len,
-                lines: 1 + below.lines,
-            };
-            end_field(pending, next, size)
-        }
+    match begin_type(s, line, shown, tree.levels - 1, &mut out[w..], entries) {
+        TypeBegun::Refused(r) => NodeBegun::Refused(r),
+        TypeBegun::Row(from, len, visit) => NodeBegun::Row(from, begun.len + len, visit, pending),
     }
 }
 
-// Reads the format of a node, and writes the line of its type and those of its fields, as far as they fit; below the node are `levels` levels at most.
-fn to_dtype(
+// The same; the line of a list or a struct with one child to nine is written at once, where it fits.
+fn begin_node(
     s: &[u8],
-    line: SchemaLine,
-    shown: Shown,
-    levels: usize,
+    tree: Tree,
     out: &mut [u8],
     entries: &mut [u32],
     spare: &mut [u32],
-) -> Step
-    requires { ⌜ HasType (now s) line shown levels (now entries) × HasEntries (now s) (now entries) (now spare) ⌝ }
-    ensures { λ r. ⌜ TypeWrote (now (s .entry)) line shown levels (now (entries .entry)) (now (out .entry)) (now (out .exit)) r ⌝ }
+) -> NodeBegun
+    requires { ⌜ 1 ≤ tree .levels ⌝ }
+    requires { ⌜ length (now s) ≤ sheetLimit ⌝ }
+    requires { ⌜ HasEntries (now s) (now entries) (now spare) ⌝ }
+    ensures { λ r. ⌜ NodeTold (now (s .entry)) tree (now (out .entry)) (now (out .exit)) r ⌝ }
 {
-    match begin_type(s, line, shown, levels, out, entries) {
-        TypeBegun::Refused(r) => Step::Refused(r),
-        TypeBegun::Row(from, len, visit) => {
+    match put_leaf::put_nested(s, tree.at, tree.bare, out) {
+        NestedPut::Other => begin_any(s, tree, out, entries, spare),
+        NestedPut::Put(next, len, count, last) => NodeBegun::Row(
+            next,
+            len,
+            Visit {
+                first: 0,
+                count,
+                bare: false,
+                last,
+            },
+            Pending::Nothing,
+        ),
+    }
+}
+
+// Writes the lines of a field, as far as they fit.
+fn to_field(s: &[u8], tree: Tree, out: &mut [u8], entries: &mut [u32], spare: &mut [u32]) -> Step
+    requires { ⌜ 1 ≤ tree .levels ⌝ }
+    requires { ⌜ length (now s) ≤ sheetLimit ⌝ }
+    requires { ⌜ HasEntries (now s) (now entries) (now spare) ⌝ }
+    ensures { λ r. ⌜ FieldTold (now (s .entry)) tree (now (out .entry)) (now (out .exit)) r ⌝ }
+{
+    match begin_node(s, tree, out, entries, spare) {
+        NodeBegun::Refused(r) => Step::Refused(r),
+        NodeBegun::Row(from, len, visit, pending) => {
             let w = buffer::within(len, out.len());
             let row = Trees {
                 at: from,
                 count: visit.count,
-                levels,
+                levels: tree.levels - 1,
                 bare: visit.bare,
-                big: shown.big,
+                big: tree.big,
             };
-            match to_fields(s, row, &mut out[w..], entries, spare) {
+            match to_dtype(s, row, visit.last, &mut out[w..], entries, spare) {
                 Step::Refused(r) => Step::Refused(r),
                 Step::Done { next, size: below } => {
                     let size = Size {
                         len: len + below.len,
-                        lines: below.lines,
+                        lines: 1 + below.lines,
                     };
-                    end_type(s, next, visit.last, levels, size)
+                    end_field(pending, next, size)
                 }
             }
         }
     }
 }
 
+// Writes the lines of the fields of a type, as far as they fit, and passes the last subtrees of its node, which it does not visit.
+fn to_dtype(
+    s: &[u8],
+    row: Trees,
+    last: u64,
+    out: &mut [u8],
+    entries: &mut [u32],
+    spare: &mut [u32],
+) -> Step
+    requires { ⌜ length (now s) ≤ sheetLimit ⌝ }
+    requires { ⌜ row .at ≤ length (now s) ⌝ }
+    requires { ⌜ HasEntries (now s) (now entries) (now spare) ⌝ }
+    ensures { λ r. ⌜ TypeTold (now (s .entry)) row last (now (out .entry)) (now (out .exit)) r ⌝ }
+{
+    match to_fields(s, row, out, entries, spare) {
+        Step::Refused(r) => Step::Refused(r),
+        Step::Done { next, size } => end_type(s, next, last, row.levels, size),
+    }
+}
+
 // Writes the lines of fields whose schemas stand one after the other, as far as they fit.
 fn to_fields(s: &[u8], row: Trees, out: &mut [u8], entries: &mut [u32], spare: &mut [u32]) -> Step
-    requires { ⌜ HasFields (now s) row × HasEntries (now s) (now entries) (now spare) ⌝ }
-    ensures { λ r. ⌜ FieldsWrote (now (s .entry)) row (now (out .entry)) (now (out .exit)) r ⌝ }
+    requires { ⌜ length (now s) ≤ sheetLimit ⌝ }
+    requires { ⌜ row .at ≤ length (now s) ⌝ }
+    requires { ⌜ HasEntries (now s) (now entries) (now spare) ⌝ }
+    ensures { λ r. ⌜ FieldsTold (now (s .entry)) row (now (out .entry)) (now (out .exit)) r ⌝ }
 {
     let mut here = row.at;
     let mut sum = 0;
@@ -242,11 +287,15 @@ fn to_fields(s: &[u8], row: Trees, out: &mut [u8], entries: &mut [u32], spare: &
     Step::Done { next: here, size }
 }
 
-// The same as `to_field`; the line of a leaf is written at once, where it fits.
+// The same as `to_field`, unless no level is left; the line of a leaf is written at once, where it fits.
 fn next_field(s: &[u8], tree: Tree, out: &mut [u8], entries: &mut [u32], spare: &mut [u32]) -> Step
-    requires { ⌜ HasField (now s) tree × HasEntries (now s) (now entries) (now spare) ⌝ }
-    ensures { λ r. ⌜ FieldWrote (now (s .entry)) tree (now (out .entry)) (now (out .exit)) r ⌝ }
+    requires { ⌜ length (now s) ≤ sheetLimit ⌝ }
+    requires { ⌜ HasEntries (now s) (now entries) (now spare) ⌝ }
+    ensures { λ r. ⌜ FieldTold (now (s .entry)) tree (now (out .entry)) (now (out .exit)) r ⌝ }
 {
+    if tree.levels == 0 {
+        return Step::Refused(Refusal::TooDeep);
+    }
     match put_leaf::put_leaf(s, tree.at, tree.bare, out) {
         LeafPut::Put(next, len) => {
             let size = Size { len, lines: 1 };
@@ -264,8 +313,10 @@ pub fn to_first_field(
     entries: &mut [u32],
     spare: &mut [u32],
 ) -> Step
-    requires { ⌜ HasField (now s) tree × HasEntries (now s) (now entries) (now spare) ⌝ }
-    ensures { λ r. ⌜ FieldWrote (now (s .entry)) tree (now (out .entry)) (now (out .exit)) r ⌝ }
+    requires { ⌜ length (now s) ≤ sheetLimit ⌝ }
+    requires { ⌜ tree .at ≤ length (now s) ⌝ }
+    requires { ⌜ HasEntries (now s) (now entries) (now spare) ⌝ }
+    ensures { λ r. ⌜ FieldTold (now (s .entry)) tree (now (out .entry)) (now (out .exit)) r ⌝ }
 {
     let row = Trees {
         at: tree.at,

@@ -1,9 +1,13 @@
 -- What the functions of import tell of the whole sheet. Assumes nothing.
-use mathlib.Core.Bool.{Bool, false}
+use mathlib.Core.Path.{_≡_}
+use mathlib.Core.Bool.{Bool, false, cond}
 use mathlib.Core.List.{List}
 use Prim.Native.Nat.{ℕ}
+use lib.Dec.{ltb}
+use lib.ListN.{length}
+use Rattle.sheets.specs.Refusal.{badLines}
 use Rattle.sheets.specs.Bytes.{Bytes}
-use Rattle.sheets.specs.Answer.{Answer, given, _>>=_}
+use Rattle.sheets.specs.Answer.{Answer, refused, given, _>>=_}
 use Rattle.sheets.specs.Sheet.{levelLimit}
 use Rattle.sheets.specs.Schema.{Schema, readSchemaSheet}
 use Rattle.sheets.specs.FieldSheet.{writeFieldSheet}
@@ -11,6 +15,11 @@ use Rattle.sheets.specs.Import.{toField}
 use Rattle.sheets.specs.Visits.{importLines}
 use Rattle.sheets.specs.Outcome.{imported, linesIn}
 use Rattle.outcome.specs.Answers.{SheetTold}
+use Rattle.outcome.specs.declared.Size.{Size}
+use Rattle.refusal.specs.declared.Refusal.{Refusal as Reason}
+use Rattle.refusal.specs.Refusals.{refusalOf}
+use Rattle.schema_sheet.specs.Trees.{ReadsTree}
+use Rattle.schema_sheet.specs.Sheets.{sheetBody}
 use Rattle.import_field.specs.declared.Tree.{Tree}
 use Rattle.import_field.specs.declared.Step.{Step}
 use Rattle.import_field.specs.Contracts.{FieldAt, stepAnswer}
@@ -23,11 +32,29 @@ sheetOf big t = toField big t >>= λ f. given (writeFieldSheet f)
 abbrev pub treeOf : ℕ → Bool → Tree
 treeOf at big = record { at = at; levels = levelLimit; bare = false; big = big }
 
+-- the sheet's tree was read up to next
+abbrev pub FirstReads : Bytes → ℕ → Answer (ℕ × Size) → Type 0
+FirstReads s at (refused q) = Unit {0}
+FirstReads s at (given (next, size)) = ReadsTree s at levelLimit (given next)
+
 abbrev pub SheetWrote : Bytes → ℕ → Bool → Bytes → Bytes → Step → Type 0
 SheetWrote s at big out out' r = (t : Schema) (ts : List Schema) → FieldAt s at levelLimit t ts → SheetTold (sheetOf big t) (importLines t) out out' (stepAnswer r)
 
-abbrev pub HasSheet : Bytes → ℕ → Type 0
-HasSheet s at = (t : Schema) × (ts : List Schema) × FieldAt s at levelLimit t ts
+-- what is told of the sheet's lines, and, if the sheet's tree stands there, of what is written for it
+abbrev pub SheetWrites : Bytes → ℕ → Bool → Bytes → Bytes → Step → Type 0
+SheetWrites s at big out out' r = FirstReads s at (stepAnswer r) × SheetWrote s at big out out' r
+
+-- the lines end where the sheet does, or lines are left over
+abbrev pub EndsAt : Bytes → ℕ → Size → Step → Type 0
+EndsAt s next size r = stepAnswer r ≡ cond (ltb next (length s)) (refused badLines) (given (next, size))
+
+-- the sheet's own refusal, or else r
+abbrev pub orElse : Answer ℕ → Reason → Answer ℕ
+orElse (refused q) r = refused q
+orElse (given at) r = refused (refusalOf r)
+
+abbrev pub FirstOf : Bytes → Reason → Reason → Type 0
+FirstOf s r q = refused (refusalOf q) ≡ orElse (sheetBody s) r
 
 -- the sheet is read, and its field sheet written as far as it fits
 abbrev pub Converts : Bool → Bytes → Bytes → Bytes → Step → Type 0

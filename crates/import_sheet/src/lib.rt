@@ -5,15 +5,17 @@ ghost use lib.ListN.{length};
 ghost use Rattle.sheets.specs.Outcome.{importOutcomeIn, measureImportOutcome};
 ghost use Rattle.outcome.specs.Answers.{outcomeOf, measureOf};
 ghost use Rattle.node.specs.Info.{HasEntries};
-ghost use Rattle.import_sheet.specs.Sheets.{HasSheet, SheetWrote, Converts};
+ghost use Rattle.sheets.specs.Sheet.{sheetLimit};
+ghost use Rattle.import_sheet.specs.Sheets.{SheetWrites, EndsAt, FirstOf, Converts};
 use import_field::Step;
 use import_field::Tree;
 use outcome::Answered;
 use outcome::Measured;
 use outcome::Size;
+use refusal::Refusal;
 use schema_sheet::SheetRead;
 
-// Writes the heading and the field's lines, as far as they fit.
+// Writes the heading and the field's lines, as far as they fit, and tests each line that it comes to.
 fn put_sheet(
     s: &[u8],
     at: usize,
@@ -22,8 +24,9 @@ fn put_sheet(
     entries: &mut [u32],
     spare: &mut [u32],
 ) -> Step
-    requires { ⌜ HasSheet (now s) at × HasEntries (now s) (now entries) (now spare) ⌝ }
-    ensures { λ r. ⌜ SheetWrote (now (s .entry)) at big (now (out .entry)) (now (out .exit)) r ⌝ }
+    requires { ⌜ (length (now s) ≤ sheetLimit) × (at ≤ length (now s)) ⌝ }
+    requires { ⌜ HasEntries (now s) (now entries) (now spare) ⌝ }
+    ensures { λ r. ⌜ SheetWrites (now (s .entry)) at big (now (out .entry)) (now (out .exit)) r ⌝ }
 {
     let head = field_line::put_heading(out);
     let w = buffer::within(head, out.len());
@@ -48,8 +51,8 @@ fn put_sheet(
 // A metadata pair takes 16 digits of the sheet. The entries of the pairs are lent down from here, so that they stand on the stack once and not at
 // each of 32 levels; and there are two sizes, so that a short sheet does not pay for clearing 32,768 bytes.
 fn put_short(s: &[u8], at: usize, big: bool, out: &mut [u8]) -> Step
-    requires { ⌜ HasSheet (now s) at × (length (now s) ≤ 2048) ⌝ }
-    ensures { λ r. ⌜ SheetWrote (now (s .entry)) at big (now (out .entry)) (now (out .exit)) r ⌝ }
+    requires { ⌜ (length (now s) ≤ 2048) × (at ≤ length (now s)) ⌝ }
+    ensures { λ r. ⌜ SheetWrites (now (s .entry)) at big (now (out .entry)) (now (out .exit)) r ⌝ }
 {
     let mut entries: [u32; 128] = [0; 128];
     let mut spare: [u32; 128] = [0; 128];
@@ -57,8 +60,8 @@ fn put_short(s: &[u8], at: usize, big: bool, out: &mut [u8]) -> Step
 }
 
 fn put_long(s: &[u8], at: usize, big: bool, out: &mut [u8]) -> Step
-    requires { ⌜ HasSheet (now s) at ⌝ }
-    ensures { λ r. ⌜ SheetWrote (now (s .entry)) at big (now (out .entry)) (now (out .exit)) r ⌝ }
+    requires { ⌜ (length (now s) ≤ sheetLimit) × (at ≤ length (now s)) ⌝ }
+    ensures { λ r. ⌜ SheetWrites (now (s .entry)) at big (now (out .entry)) (now (out .exit)) r ⌝ }
 {
     let mut entries: [u32; 4096] = [0; 4096];
     let mut spare: [u32; 4096] = [0; 4096];
@@ -66,8 +69,8 @@ fn put_long(s: &[u8], at: usize, big: bool, out: &mut [u8]) -> Step
 }
 
 fn put_by_length(s: &[u8], at: usize, big: bool, out: &mut [u8]) -> Step
-    requires { ⌜ HasSheet (now s) at ⌝ }
-    ensures { λ r. ⌜ SheetWrote (now (s .entry)) at big (now (out .entry)) (now (out .exit)) r ⌝ }
+    requires { ⌜ (length (now s) ≤ sheetLimit) × (at ≤ length (now s)) ⌝ }
+    ensures { λ r. ⌜ SheetWrites (now (s .entry)) at big (now (out .entry)) (now (out .exit)) r ⌝ }
 {
     if s.len() <= 2048 {
         return put_short(s, at, big, out);
@@ -75,13 +78,36 @@ fn put_by_length(s: &[u8], at: usize, big: bool, out: &mut [u8]) -> Step
     put_long(s, at, big, out)
 }
 
+// The lines were written in one pass, up to `next`, and none was wrong: one that is left over is.
+fn all_read(s: &[u8], next: usize, size: Size) -> Step
+    ensures { λ r. ⌜ EndsAt (now (s .entry)) next size r ⌝ }
+{
+    if next < s.len() {
+        return Step::Refused(Refusal::BadLines);
+    }
+    Step::Done { next, size }
+}
+
+// Something was refused on the way with r: 1, 2 and 3 come before it, wherever in the sheet they are, and only now they are looked for.
+fn first_refusal(s: &[u8], r: Refusal) -> Refusal
+    ensures { λ q. ⌜ FirstOf (now (s .entry)) r q ⌝ }
+{
+    match schema_sheet::read_sheet(s) {
+        SheetRead::Refused(q) => q,
+        SheetRead::Body(_) => r,
+    }
+}
+
 // Writes the field sheet of a schema sheet, as far as it fits.
 fn convert(s: &[u8], big: bool, out: &mut [u8]) -> Step
     ensures { λ r. ⌜ Converts big (now (s .entry)) (now (out .entry)) (now (out .exit)) r ⌝ }
 {
-    match schema_sheet::read_sheet(s) {
-        SheetRead::Refused(r) => Step::Refused(r),
-        SheetRead::Body(at) => put_by_length(s, at, big, out),
+    if !schema_sheet::is_sheet(s) {
+        return Step::Refused(Refusal::NotSheet);
+    }
+    match put_by_length(s, schema_sheet::HEADING, big, out) {
+        Step::Refused(r) => Step::Refused(first_refusal(s, r)),
+        Step::Done { next, size } => all_read(s, next, size),
     }
 }
 

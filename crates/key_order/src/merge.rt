@@ -5,7 +5,7 @@ ghost use mathlib.Core.List.{_++_};
 ghost use Prim.Native.Nat.{_+_, _≤_};
 ghost use lib.ListN.{length, take, drop};
 ghost use Rattle.sheets.specs.Rule.{Meets};
-ghost use Rattle.key_order.specs.Entry.{keyAt};
+ghost use Rattle.key_order.specs.Entry.{restAt};
 ghost use Rattle.key_order.specs.Merge.{ascends, precedes, Mergeable, Halves, Merges};
 use byte_order::Ordering;
 
@@ -23,9 +23,9 @@ pub fn put_at(out: &mut [u32], at: usize, s: &[u32]) -> usize
 }
 
 // Merges a and b into out; of equal keys that of b stays. How many entries there are.
-fn merge(text: &[u8], a: &[u32], b: &[u32], out: &mut [u32]) -> usize
-    requires { ⌜ Mergeable (keyAt (now text)) (now a) (now b) (now out) ⌝ }
-    ensures { λ r. ⌜ Merges (keyAt (now (text .entry))) (now (a .entry)) (now (b .entry)) (now (out .exit)) r ⌝ }
+fn merge(text: &[u8], a: &[u32], b: &[u32], out: &mut [u32], shared: u32) -> usize
+    requires { ⌜ Mergeable (restAt (now text) shared) (now a) (now b) (now out) ⌝ }
+    ensures { λ r. ⌜ Merges (restAt (now (text .entry)) shared) (now (a .entry)) (now (b .entry)) (now (out .exit)) r ⌝ }
 {
     let mut i = 0;
     let mut j = 0;
@@ -36,7 +36,7 @@ fn merge(text: &[u8], a: &[u32], b: &[u32], out: &mut [u32]) -> usize
         }
         let p = a[i];
         let q = b[j];
-        match crate::compare_keys(text, p, q) {
+        match crate::compare_keys(text, p, q, shared) {
             Ordering::Less => {
                 out[k] = p;
                 i += 1;
@@ -59,9 +59,9 @@ fn merge(text: &[u8], a: &[u32], b: &[u32], out: &mut [u32]) -> usize
 }
 
 // Whether all keys of a come before those of b: the last of a and the first of b tell.
-fn all_before(text: &[u8], a: &[u32], b: &[u32]) -> bool
-    requires { ⌜ Meets (ascends (keyAt (now text)) (now a)) × Meets (ascends (keyAt (now text)) (now b)) ⌝ }
-    ensures { λ r. ⌜ (r ≡ true → Meets (precedes (keyAt (now (text .entry))) (now (a .entry)) (now (b .entry)))) ⌝ }
+fn all_before(text: &[u8], a: &[u32], b: &[u32], shared: u32) -> bool
+    requires { ⌜ Meets (ascends (restAt (now text) shared) (now a)) × Meets (ascends (restAt (now text) shared) (now b)) ⌝ }
+    ensures { λ r. ⌜ (r ≡ true → Meets (precedes (restAt (now (text .entry)) shared) (now (a .entry)) (now (b .entry)))) ⌝ }
 {
     if a.len() == 0 {
         return false;
@@ -71,7 +71,10 @@ fn all_before(text: &[u8], a: &[u32], b: &[u32]) -> bool
     }
     let p = a[a.len() - 1];
     let q = b[0];
-    byte_order::is_before(crate::key_of(text, p), crate::key_of(text, q))
+    byte_order::is_before(
+        crate::rest_of(text, p, shared),
+        crate::rest_of(text, q, shared),
+    )
 }
 
 fn put_both(out: &mut [u32], a: &[u32], b: &[u32]) -> usize
@@ -83,17 +86,17 @@ fn put_both(out: &mut [u32], a: &[u32], b: &[u32]) -> usize
 }
 
 // Merges a and b into out as `merge` does, at once where one of them comes wholly before the other.
-fn join(text: &[u8], a: &[u32], b: &[u32], out: &mut [u32]) -> usize
-    requires { ⌜ Mergeable (keyAt (now text)) (now a) (now b) (now out) ⌝ }
-    ensures { λ r. ⌜ Merges (keyAt (now (text .entry))) (now (a .entry)) (now (b .entry)) (now (out .exit)) r ⌝ }
+fn join(text: &[u8], a: &[u32], b: &[u32], out: &mut [u32], shared: u32) -> usize
+    requires { ⌜ Mergeable (restAt (now text) shared) (now a) (now b) (now out) ⌝ }
+    ensures { λ r. ⌜ Merges (restAt (now (text .entry)) shared) (now (a .entry)) (now (b .entry)) (now (out .exit)) r ⌝ }
 {
-    if all_before(text, a, b) {
+    if all_before(text, a, b, shared) {
         return put_both(out, a, b);
     }
-    if all_before(text, b, a) {
+    if all_before(text, b, a, shared) {
         return put_both(out, b, a);
     }
-    merge(text, a, b, out)
+    merge(text, a, b, out, shared)
 }
 
 // Merges the two parts of `from` that `sort_into` has sorted.
@@ -104,10 +107,11 @@ pub fn join_halves(
     half: usize,
     a: usize,
     b: usize,
+    shared: u32,
 ) -> usize
-    requires { ⌜ Halves (keyAt (now text)) (now from) (now out) half a b ⌝ }
-    ensures { λ r. ⌜ Merges (keyAt (now (text .entry))) (take a (now (from .entry))) (take b (drop half (now (from .entry)))) (now (out .exit)) r ⌝ }
+    requires { ⌜ Halves (restAt (now text) shared) (now from) (now out) half a b ⌝ }
+    ensures { λ r. ⌜ Merges (restAt (now (text .entry)) shared) (take a (now (from .entry))) (take b (drop half (now (from .entry)))) (now (out .exit)) r ⌝ }
 {
     let end = half + b;
-    join(text, &from[..a], &from[half..end], out)
+    join(text, &from[..a], &from[half..end], out, shared)
 }

@@ -1,14 +1,14 @@
 -- The format of a short line: digits that say a fixed name of one byte say a byte of ASCII, which means the type of its kind. The rule of the rows is one computed
 -- test. Assumes nothing.
 use mathlib.Core.Path.{_≡_, refl, sym, ap, subst, _∙_}
-use mathlib.Core.Bool.{Bool, true, false, cond}
+use mathlib.Core.Bool.{Bool, true, false, not, cond}
 use mathlib.Core.List.{List, [], _∷_}
 use mathlib.Core.Option.{some}
 use Prim.Native.Nat.{ℕ, _≤_, _<_}
 use native.Mathlib.Omega.{arith}
 use lib.Dec.{eqb, leb, ltb}
 use lib.ListN.{length, getD}
-use borrow.Author.Tests.{eqb-true, leb-true, ltb-true, lt-ltb, ne-eqb}
+use borrow.Author.Tests.{eqb-true, leb-true, ltb-true, lt-ltb, le-leb, ne-eqb}
 use Rattle.sheets.specs.Rule.{Rule, is, _and_, each, Meets}
 use Rattle.sheets.specs.Bytes.{Bytes, all, isByte, same}
 use Rattle.sheets.specs.Text.{hex}
@@ -19,12 +19,14 @@ use Rattle.sheets.specs.FixedNames.{namedFormat}
 use Rattle.sheets.specs.Kind
 use Rattle.sheets.proofs.Tests.{not-some, meets}
 use Rattle.sheets.proofs.BytesLaws.{same-eq}
+use Rattle.sheets.proofs.Utf8Laws.{ascii-utf8}
 use Rattle.hex.proofs.PartLaws.{is-hex-hex, bytes-hex}
 use Rattle.format_names.specs.Names.{leafNamed}
 use Rattle.format_names.specs.ShortNames.{shortRows, kindAmong, withoutUnit}
 use Rattle.format_names.proofs.NameLaws.{name-says}
 use Rattle.format_names.proofs.ShortLaws.{short-named}
-use Rattle.leaf_line.specs.Leaf.{Names}
+use Rattle.leaf_line.specs.Short.{Names}
+use Rattle.leaf_line.specs.Leaf.{leafFormat}
 
 abbrev rowRule : FormatRow → Rule
 rowRule r = is (eqb (length (r .name)) 1) and (is (ltb 0 (getD (r .name) 0 0)) and (is (ltb (getD (r .name) 0 0) 128) and is (leb (r .kind) Kind.LargeUtf8)))
@@ -77,8 +79,17 @@ leaf-kind sorted kind h =
     rw (ne-eqb kind Kind.List (λ e. omega arith), ne-eqb kind Kind.LargeList (λ e. omega arith), ne-eqb kind Kind.Map (λ e. omega arith), ne-eqb kind Kind.Struct (λ e. omega arith))
 
 -- the byte that the digits of a format say
-pub kind-names : (t : Bytes) (kind : ℕ) → kindAmong t shortRows ≡ some kind → (byte : ℕ) × (t ≡ hex (byte ∷ [])) × Names byte kind × (kind ≤ Kind.LargeUtf8)
+pub kind-names : (t : Bytes) (kind : ℕ) → kindAmong t shortRows ≡ some kind → (byte : ℕ) × (t ≡ hex (byte ∷ [])) × Names (leafFormat kind) (byte ∷ [])
 kind-names t kind e =
     let s = among t kind shortRows rows-rule e in
-    let n = means (s .byte) kind (s .ascii) (ap (λ (b : Bytes). kindAmong b shortRows) (sym (s .digits)) ∙ e) in
-    (s .byte, s .digits, record { some = s .some; ascii = s .ascii; means = λ sorted. sym (name-says sorted (s .byte ∷ []) kind 0 n) ∙ ap given (leaf-kind sorted kind (s .known)) }, s .known)
+    let n = means (s .byte) kind (s .ascii) (ap (λ (b : Bytes). kindAmong b shortRows) (sym (s .digits)) ∙ e) in (
+      s .byte,
+      s .digits,
+      record {
+        some = omega arith;
+        nonzero = (ap not (ne-eqb (s .byte) 0 (λ z. omega (arith, s .some))), refl);
+        utf8 = ascii-utf8 (s .byte ∷ []) (le-leb (s .byte) 127 (omega (arith, s .ascii)), refl);
+        means = λ sorted. sym (name-says sorted (s .byte ∷ []) kind 0 n) ∙ ap given (leaf-kind sorted kind (s .known));
+        known = omega (arith, s .known);
+      },
+    )

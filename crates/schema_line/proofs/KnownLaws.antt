@@ -1,82 +1,50 @@
--- A line that is known to stand, walked from column to column: each end that `text_end` or `number_end` finds is the column's (`Ends`). So what `readLine`
--- gives is found by looking at one column after the other, and where that fails there is no line (`walk-refused`). For callers: `line-told` and
+-- A line that stands, walked from column to column: the place where each column stops is the column's end (`Ends`). So what `readLine` gives is found by
+-- looking at one column after the other, and where that fails there is no line (`walk-refused`). For callers: `line-told` and
 -- `line-refused`. Assumes nothing.
 use mathlib.Core.Path.{_≡_, refl, sym, ap, subst, _∙_}
 use mathlib.Core.List.{_∷_}
 use Prim.Native.Nat.{ℕ, suc, _+_, _^_, _<_}
 use native.Mathlib.Omega.{arith}
-use lib.IntN.{ℤ}
-use lib.Signed.{mag}
 use lib.ListN.{length, drop, length-append, length-drop}
-use borrow.Author.Tests.{ltb-true, lt-ltb}
+use borrow.Author.Tests.{lt-ltb}
 use Rattle.sheets.specs.Refusal.{badLines}
 use Rattle.sheets.specs.Rule.{Meets}
 use Rattle.sheets.specs.Bytes.{Bytes}
 use Rattle.sheets.specs.Answer.{refused, given}
 use Rattle.sheets.specs.Codec.{number, signed, text, done, _▸_}
-use Rattle.sheets.specs.Number.{readNumber, readSigned}
 use Rattle.sheets.specs.Schema.{Line, childrenOf, dictionaryOf}
-use Rattle.sheets.specs.TreeWalks.{HasTree}
-use Rattle.sheets.specs.SchemaTrees.{Row, schemas}
-use Rattle.sheets.proofs.Tests.{not-given, same-given}
-use Rattle.sheets.proofs.FormLaws.{row-begins, standing-row}
-use Rattle.columns.specs.Columns.{part, stopFrom, ColumnAt}
-use Rattle.columns.specs.NumberColumns.{HasNumber, HasSigned}
+use Rattle.sheets.specs.SchemaTrees.{Row}
+use Rattle.sheets.proofs.Tests.{not-given}
+use Rattle.sheets.proofs.FormLaws.{row-begins}
+use Rattle.columns.specs.Columns.{stopFrom, ColumnAt}
 use Rattle.columns.proofs.TailLaws.{Found, found, last-found, tail-last}
 use Rattle.schema_line.specs.declared.SchemaLine.{SchemaLine}
 use Rattle.schema_line.specs.Lines.{lineRule, readLine, shownAt, Stands, LineAt}
-use Rattle.schema_line.proofs.LineLaws.{Ends, shown, walk, ends-shown, ends-read, ends-walk, ends-line, read-stands, read-refused, stands-read}
+use Rattle.schema_line.proofs.LineLaws.{Ends, walk, ends-shown, ends-walk, ends-line, read-stands, read-refused, stands-read}
 
-module _ {s : Bytes} {at : ℕ} {x : Line} {rest : Bytes} (b : Stands s at x rest) (rule : Meets (lineRule x)) {f : ℕ} (ef : f ≡ stopFrom s at) where
+module _ {s : Bytes} {at : ℕ} {x : Line} {rest : Bytes} (b : Stands s at x rest) {f : ℕ} (ef : f ≡ stopFrom s at) where
   format-found : Found text (text ▸ signed ▸ text ▸ number ▸ number ▸ done) s at f x rest
   format-found = found text text (signed ▸ text ▸ number ▸ number ▸ done) (record { bytes = b .bytes; is = b .is; free = b .free; reads = b .reads }) ef
-
-  pub format-within : f < length s
-  format-within = format-found .column .high
 
   module _ {n : ℕ} (en : n ≡ stopFrom s (f + 1)) where
     name-found : Found text (signed ▸ text ▸ number ▸ number ▸ done) s (f + 1) n (x .1) rest
     name-found = found text signed (text ▸ number ▸ number ▸ done) (format-found .after) en
 
-    pub name-within : n < length s
-    name-within = name-found .column .high
-
     module _ {g : ℕ} (eg : g ≡ stopFrom s (n + 1)) where
       flags-found : Found signed (text ▸ number ▸ number ▸ done) s (n + 1) g (x .1 .1) rest
       flags-found = found signed text (number ▸ number ▸ done) (name-found .after) eg
-
-      pub flags-within : g < length s
-      flags-within = flags-found .column .high
-
-      flags-small : mag (x .1 .1 .0) < 2 ^ 63
-      flags-small = ltb-true (mag (x .1 .1 .0)) (2 ^ 63) (rule .0 .1 .1)
-
-      pub flags-signed : HasSigned s (n + 1) g
-      flags-signed = (x .1 .1 .0, flags-found .reads, flags-small, flags-found .column .low, omega (arith, flags-found .column .high))
-
-      pub flags-fit : {z : ℤ} → readSigned (part s (n + 1) g) ≡ given z → mag z < 2 ^ 63
-      flags-fit {z} r = subst (λ (y : ℤ). mag y < 2 ^ 63) (same-given (sym (flags-found .reads) ∙ r)) flags-small
 
       module _ {m : ℕ} (em : m ≡ stopFrom s (g + 1)) where
         metadata-found : Found text (number ▸ number ▸ done) s (g + 1) m (x .1 .1 .1) rest
         metadata-found = found text number (number ▸ done) (flags-found .after) em
 
-        pub metadata-within : m < length s
-        metadata-within = metadata-found .column .high
-
         module _ {h : ℕ} (eh : h ≡ stopFrom s (m + 1)) where
           children-found : Found number (number ▸ done) s (m + 1) h (x .1 .1 .1 .1) rest
           children-found = found number number done (metadata-found .after) eh
 
-          pub children-within : h < length s
-          children-within = children-found .column .high
-
           module _ {e : ℕ} (ee : e ≡ stopFrom s (h + 1)) where
             last : ColumnAt s (h + 1) e 10
             last = last-found number (children-found .after) ee
-
-            pub dictionary-within : e < length s
-            dictionary-within = last .high
 
             pub ends : Ends s at x f n g m h e
             ends =
@@ -95,31 +63,11 @@ module _ {s : Bytes} {at : ℕ} {x : Line} {rest : Bytes} (b : Stands s at x res
                   isDictionary = tail-last number (children-found .after) last .0;
                 }
 
-            -- the line with the numbers that were read
-            pub line-known : {z : ℤ} {c d : ℕ} → readSigned (part s (n + 1) g) ≡ given z → readNumber (part s (m + 1) h) ≡ given c → readNumber (part s (h + 1) e) ≡ given d
-                → readLine s at ≡ given (shown at f n g m e z c d)
-            line-known {z} {c} {d} rz rc rd =
-                let k = ends in
-                let pz : x .1 .1 .0 ≡ z = same-given (sym (k .isFlags) ∙ rz) in
-                let pc : childrenOf x ≡ c = same-given (sym (k .isChildren) ∙ rc) in
-                let pd : dictionaryOf x ≡ d = same-given (sym (k .isDictionary) ∙ rd) in
-                ends-read k rule ∙ (λ i. given (shown at f n g m e (pz i) (pc i) (pd i)))
-
--- the numbers that stand there
-module _ {s : Bytes} {at : ℕ} {x : Line} {rest : Bytes} (b : Stands s at x rest) (rule : Meets (lineRule x)) {f n g m : ℕ} (ef : f ≡ stopFrom s at) (en : n ≡ stopFrom s (f + 1)) (eg : g ≡ stopFrom s (n + 1)) (em : m ≡ stopFrom s (g + 1)) where
-  pub children-number : HasNumber s (m + 1)
-  children-number = let k = children-found b rule ef en eg em refl in (_, 32, k .column, refl, childrenOf x, k .reads, ltb-true (childrenOf x) (2 ^ 64) (rule .1 .0))
-
-  pub dictionary-number : {h : ℕ} → h ≡ stopFrom s (m + 1) → HasNumber s (h + 1)
-  dictionary-number eh =
-      let k = last b rule ef en eg em eh refl in
-      (_, 10, k, refl, dictionaryOf x, tail-last number (children-found b rule ef en eg em eh .after) k .0, omega (arith, ltb-true (dictionaryOf x) 2 (rule .1 .1)))
-
 -- ── a line that stands
 
 module _ {s : Bytes} {at : ℕ} {x : Line} {rest : Bytes} (b : Stands s at x rest) (rule : Meets (lineRule x)) where
   stands-ends : (f : ℕ) × (n : ℕ) × (g : ℕ) × (m : ℕ) × (h : ℕ) × (e : ℕ) × Ends s at x f n g m h e
-  stands-ends = (_, _, _, _, _, _, ends b rule refl refl refl refl refl refl)
+  stands-ends = (_, _, _, _, _, _, ends b refl refl refl refl refl refl)
 
   stands-walk : (l : SchemaLine) × (walk s at ≡ given l)
   stands-walk = let k = stands-ends in (_, ends-walk (k .6) rule)
@@ -133,9 +81,6 @@ row-stands s at fits w =
     let k = row-begins w in
     let few : childrenOf (k .line) < 2 ^ 64 = omega (arith, k .few, ap length (k .is), length-append (k .bytes) (10 ∷ k .rest), length-drop at s) in
     (k .line, k .rest, record { bytes = k .bytes; is = k .is; free = k .free; reads = k .reads }, (k .own, (lt-ltb (childrenOf (k .line)) (2 ^ 64) few, k .counts)))
-
-pub tree-stands : (s : Bytes) (at : ℕ) → length s < 2 ^ 64 → HasTree schemas s at → (x : Line) × (rest : Bytes) × Stands s at x rest × Meets (lineRule x)
-tree-stands s at fits h = row-stands s at fits (standing-row (h .2))
 
 -- ── what `readLine` tells
 

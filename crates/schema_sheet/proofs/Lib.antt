@@ -1,4 +1,3 @@
-pub mod SkipLaws
 pub mod ReadLaws
 pub mod WalkLaws
 pub mod SheetLaws

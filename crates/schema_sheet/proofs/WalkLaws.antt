@@ -15,7 +15,7 @@ use Rattle.sheets.proofs.TreeWalks as Walks
 use Rattle.schema_line.specs.declared.SchemaLine.{SchemaLine}
 use Rattle.schema_line.specs.Lines.{LineAt}
 use Rattle.schema_line.proofs.LineLaws.{line-walks}
-use Rattle.schema_sheet.proofs.SkipLaws.{line-count}
+use Rattle.schema_sheet.proofs.ReadLaws.{line-count}
 use Rattle.schema_sheet.specs.Trees.{Forms}
 
 module _ {s : Bytes} {here : ℕ} {l : SchemaLine} (k : LineAt s here l) (left : ℕ) (some : 0 < left) where

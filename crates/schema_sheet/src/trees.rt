@@ -56,7 +56,7 @@ pub fn read_tree(s: &[u8], at: usize, levels: usize) -> TreeRead
 }
 
 // The same of `count` trees from place at on.
-fn read_row(s: &[u8], at: usize, count: u64, levels: usize) -> TreeRead
+pub fn read_row(s: &[u8], at: usize, count: u64, levels: usize) -> TreeRead
     requires { ⌜ at ≤ length (now s) ⌝ }
     ensures { λ r. ⌜ ReadsRow (now (s .entry)) at count levels (treeAnswer r) ⌝ }
 {
@@ -77,20 +77,6 @@ fn read_row(s: &[u8], at: usize, count: u64, levels: usize) -> TreeRead
 
 // The same as `read_tree`; a leaf's line is recognised at once.
 fn next_tree(s: &[u8], at: usize, levels: usize) -> TreeRead
-    ensures { λ r. ⌜ ReadsTree (now (s .entry)) at levels (treeAnswer r) ⌝ }
-{
-    if levels == 0 {
-        return TreeRead::Deep;
-    }
-    if let Leaf::Line(_, e, _) = leaf_line::leaf_at(s, at) {
-        return TreeRead::To(e + leaf_line::AFTER_NAME);
-    }
-    read_tree(s, at, levels)
-}
-
-// The same, for the first tree of a sheet. With `next_tree` called from here too, its code would no longer stand in the loop of `read_row`: 32 instructions more
-// for each leaf's line, of some 425; and without the look for a leaf a sheet of one line would take half as long again.
-pub fn first_tree(s: &[u8], at: usize, levels: usize) -> TreeRead
     ensures { λ r. ⌜ ReadsTree (now (s .entry)) at levels (treeAnswer r) ⌝ }
 {
     if levels == 0 {

@@ -1,63 +1,69 @@
--- `word_at` meets its contract: the number of the four bytes, read from the one end or from the other (`word-four`). Assumes nothing.
+-- `word_at` meets its contract: where three of the four bytes are 0 the number is the fourth (`last-alone`, `first-alone`). Assumes nothing.
 use mathlib.Core.Path.{sym, ap, _∙_}
 use mathlib.Core.Bool.{Bool}
-use Rattle.endian.specs.Word.{wordValue, fourAt}
-use Rattle.endian.proofs.WordLaws.{word-four, four-sum}
 use borrow.Author.Needs.{needs}
+use Rattle.endian.specs.Word.{wordValue, fourAt}
+use Rattle.endian.proofs.WordLaws.{last-alone, first-alone}
 use Rattle.endian.proofs.word_at.Statement.{statement}
 use Rattle.endian.proofs.word_at.Tie as tie
 
-wide-at-requires : tie.Need-wide-at-requires
-wide-at-requires c κs = search needs
+three-zeros-requires : tie.Need-three-zeros-requires
+three-zeros-requires c κs = search needs
 
 add-wide-at : tie.Need-add-wide-at
 add-wide-at c = search needs
 
-wide-at-requires-2 : tie.Need-wide-at-requires-2
-wide-at-requires-2 c κs = search needs
-
-add-wide-at-2 : tie.Need-add-wide-at-2
-add-wide-at-2 c = search needs
-
-wide-at-requires-3 : tie.Need-wide-at-requires-3
-wide-at-requires-3 c κs = search needs
-
-add-wide-at-3 : tie.Need-add-wide-at-3
-add-wide-at-3 c = search needs
-
-wide-at-requires-4 : tie.Need-wide-at-requires-4
-wide-at-requires-4 c κs = search needs
-
-joined-requires : tie.Need-joined-requires
-joined-requires c κs = search needs
+wide-at-requires : tie.Need-wide-at-requires
+wide-at-requires c κs = search needs
 
 returns : tie.Need-returns
 returns c =
-    let st = c .before .before .before .before .before .before .before in
-    rw (c .joined .ensures, c .before .before .before .before .before .wide-at .ensures .0, c .before .before .before .before .wide-at2 .ensures .0, c .before .before .before .wide-at3 .ensures .0, c .before .before .wide-at4 .ensures .0)
-    (sym (ap (λ (b : Bool). wordValue b (fourAt (st .args .s .now) (st .args .k))) (c .before .if1 .taken) ∙ word-four _ (st .args .s .now) (st .args .k) (st .pre) ∙ four-sum _ _ _ _))
+    let st = c .before .before .before .before .before in
+    c .wide-at .ensures .0
+    ∙ sym (ap (λ (b : Bool). wordValue b (fourAt (st .args .s .now) (st .args .k))) (c .before .before .before .if1 .taken)
+    ∙ last-alone (st .args .s .now) (st .args .k) (st .pre) (c .before .before .three-zeros .ensures (c .before .if2 .taken)))
 
-joined-requires-2 : tie.Need-joined-requires-2
-joined-requires-2 c κs = search needs
+bytes-at-requires : tie.Need-bytes-at-requires
+bytes-at-requires c κs = search needs
 
 returns-2 : tie.Need-returns-2
-returns-2 c =
-    let st = c .before .before .before .before .before .before .before in
-    rw (c .joined2 .ensures, c .before .before .before .before .before .wide-at .ensures .0, c .before .before .before .before .wide-at2 .ensures .0, c .before .before .before .wide-at3 .ensures .0, c .before .before .wide-at4 .ensures .0)
-    (sym (ap (λ (b : Bool). wordValue b (fourAt (st .args .s .now) (st .args .k))) (c .before .if1 .left) ∙ word-four _ (st .args .s .now) (st .args .k) (st .pre) ∙ four-sum _ _ _ _))
+returns-2 c = search needs
+
+add-three-zeros : tie.Need-add-three-zeros
+add-three-zeros c = search needs
+
+three-zeros-requires-2 : tie.Need-three-zeros-requires-2
+three-zeros-requires-2 c κs = search needs
+
+wide-at-requires-2 : tie.Need-wide-at-requires-2
+wide-at-requires-2 c κs = search needs
+
+returns-3 : tie.Need-returns-3
+returns-3 c =
+    let st = c .before .before .before .before .before in
+    c .wide-at2 .ensures .0
+    ∙ sym (ap (λ (b : Bool). wordValue b (fourAt (st .args .s .now) (st .args .k))) (c .before .before .before .if1 .left)
+    ∙ first-alone (st .args .s .now) (st .args .k) (st .pre) (c .before .before .three-zeros2 .ensures (c .before .if3 .taken)))
+
+bytes-at-requires-2 : tie.Need-bytes-at-requires-2
+bytes-at-requires-2 c κs = search needs
+
+returns-4 : tie.Need-returns-4
+returns-4 c = search needs
 
 pub word-at-spec : {M : Type 1} → statement M
 word-at-spec =
     tie.close
     (tie.spec
-    wide-at-requires
+    three-zeros-requires
     add-wide-at
-    wide-at-requires-2
-    add-wide-at-2
-    wide-at-requires-3
-    add-wide-at-3
-    wide-at-requires-4
-    joined-requires
+    wide-at-requires
     returns
-    joined-requires-2
-    returns-2)
+    bytes-at-requires
+    returns-2
+    add-three-zeros
+    three-zeros-requires-2
+    wide-at-requires-2
+    returns-3
+    bytes-at-requires-2
+    returns-4)

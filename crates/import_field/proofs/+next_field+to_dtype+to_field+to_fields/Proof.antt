@@ -1,28 +1,26 @@
 -- The proof of the cycle of calls {next_field, to_dtype, to_field, to_fields}. `to_field` calls `to_dtype` at one level less, which calls `to_fields`, that
 -- `next_field`, and that `to_field` at the same number of levels: four times the levels for `to_field`, one more for `next_field`, two more for `to_fields`,
--- three more for `to_dtype`. The laws are in `OwnLaws`, `TypeLaws`, `FieldsLaws` and `LeafLaws`. Assumes nothing.
-use mathlib.Core.Path.{_≡_, refl, subst, _∙_}
+-- three more for `to_dtype`. The laws are in `FieldLaws`, `TypeLaws`, `FieldsLaws` and `LeafLaws`. Assumes nothing.
+use mathlib.Core.Path.{_≡_, refl, _∙_}
 use mathlib.Core.List.{List, _++_}
 use Prim.Native.Nat.{ℕ, _+_, _-_, _*_, _<_, _≤_}
 use native.Mathlib.Omega.{arith}
 use lib.ListN.{length, take, drop}
 use denote.Ref.{now}
 use borrow.Author.Needs.{needs}
-use Rattle.sheets.specs.Schema.{nodeOf, Schemas, Schema, schema}
-use Rattle.sheets.specs.ImportLines.{typeWritten}
-use Rattle.sheets.specs.Visits.{belowLines}
+use Rattle.sheets.specs.Schema.{Schemas, Schema}
 use Rattle.buffer.proofs.OverLaws.{length-lent}
-use Rattle.import_field.specs.declared.TypeBegun.the-variants.{Row}
-use Rattle.import_field.specs.Contracts.{FieldsAt, typeLength, LineBegins, TypeBegins}
-use Rattle.import_field.proofs.OwnLaws.{room-kept, some-level, node-there, type-there, type-turned, field-long, field-each, field-next, field-ended}
-use Rattle.import_field.proofs.TypeLaws.{type-short, fields-there, fields-refused, left-there, both-long, type-ended}
-use Rattle.import_field.proofs.FieldsLaws.{Going, going-none, going-field, going-more, going-refused, going-all}
+use Rattle.refusal.specs.declared.Refusal.the-variants.{TooDeep}
+use Rattle.import_field.specs.Contracts.{FieldsAt}
+use Rattle.import_field.proofs.OwnLaws.{room-kept, no-level}
+use Rattle.import_field.proofs.FieldLaws.{field-refused, below-within, below-refused, field-next, field-long, field-each, field-told}
+use Rattle.import_field.proofs.TypeLaws.{type-refused, rows-within, type-told}
+use Rattle.import_field.proofs.FieldsLaws.{RowGoing, row-none, row-more, row-within, row-all, row-past, Going, going-none, going-more, going-refused, going-all}
 use Rattle.import_field.proofs.LeafLaws.{leaf-done, leaf-other}
 use borrow.Fn.Kinds.{In}
 use borrow.Fn.PlainCycle.{Measures, is, falls, and}
 use Rattle.import_field.proofs.next_field.Reads as next-field
 use Rattle.import_field.proofs.next_field.Kinds as next-field-kinds
-use Rattle.schema_line.proofs.KnownLaws.{line-told}
 use Rattle.import_field.proofs.+next_field+to_dtype+to_field+to_fields.Lts-next_field as next-field-lts
 use Rattle.import_field.proofs.to_dtype.Reads as to-dtype
 use Rattle.import_field.proofs.to_dtype.Kinds as to-dtype-kinds
@@ -34,12 +32,10 @@ use Rattle.import_field.proofs.to_fields.Reads as to-fields
 use Rattle.import_field.proofs.to_fields.Kinds as to-fields-kinds
 use Rattle.import_field.proofs.+next_field+to_dtype+to_field+to_fields.Lts-to_fields as to-fields-lts
 use Rattle.buffer.proofs.within.Reads as within-reads
-use Rattle.node.proofs.begin_field.Reads as begin-field-reads
-use Rattle.import_field.proofs.begin_type.Reads as begin-type-reads
+use Rattle.import_field.proofs.begin_node.Reads as begin-node-reads
 use Rattle.import_field.proofs.end_field.Reads as end-field-reads
 use Rattle.import_field.proofs.end_type.Reads as end-type-reads
 use Rattle.put_leaf.proofs.put_leaf.Reads as put-leaf-reads
-use Rattle.schema_line.proofs.read.line_at.Reads as line-at-reads
 use Rattle.import_field.proofs.+next_field+to_dtype+to_field+to_fields.{statement}
 use Rattle.import_field.proofs.+next_field+to_dtype+to_field+to_fields.Tie.{close}
 
@@ -47,7 +43,7 @@ abbrev μ-next-field : Measures 4 next-field-kinds.ps ℕ
 μ-next-field κs a = 4 * a .1 .0 .levels + 1
 
 abbrev μ-to-dtype : Measures 4 to-dtype-kinds.ps ℕ
-μ-to-dtype κs a = 4 * a .1 .1 .1 .0 + 3
+μ-to-dtype κs a = 4 * a .1 .0 .levels + 3
 
 abbrev μ-to-field : Measures 4 to-field-kinds.ps ℕ
 μ-to-field κs a = 4 * a .1 .0 .levels
@@ -88,10 +84,10 @@ abbrev next-field-calls : ℕ → next-field-lts.Claims
 next-field-calls t = (put-leaf-reads.Asked, put-leaf-reads.Learnt, to-field-below t, to-field.Post)
 
 abbrev to-dtype-calls : ℕ → to-dtype-lts.Claims
-to-dtype-calls t = (begin-type-reads.Asked, begin-type-reads.Learnt, within-reads.Asked, within-reads.Learnt, to-fields-below t, to-fields.Post, end-type-reads.Asked, end-type-reads.Learnt)
+to-dtype-calls t = (to-fields-below t, to-fields.Post, end-type-reads.Asked, end-type-reads.Learnt)
 
 abbrev to-field-calls : ℕ → to-field-lts.Claims
-to-field-calls t = (line-at-reads.Asked, line-at-reads.Learnt, begin-field-reads.Asked, begin-field-reads.Learnt, within-reads.Asked, within-reads.Learnt, to-dtype-below t, to-dtype.Post, end-field-reads.Asked, end-field-reads.Learnt)
+to-field-calls t = (begin-node-reads.Asked, begin-node-reads.Learnt, within-reads.Asked, within-reads.Learnt, to-dtype-below t, to-dtype.Post, end-field-reads.Asked, end-field-reads.Learnt)
 
 abbrev to-fields-calls : ℕ → to-fields-lts.Claims
 to-fields-calls t = (within-reads.Asked, within-reads.Learnt, next-field-below t, next-field.Post)
@@ -106,16 +102,19 @@ next-field-enum-told : (t : ℕ) → next-field-lts.Need-enum-told (next-field-c
 next-field-enum-told t c = search needs
 
 next-field-to-field-requires : (t : ℕ) → next-field-lts.Need-to-field-requires (next-field-calls t) (next-field-at t) next-field.Post
-next-field-to-field-requires t c κs = let start = c .before .before .before .before .before .before .before .before .before .before .before .before .before in (omega (arith, start .pre .0), start .pre .1)
+next-field-to-field-requires t c κs = let start = c .before .before .before .before .before .before .before .before .before .before .before .before .before .before .before in (omega (arith, start .pre .0), (omega arith, start .pre .1))
 
 next-field-same-length : (t : ℕ) → next-field-lts.Need-same-length (next-field-calls t) (next-field-at t) next-field.Post
 next-field-same-length t c = c .before .before .before .before .before .put-leaf .kept .1 .1 .1 .0
 
 next-field-returns : (t : ℕ) → next-field-lts.Need-returns (next-field-calls t) (next-field-at t) next-field.Post
-next-field-returns t c =
-    let a = c .before .before .before .before .before .before .before .before .before .before .before .args in
+next-field-returns t c = let a = c .before .before .before .before .before .before .args in (tt, no-level (now (a .s)) (a .tree) (c .if1 .taken) (now (a .out)) (now (a .out)) TooDeep)
+
+next-field-returns-2 : (t : ℕ) → next-field-lts.Need-returns-2 (next-field-calls t) (next-field-at t) next-field.Post
+next-field-returns-2 t c =
+    let a = c .before .before .before .before .before .before .before .before .before .before .before .before .before .args in
     let r = c .before .before .before .before .before .put-leaf in
-    leaf-done (now (a .s)) (a .tree) (now (a .out)) (r .last .1 .1 .1 .0) (r .result) (r .ensures) _ _ (c .before .next .given .1)
+    leaf-done (now (a .s)) (a .tree) (now (a .out)) (r .last .1 .1 .1 .0) (r .result) (r .ensures) _ _ (c .before .next .given .1) (omega arith)
 
 next-field-same-length-2 : (t : ℕ) → next-field-lts.Need-same-length-2 (next-field-calls t) (next-field-at t) next-field.Post
 next-field-same-length-2 t c = c .before .before .before .before .before .before .to-field .kept .1 .1 .0 ∙ c .before .before .before .before .before .before .before .before .before .before .before .before .before .before .put-leaf .kept .1 .1 .1 .0
@@ -126,135 +125,72 @@ next-field-same-length-3 t c = c .before .before .before .before .before .before
 next-field-same-length-4 : (t : ℕ) → next-field-lts.Need-same-length-4 (next-field-calls t) (next-field-at t) next-field.Post
 next-field-same-length-4 t c = c .before .before .before .before .before .before .to-field .kept .1 .1 .1 .1 .0
 
-next-field-returns-2 : (t : ℕ) → next-field-lts.Need-returns-2 (next-field-calls t) (next-field-at t) next-field.Post
-next-field-returns-2 t c =
-    let a = c .before .before .before .before .before .before .before .before .before .before .before .before .before .before .before .before .before .before .before .before .args in
+next-field-returns-3 : (t : ℕ) → next-field-lts.Need-returns-3 (next-field-calls t) (next-field-at t) next-field.Post
+next-field-returns-3 t c =
+    let a = c .before .before .before .before .before .before .before .before .before .before .before .before .before .before .before .before .before .before .before .before .before .before .args in
     let r = c .before .before .before .before .before .before .before .before .before .before .before .before .before .before .put-leaf in
     let f = c .before .before .before .before .before .before .to-field in
     leaf-other (now (a .s)) (a .tree) (now (a .out)) (r .last .1 .1 .1 .0) (r .result) (r .ensures) (c .before .before .before .before .before .before .before .before .before .before .enum-told .given .1) (f .last .1 .1 .0) (f .result) (f .ensures)
 
--- the type's line is written, of any tree that stood there
-begun : (t : ℕ) (c : to-dtype-lts.After-known-told2 (to-dtype-calls t) (to-dtype-at t) to-dtype.Post)
-    → let a = c .before .before .before .before .before .before .before .before .before .before .before .before .args in
-    let r = c .before .before .before .before .before .begin-type in
-    let u = c .before .from .given .0 in
-    TypeBegins (now (a .s)) (a .line) (a .shown) (a .levels) (now (a .entries)) (now (a .out)) (r .last .1 .1 .1 .1 .0) (Row (u .0) (u .1 .0) (u .1 .1 .0))
-begun t c =
-    let a = c .before .before .before .before .before .before .before .before .before .before .before .before .args in
-    let r = c .before .before .before .before .before .begin-type in
-    subst (TypeBegins (now (a .s)) (a .line) (a .shown) (a .levels) (now (a .entries)) (now (a .out)) (r .last .1 .1 .1 .1 .0)) (c .before .from .given .1) (r .ensures)
-
--- of the tree that the contract requires
-own : (t : ℕ) (c : to-dtype-lts.After-known-told2 (to-dtype-calls t) (to-dtype-at t) to-dtype.Post)
-    → let a = c .before .before .before .before .before .before .before .before .before .before .before .before .args in
-    let p = c .before .before .before .before .before .before .before .before .before .before .before .before .pre .1 .0 in
-    let r = c .before .before .before .before .before .begin-type in
-    let u = c .before .from .given .0 in
-    LineBegins (a .shown .big) (now (a .s)) (a .line) (a .levels) (typeWritten (a .shown .big) (p .info) (schema (nodeOf (p .line)) (p .children) (p .dictionary))) (belowLines (schema (nodeOf (p .line)) (p .children) (p .dictionary))) (typeLength (now (a .s)) (a .line) (a .shown) (now (a .entries))) (p .after)
-    (now (a .out)) (r .last .1 .1 .1 .1 .0) (u .0) (u .1 .0) (u .1 .1 .0)
-own t c = let p = c .before .before .before .before .before .before .before .before .before .before .before .before .pre .1 .0 in begun t c (p .line) (p .children) (p .dictionary) (p .after) (p .info) (p .there) (p .shows)
-
-to-dtype-begin-type-requires : (t : ℕ) → to-dtype-lts.Need-begin-type-requires (to-dtype-calls t) (to-dtype-at t) to-dtype.Post
-to-dtype-begin-type-requires t c κs = c .before .before .before .before .before .before .pre .1 .0
+to-dtype-to-fields-requires : (t : ℕ) → to-dtype-lts.Need-to-fields-requires (to-dtype-calls t) (to-dtype-at t) to-dtype.Post
+to-dtype-to-fields-requires t c κs = let start = c .before .before .before .before .before .before .before in (omega (arith, start .pre .0), start .pre .1)
 
 to-dtype-enum-known-r : (t : ℕ) → to-dtype-lts.Need-enum-known-r (to-dtype-calls t) (to-dtype-at t) to-dtype.Post
 to-dtype-enum-known-r t c = search needs
 
-to-dtype-enum-known-from : (t : ℕ) → to-dtype-lts.Need-enum-known-from (to-dtype-calls t) (to-dtype-at t) to-dtype.Post
-to-dtype-enum-known-from t c = search needs
-
-to-dtype-within-requires : (t : ℕ) → to-dtype-lts.Need-within-requires (to-dtype-calls t) (to-dtype-at t) to-dtype.Post
-to-dtype-within-requires t c κs = search needs
-
-to-dtype-sub-to-fields : (t : ℕ) → to-dtype-lts.Need-sub-to-fields (to-dtype-calls t) (to-dtype-at t) to-dtype.Post
-to-dtype-sub-to-fields t c = omega arith
-
-to-dtype-part-to-fields-start : (t : ℕ) → to-dtype-lts.Need-part-to-fields-start (to-dtype-calls t) (to-dtype-at t) to-dtype.Post
-to-dtype-part-to-fields-start t c = omega arith
-
-to-dtype-part-to-fields-end : (t : ℕ) → to-dtype-lts.Need-part-to-fields-end (to-dtype-calls t) (to-dtype-at t) to-dtype.Post
-to-dtype-part-to-fields-end t c = omega arith
-
-to-dtype-to-fields-requires : (t : ℕ) → to-dtype-lts.Need-to-fields-requires (to-dtype-calls t) (to-dtype-at t) to-dtype.Post
-to-dtype-to-fields-requires t c κs =
-    let start = c .before .before .before .before .before .before .before .before .before .before .before .before .before .before .before .before in
-    (omega (arith, start .pre .0), (fields-there (own t (c .before .before .before .before)), start .pre .1 .1))
-
-to-dtype-enum-known-r-2 : (t : ℕ) → to-dtype-lts.Need-enum-known-r-2 (to-dtype-calls t) (to-dtype-at t) to-dtype.Post
-to-dtype-enum-known-r-2 t c = search needs
-
 to-dtype-enum-known-next : (t : ℕ) → to-dtype-lts.Need-enum-known-next (to-dtype-calls t) (to-dtype-at t) to-dtype.Post
 to-dtype-enum-known-next t c = search needs
 
-to-dtype-add-t34 : (t : ℕ) → to-dtype-lts.Need-add-t34 (to-dtype-calls t) (to-dtype-at t) to-dtype.Post
-to-dtype-add-t34 t c =
-    let r = c .before .before .before .before .before .before .before .before .before .before .to-fields in
-    omega (arith, type-short (c .before .before .before .before .before .before .before .before .before .before .before .before .before .before .before .before .before .before .before .before .before .before .before .before .before .before .before .pre .1 .0), both-long (own t (c .before .before .before .before .before .before .before .before .before .before .before .before .before .before .before)) _ (r .last .1 .1 .0) (r .result) _ _ (c .before .before .next .given .1) (r .ensures))
-
 to-dtype-end-type-requires : (t : ℕ) → to-dtype-lts.Need-end-type-requires (to-dtype-calls t) (to-dtype-at t) to-dtype.Post
 to-dtype-end-type-requires t c κs =
-    let r = c .before .before .before .before .before .before .before .before .before .before .to-fields in
-    left-there (own t (c .before .before .before .before .before .before .before .before .before .before .before .before .before .before .before)) _ (r .last .1 .1 .0) (r .result) _ _ (c .before .before .next .given .1) (r .ensures)
+    let a = c .before .before .before .before .before .before .before .before .before .before .before .before .before .before .before .before .before .args in
+    let r = c .before .before .before .before .before .before .before .before .before .to-fields in
+    rows-within (now (a .s)) (a .row) (a .last) (now (a .out)) (r .last .1 .1 .0) (r .result) (r .ensures) _ _ (c .before .next .given .1)
 
 to-dtype-same-length : (t : ℕ) → to-dtype-lts.Need-same-length (to-dtype-calls t) (to-dtype-at t) to-dtype.Post
-to-dtype-same-length t c = c .before .before .before .before .before .begin-type .kept .1 .1 .1 .1 .0
+to-dtype-same-length t c = c .before .before .before .before .before .before .before .before .before .to-fields .kept .1 .1 .0
 
 to-dtype-same-length-2 : (t : ℕ) → to-dtype-lts.Need-same-length-2 (to-dtype-calls t) (to-dtype-at t) to-dtype.Post
-to-dtype-same-length-2 t c = search needs
+to-dtype-same-length-2 t c = c .before .before .before .before .before .before .before .before .before .to-fields .kept .1 .1 .1 .0
+
+to-dtype-same-length-3 : (t : ℕ) → to-dtype-lts.Need-same-length-3 (to-dtype-calls t) (to-dtype-at t) to-dtype.Post
+to-dtype-same-length-3 t c = c .before .before .before .before .before .before .before .before .before .to-fields .kept .1 .1 .1 .1 .0
 
 to-dtype-returns : (t : ℕ) → to-dtype-lts.Need-returns (to-dtype-calls t) (to-dtype-at t) to-dtype.Post
 to-dtype-returns t c =
-    let a = c .before .before .before .before .before .before .before .before .before .before .before .before .args in
-    let r = c .before .before .before .before .before .begin-type in
-    subst (TypeBegins (now (a .s)) (a .line) (a .shown) (a .levels) (now (a .entries)) (now (a .out)) (r .last .1 .1 .1 .1 .0)) (c .before .r .given .1) (r .ensures)
-
-to-dtype-same-length-3 : (t : ℕ) → to-dtype-lts.Need-same-length-3 (to-dtype-calls t) (to-dtype-at t) to-dtype.Post
-to-dtype-same-length-3 t c =
-    let r = c .before .before .before .before .before .before .before .before .before .before .before .before .before .before .before .before .before .before .before .begin-type in
-    let called = c .before .before .before .before .before .before .before .before .before .to-fields in
-    length-lent (c .before .before .before .before .before .before .before .before .before .before .before .before .before .within .result) (r .last .1 .1 .1 .1 .0) (called .last .1 .1 .0) (called .kept .1 .1 .0) ∙ r .kept .1 .1 .1 .1 .0
+    let a = c .before .before .before .before .before .before .before .before .before .before .before .before .before .before .before .before .before .args in
+    let r = c .before .before .before .before .before .before .before .before .before .to-fields in
+    type-refused (now (a .s)) (a .row) (a .last) (now (a .out)) (r .last .1 .1 .0) (r .result) (r .ensures) _ (c .before .r .given .1)
 
 to-dtype-same-length-4 : (t : ℕ) → to-dtype-lts.Need-same-length-4 (to-dtype-calls t) (to-dtype-at t) to-dtype.Post
-to-dtype-same-length-4 t c = c .before .before .before .before .before .before .before .before .before .to-fields .kept .1 .1 .1 .0
+to-dtype-same-length-4 t c = c .before .before .before .before .before .before .before .before .before .before .to-fields .kept .1 .1 .0
 
 to-dtype-same-length-5 : (t : ℕ) → to-dtype-lts.Need-same-length-5 (to-dtype-calls t) (to-dtype-at t) to-dtype.Post
-to-dtype-same-length-5 t c = c .before .before .before .before .before .before .before .before .before .to-fields .kept .1 .1 .1 .1 .0
+to-dtype-same-length-5 t c = c .before .before .before .before .before .before .before .before .before .before .to-fields .kept .1 .1 .1 .0
+
+to-dtype-same-length-6 : (t : ℕ) → to-dtype-lts.Need-same-length-6 (to-dtype-calls t) (to-dtype-at t) to-dtype.Post
+to-dtype-same-length-6 t c = c .before .before .before .before .before .before .before .before .before .before .to-fields .kept .1 .1 .1 .1 .0
 
 to-dtype-returns-2 : (t : ℕ) → to-dtype-lts.Need-returns-2 (to-dtype-calls t) (to-dtype-at t) to-dtype.Post
 to-dtype-returns-2 t c =
-    let r = c .before .before .before .before .before .before .before .before .before .to-fields in
-    λ x cs d ts j h shows. fields-refused (begun t (c .before .before .before .before .before .before .before .before .before .before .before .before .before .before) x cs d ts j h shows) _ (r .last .1 .1 .0) (r .result) _ (c .before .r2 .given .1) (r .ensures)
+    let a = c .before .before .before .before .before .before .before .before .before .before .before .before .before .before .before .before .before .before .args in
+    let r = c .before .before .before .before .before .before .before .before .before .before .to-fields in
+    type-told (now (a .s)) (a .row) (a .last) (now (a .out)) (r .last .1 .1 .0) (r .result) (r .ensures) _ _ (c .before .before .next .given .1) (c .end-type .result) (c .end-type .ensures)
 
-to-dtype-same-length-6 : (t : ℕ) → to-dtype-lts.Need-same-length-6 (to-dtype-calls t) (to-dtype-at t) to-dtype.Post
-to-dtype-same-length-6 t c =
-    let r = c .before .before .before .before .before .before .before .before .before .before .before .before .before .before .before .before .before .before .before .before .before .begin-type in
-    let called = c .before .before .before .before .before .before .before .before .before .before .before .to-fields in
-    length-lent (c .before .before .before .before .before .before .before .before .before .before .before .before .before .before .before .within .result) (r .last .1 .1 .1 .1 .0) (called .last .1 .1 .0) (called .kept .1 .1 .0) ∙ r .kept .1 .1 .1 .1 .0
+to-field-begin-node-requires : (t : ℕ) → to-field-lts.Need-begin-node-requires (to-field-calls t) (to-field-at t) to-field.Post
+to-field-begin-node-requires t c κs = c .before .before .before .before .before .before .before .pre .1
 
-to-dtype-same-length-7 : (t : ℕ) → to-dtype-lts.Need-same-length-7 (to-dtype-calls t) (to-dtype-at t) to-dtype.Post
-to-dtype-same-length-7 t c = c .before .before .before .before .before .before .before .before .before .before .before .to-fields .kept .1 .1 .1 .0
+to-field-enum-known-r : (t : ℕ) → to-field-lts.Need-enum-known-r (to-field-calls t) (to-field-at t) to-field.Post
+to-field-enum-known-r t c = search needs
 
-to-dtype-same-length-8 : (t : ℕ) → to-dtype-lts.Need-same-length-8 (to-dtype-calls t) (to-dtype-at t) to-dtype.Post
-to-dtype-same-length-8 t c = c .before .before .before .before .before .before .before .before .before .before .before .to-fields .kept .1 .1 .1 .1 .0
-
-to-dtype-returns-3 : (t : ℕ) → to-dtype-lts.Need-returns-3 (to-dtype-calls t) (to-dtype-at t) to-dtype.Post
-to-dtype-returns-3 t c =
-    let r = c .before .before .before .before .before .before .before .before .before .before .before .to-fields in
-    let w = c .before .before .before .before .before .before .before .before .before .before .before .before .before .before .before .within in
-    λ x cs d ts j h shows. type-ended (begun t (c .before .before .before .before .before .before .before .before .before .before .before .before .before .before .before .before) x cs d ts j h shows) _ (r .last .1 .1 .0) (r .result) _ _ (c .before .before .before .next .given .1) (r .ensures)
-    (w .result) (w .ensures) refl (c .end-type .result) (c .end-type .ensures)
-
-to-field-line-at-requires : (t : ℕ) → to-field-lts.Need-line-at-requires (to-field-calls t) (to-field-at t) to-field.Post
-to-field-line-at-requires t c κs = let p = c .before .before .before .before .pre .1 .0 in (p .0, p .1, p .2 .stands)
-
-to-field-begin-field-requires : (t : ℕ) → to-field-lts.Need-begin-field-requires (to-field-calls t) (to-field-at t) to-field.Post
-to-field-begin-field-requires t c κs = let p = c .before .before .before .before .before .before .before .before .pre .1 in (node-there (line-told _ _ (c .before .before .before .line-at .ensures)) (p .0 .2 .short), p .1)
+to-field-enum-known-from : (t : ℕ) → to-field-lts.Need-enum-known-from (to-field-calls t) (to-field-at t) to-field.Post
+to-field-enum-known-from t c = search needs
 
 to-field-within-requires : (t : ℕ) → to-field-lts.Need-within-requires (to-field-calls t) (to-field-at t) to-field.Post
 to-field-within-requires t c κs = search needs
 
 to-field-sub-to-dtype : (t : ℕ) → to-field-lts.Need-sub-to-dtype (to-field-calls t) (to-field-at t) to-field.Post
-to-field-sub-to-dtype t c = let start = c .before .before .before .before .before .before .before .before .before .before .before .before .before .before .before .before .before .before in omega (arith, some-level _ (start .args .tree) (start .pre .1 .0))
+to-field-sub-to-dtype t c = omega (arith, c .before .before .before .before .before .before .before .before .before .before .before .before .before .before .before .before .before .before .before .pre .1 .0)
 
 to-field-sub-to-dtype-2 : (t : ℕ) → to-field-lts.Need-sub-to-dtype-2 (to-field-calls t) (to-field-at t) to-field.Post
 to-field-sub-to-dtype-2 t c = omega arith
@@ -267,75 +203,88 @@ to-field-part-to-dtype-end t c = omega arith
 
 to-field-to-dtype-requires : (t : ℕ) → to-field-lts.Need-to-dtype-requires (to-field-calls t) (to-field-at t) to-field.Post
 to-field-to-dtype-requires t c κs =
-    let start = c .before .before .before .before .before .before .before .before .before .before .before .before .before .before .before .before .before .before .before .before .before in
+    let start = c .before .before .before .before .before .before .before .before .before .before .before .before .before .before .before .before .before .before .before .before .before .before in
+    let a = start .args in
+    let b = c .before .before .before .before .before .before .before .before .before .before .before .before .before .before .begin-node in
     let p = start .pre .1 in
-    let r = c .before .before .before .before .before .before .before .before .before .before .before .before .begin-field in (
-      omega (arith, start .pre .0, some-level _ (start .args .tree) (p .0)),
-      (type-there (line-told _ _ (c .before .before .before .before .before .before .before .before .before .before .before .before .before .before .before .before .line-at .ensures)) (p .0 .2) (r .ensures), room-kept (p .1) (r .kept .1 .1 .1 .1 .1 .0) (r .kept .1 .1 .1 .1 .1 .1 .0)),
-    )
+    (omega (arith, start .pre .0, p .0), (p .1 .0, (below-within (now (a .s)) (a .tree) (now (a .out)) (b .last .1 .1 .0) (b .result) (b .ensures) _ _ _ _ (c .before .before .before .before .before .before .from .given .1), room-kept (p .1 .1) (b .kept .1 .1 .1 .0) (b .kept .1 .1 .1 .1 .0))))
 
-to-field-enum-known-r : (t : ℕ) → to-field-lts.Need-enum-known-r (to-field-calls t) (to-field-at t) to-field.Post
-to-field-enum-known-r t c = search needs
+to-field-enum-known-r-2 : (t : ℕ) → to-field-lts.Need-enum-known-r-2 (to-field-calls t) (to-field-at t) to-field.Post
+to-field-enum-known-r-2 t c = search needs
 
 to-field-enum-known-next : (t : ℕ) → to-field-lts.Need-enum-known-next (to-field-calls t) (to-field-at t) to-field.Post
 to-field-enum-known-next t c = search needs
 
-to-field-add-t32 : (t : ℕ) → to-field-lts.Need-add-t32 (to-field-calls t) (to-field-at t) to-field.Post
-to-field-add-t32 t c =
-    let p = line-told _ _ (c .before .before .before .before .before .before .before .before .before .before .before .before .before .before .before .before .before .before .before .before .before .before .before .before .before .before .before .before .line-at .ensures) in
-    let f = c .before .before .before .before .before .before .before .before .before .before .before .before .before .before .before .before .before .before .before .before .before .before .before .before .before .before .before .before .before .before .before .before .before .pre .1 .0 .2 in
-    let r = c .before .before .before .before .before .before .before .before .before .before .before .to-dtype in
-    let e = c .before .before .before .next .given .1 in
-    let b = c .before .before .before .before .before .before .before .before .before .before .before .before .before .before .before .before .before .before .before .before .before .before .before .before .begin-field .ensures in
-    omega (arith, f .short, field-long p f b _ (r .last .1 .1 .1 .1 .0) (r .result) (r .ensures) _ _ e, field-next p f b _ (r .last .1 .1 .1 .1 .0) (r .result) (r .ensures) _ _ e)
+to-field-add-t35 : (t : ℕ) → to-field-lts.Need-add-t35 (to-field-calls t) (to-field-at t) to-field.Post
+to-field-add-t35 t c =
+    let a = c .before .before .before .before .before .before .before .before .before .before .before .before .before .before .before .before .before .before .before .before .before .before .before .before .before .before .before .before .before .before .before .before .before .args in
+    let b = c .before .before .before .before .before .before .before .before .before .before .before .before .before .before .before .before .before .before .before .before .before .before .before .before .before .begin-node in
+    let r = c .before .before .before .before .before .before .before .before .before .before .to-dtype in
+    omega (arith, c .before .before .before .before .before .before .before .before .before .before .before .before .before .before .before .before .before .before .before .before .before .before .before .before .before .before .before .before .before .before .before .before .before .pre .1 .1 .0, field-long (now (a .s)) (a .tree) (now (a .out)) (b .last .1 .1 .0) (b .result) (b .ensures) _ _ _ _ (c .before .before .before .before .before .before .before .before .before .before .before .before .before .before .before .before .before .from .given .1) _ (r .last .1 .1 .1 .0) (r .result) (r .ensures) _ _ (c .before .before .next .given .1), field-next (now (a .s)) (a .tree) (now (a .out)) (b .last .1 .1 .0) (b .result) (b .ensures) _ _ _ _ (c .before .before .before .before .before .before .before .before .before .before .before .before .before .before .before .before .before .from .given .1) _ (r .last .1 .1 .1 .0) (r .result) (r .ensures) _ _ (c .before .before .next .given .1))
 
-to-field-add-t33 : (t : ℕ) → to-field-lts.Need-add-t33 (to-field-calls t) (to-field-at t) to-field.Post
-to-field-add-t33 t c =
-    let p = line-told _ _ (c .before .before .before .before .before .before .before .before .before .before .before .before .before .before .before .before .before .before .before .before .before .before .before .before .before .before .before .before .before .line-at .ensures) in
-    let f = c .before .before .before .before .before .before .before .before .before .before .before .before .before .before .before .before .before .before .before .before .before .before .before .before .before .before .before .before .before .before .before .before .before .before .pre .1 .0 .2 in
-    let r = c .before .before .before .before .before .before .before .before .before .before .before .before .to-dtype in
-    let e = c .before .before .before .before .next .given .1 in
-    let b = c .before .before .before .before .before .before .before .before .before .before .before .before .before .before .before .before .before .before .before .before .before .before .before .before .before .begin-field .ensures in
-    omega (arith, f .short, field-each p f b _ (r .last .1 .1 .1 .1 .0) (r .result) (r .ensures) _ _ e, field-next p f b _ (r .last .1 .1 .1 .1 .0) (r .result) (r .ensures) _ _ e)
+to-field-add-t36 : (t : ℕ) → to-field-lts.Need-add-t36 (to-field-calls t) (to-field-at t) to-field.Post
+to-field-add-t36 t c =
+    let a = c .before .before .before .before .before .before .before .before .before .before .before .before .before .before .before .before .before .before .before .before .before .before .before .before .before .before .before .before .before .before .before .before .before .before .args in
+    let b = c .before .before .before .before .before .before .before .before .before .before .before .before .before .before .before .before .before .before .before .before .before .before .before .before .before .before .begin-node in
+    let r = c .before .before .before .before .before .before .before .before .before .before .before .to-dtype in
+    omega (arith, c .before .before .before .before .before .before .before .before .before .before .before .before .before .before .before .before .before .before .before .before .before .before .before .before .before .before .before .before .before .before .before .before .before .before .pre .1 .1 .0, field-each (now (a .s)) (a .tree) (now (a .out)) (b .last .1 .1 .0) (b .result) (b .ensures) _ _ _ _ (c .before .before .before .before .before .before .before .before .before .before .before .before .before .before .before .before .before .before .from .given .1) _ (r .last .1 .1 .1 .0) (r .result) (r .ensures) _ _ (c .before .before .before .next .given .1), field-next (now (a .s)) (a .tree) (now (a .out)) (b .last .1 .1 .0) (b .result) (b .ensures) _ _ _ _ (c .before .before .before .before .before .before .before .before .before .before .before .before .before .before .before .before .before .before .from .given .1) _ (r .last .1 .1 .1 .0) (r .result) (r .ensures) _ _ (c .before .before .before .next .given .1))
 
 to-field-end-field-requires : (t : ℕ) → to-field-lts.Need-end-field-requires (to-field-calls t) (to-field-at t) to-field.Post
 to-field-end-field-requires t c κs = search needs
 
 to-field-same-length : (t : ℕ) → to-field-lts.Need-same-length (to-field-calls t) (to-field-at t) to-field.Post
-to-field-same-length t c =
-    let r = c .before .before .before .before .before .before .before .before .before .before .before .before .before .before .before .before .before .before .before .before .before .before .begin-field in
-    let called = c .before .before .before .before .before .before .before .before .before .to-dtype in
-    length-lent (c .before .before .before .before .before .before .before .before .before .before .before .before .before .before .within .result) (r .last .1 .1 .1 .1 .0) (called .last .1 .1 .1 .1 .0) (called .kept .1 .1 .1 .1 .0) ∙ r .kept .1 .1 .1 .1 .0
+to-field-same-length t c = c .before .before .before .before .before .before .before .before .before .begin-node .kept .1 .1 .0
 
 to-field-same-length-2 : (t : ℕ) → to-field-lts.Need-same-length-2 (to-field-calls t) (to-field-at t) to-field.Post
-to-field-same-length-2 t c = c .before .before .before .before .before .before .before .before .before .to-dtype .kept .1 .1 .1 .1 .1 .0 ∙ c .before .before .before .before .before .before .before .before .before .before .before .before .before .before .before .before .before .before .before .before .before .before .begin-field .kept .1 .1 .1 .1 .1 .0
+to-field-same-length-2 t c = c .before .before .before .before .before .before .before .before .before .begin-node .kept .1 .1 .1 .0
 
 to-field-same-length-3 : (t : ℕ) → to-field-lts.Need-same-length-3 (to-field-calls t) (to-field-at t) to-field.Post
-to-field-same-length-3 t c = c .before .before .before .before .before .before .before .before .before .to-dtype .kept .1 .1 .1 .1 .1 .1 .0 ∙ c .before .before .before .before .before .before .before .before .before .before .before .before .before .before .before .before .before .before .before .before .before .before .begin-field .kept .1 .1 .1 .1 .1 .1 .0
+to-field-same-length-3 t c = c .before .before .before .before .before .before .before .before .before .begin-node .kept .1 .1 .1 .1 .0
 
 to-field-returns : (t : ℕ) → to-field-lts.Need-returns (to-field-calls t) (to-field-at t) to-field.Post
 to-field-returns t c =
-    let r = c .before .before .before .before .before .before .before .before .before .to-dtype in
-    λ u ts f. type-turned (line-told _ _ (c .before .before .before .before .before .before .before .before .before .before .before .before .before .before .before .before .before .before .before .before .before .before .before .before .before .before .line-at .ensures)) f (c .before .before .before .before .before .before .before .before .before .before .before .before .before .before .before .before .before .before .before .before .before .before .begin-field .ensures) _ (r .last .1 .1 .1 .1 .0) (r .result) (r .ensures) _ (c .before .r .given .1)
+    let a = c .before .before .before .before .before .before .before .before .before .before .before .before .before .before .before .before .before .args in
+    let b = c .before .before .before .before .before .before .before .before .before .begin-node in
+    field-refused (now (a .s)) (a .tree) (now (a .out)) (b .last .1 .1 .0) (b .result) (b .ensures) _ (c .before .r .given .1)
 
 to-field-same-length-4 : (t : ℕ) → to-field-lts.Need-same-length-4 (to-field-calls t) (to-field-at t) to-field.Post
 to-field-same-length-4 t c =
-    let r = c .before .before .before .before .before .before .before .before .before .before .before .before .before .before .before .before .before .before .before .before .before .before .before .before .before .before .begin-field in
-    let called = c .before .before .before .before .before .before .before .before .before .before .before .before .before .to-dtype in
-    length-lent (c .before .before .before .before .before .before .before .before .before .before .before .before .before .before .before .before .before .before .within .result) (r .last .1 .1 .1 .1 .0) (called .last .1 .1 .1 .1 .0) (called .kept .1 .1 .1 .1 .0) ∙ r .kept .1 .1 .1 .1 .0
+    let b = c .before .before .before .before .before .before .before .before .before .before .before .before .before .before .before .before .before .before .before .before .before .before .before .before .begin-node in
+    let r = c .before .before .before .before .before .before .before .before .before .to-dtype in
+    length-lent (c .before .before .before .before .before .before .before .before .before .before .before .before .before .before .within .result) (b .last .1 .1 .0) (r .last .1 .1 .1 .0) (r .kept .1 .1 .1 .0) ∙ b .kept .1 .1 .0
 
 to-field-same-length-5 : (t : ℕ) → to-field-lts.Need-same-length-5 (to-field-calls t) (to-field-at t) to-field.Post
-to-field-same-length-5 t c = c .before .before .before .before .before .before .before .before .before .before .before .before .before .to-dtype .kept .1 .1 .1 .1 .1 .0 ∙ c .before .before .before .before .before .before .before .before .before .before .before .before .before .before .before .before .before .before .before .before .before .before .before .before .before .before .begin-field .kept .1 .1 .1 .1 .1 .0
+to-field-same-length-5 t c = c .before .before .before .before .before .before .before .before .before .to-dtype .kept .1 .1 .1 .1 .0 ∙ c .before .before .before .before .before .before .before .before .before .before .before .before .before .before .before .before .before .before .before .before .before .before .before .before .begin-node .kept .1 .1 .1 .0
 
 to-field-same-length-6 : (t : ℕ) → to-field-lts.Need-same-length-6 (to-field-calls t) (to-field-at t) to-field.Post
-to-field-same-length-6 t c = c .before .before .before .before .before .before .before .before .before .before .before .before .before .to-dtype .kept .1 .1 .1 .1 .1 .1 .0 ∙ c .before .before .before .before .before .before .before .before .before .before .before .before .before .before .before .before .before .before .before .before .before .before .before .before .before .before .begin-field .kept .1 .1 .1 .1 .1 .1 .0
+to-field-same-length-6 t c = c .before .before .before .before .before .before .before .before .before .to-dtype .kept .1 .1 .1 .1 .1 .0 ∙ c .before .before .before .before .before .before .before .before .before .before .before .before .before .before .before .before .before .before .before .before .before .before .before .before .begin-node .kept .1 .1 .1 .1 .0
 
 to-field-returns-2 : (t : ℕ) → to-field-lts.Need-returns-2 (to-field-calls t) (to-field-at t) to-field.Post
 to-field-returns-2 t c =
-    let r = c .before .before .before .before .before .before .before .before .before .before .before .before .before .to-dtype in
-    let w = c .before .before .before .before .before .before .before .before .before .before .before .before .before .before .before .before .before .before .within in
-    λ u ts f. field-ended (line-told _ _ (c .before .before .before .before .before .before .before .before .before .before .before .before .before .before .before .before .before .before .before .before .before .before .before .before .before .before .before .before .before .before .line-at .ensures)) f (c .before .before .before .before .before .before .before .before .before .before .before .before .before .before .before .before .before .before .before .before .before .before .before .before .before .before .begin-field .ensures) _ (r .last .1 .1 .1 .1 .0) (r .result) (r .ensures) _ _ (c .before .before .before .before .before .next .given .1)
-    (w .result) (w .ensures) refl (c .end-field .result) (c .end-field .ensures)
+    let a = c .before .before .before .before .before .before .before .before .before .before .before .before .before .before .before .before .before .before .before .before .before .before .before .before .before .before .before .before .before .before .before .before .args in
+    let b = c .before .before .before .before .before .before .before .before .before .before .before .before .before .before .before .before .before .before .before .before .before .before .before .before .begin-node in
+    let r = c .before .before .before .before .before .before .before .before .before .to-dtype in
+    below-refused (now (a .s)) (a .tree) (now (a .out)) (b .last .1 .1 .0) (b .result) (b .ensures) _ _ _ _ (c .before .before .before .before .before .before .before .before .before .before .before .before .before .before .before .before .from .given .1) _ (r .last .1 .1 .1 .0) (r .result) (r .ensures) _ (c .before .r2 .given .1)
+
+to-field-same-length-7 : (t : ℕ) → to-field-lts.Need-same-length-7 (to-field-calls t) (to-field-at t) to-field.Post
+to-field-same-length-7 t c =
+    let b = c .before .before .before .before .before .before .before .before .before .before .before .before .before .before .before .before .before .before .before .before .before .before .before .before .before .before .before .begin-node in
+    let r = c .before .before .before .before .before .before .before .before .before .before .before .before .to-dtype in
+    length-lent (c .before .before .before .before .before .before .before .before .before .before .before .before .before .before .before .before .before .within .result) (b .last .1 .1 .0) (r .last .1 .1 .1 .0) (r .kept .1 .1 .1 .0) ∙ b .kept .1 .1 .0
+
+to-field-same-length-8 : (t : ℕ) → to-field-lts.Need-same-length-8 (to-field-calls t) (to-field-at t) to-field.Post
+to-field-same-length-8 t c = c .before .before .before .before .before .before .before .before .before .before .before .before .to-dtype .kept .1 .1 .1 .1 .0 ∙ c .before .before .before .before .before .before .before .before .before .before .before .before .before .before .before .before .before .before .before .before .before .before .before .before .before .before .before .begin-node .kept .1 .1 .1 .0
+
+to-field-same-length-9 : (t : ℕ) → to-field-lts.Need-same-length-9 (to-field-calls t) (to-field-at t) to-field.Post
+to-field-same-length-9 t c = c .before .before .before .before .before .before .before .before .before .before .before .before .to-dtype .kept .1 .1 .1 .1 .1 .0 ∙ c .before .before .before .before .before .before .before .before .before .before .before .before .before .before .before .before .before .before .before .before .before .before .before .before .before .before .before .begin-node .kept .1 .1 .1 .1 .0
+
+to-field-returns-3 : (t : ℕ) → to-field-lts.Need-returns-3 (to-field-calls t) (to-field-at t) to-field.Post
+to-field-returns-3 t c =
+    let a = c .before .before .before .before .before .before .before .before .before .before .before .before .before .before .before .before .before .before .before .before .before .before .before .before .before .before .before .before .before .before .before .before .before .before .before .args in
+    let b = c .before .before .before .before .before .before .before .before .before .before .before .before .before .before .before .before .before .before .before .before .before .before .before .before .before .before .before .begin-node in
+    let r = c .before .before .before .before .before .before .before .before .before .before .before .before .to-dtype in
+    let w = c .before .before .before .before .before .before .before .before .before .before .before .before .before .before .before .before .before .within in
+    field-told (now (a .s)) (a .tree) (now (a .out)) (b .last .1 .1 .0) (b .result) (b .ensures) _ _ _ _ (c .before .before .before .before .before .before .before .before .before .before .before .before .before .before .before .before .before .before .before .from .given .1) _ (r .last .1 .1 .1 .0) (r .result) (r .ensures) _ _ (c .before .before .before .before .next .given .1) (omega (arith, c .before .before .before .before .before .before .before .before .before .before .before .before .before .before .before .before .before .before .before .before .before .before .before .before .before .before .before .before .before .before .before .before .before .before .before .pre .1 .0)) (w .result) (w .ensures) refl (c .end-field .result) (c .end-field .ensures)
 
 abbrev to-fields-Inv-loop : to-fields-lts.InvT-loop
 to-fields-Inv-loop s row out₀ entries₀ spare₀ here₀ sum₀ lines₀ i₀ out entries spare here sum lines i =
@@ -343,21 +292,22 @@ to-fields-Inv-loop s row out₀ entries₀ spare₀ here₀ sum₀ lines₀ i₀
     × (length out ≡ length out₀)
     × (length entries ≡ length entries₀)
     × (length spare ≡ length spare₀)
+    × RowGoing s (row .at) (row .count) (row .levels) here sum lines i
     × ((us : Schemas) (ts : List Schema) → FieldsAt s (row .at) (row .count) (row .levels) us ts
     → Going s (row .at) (row .count) (row .levels) (row .bare) (row .big) out₀ out here sum lines i us ts)
 
 abbrev to-fields-μ-loop : to-fields-lts.MeasureT-loop
 to-fields-μ-loop s row out₀ entries₀ spare₀ here₀ sum₀ lines₀ i₀ out entries spare here sum lines i = row .count - i
 
--- what the invariant says in a turn, of the trees that the contract requires
-going : (t : ℕ) (c : to-fields-lts.Then1 (to-fields-calls t) (to-fields-at t) to-fields.Post to-fields-Inv-loop to-fields-μ-loop)
-    → let a = c .before .before .before .before .before .before .before .args in
-    let p = c .before .before .before .before .before .before .before .pre .1 .0 in
-    let l = c .before .before .loop in
-    Going (now (a .s)) (a .row .at) (a .row .count) (a .row .levels) (a .row .bare) (a .row .big) (now (a .out)) (l .out) (l .here) (l .sum) (l .lines) (l .i) (p .0) (p .1)
-going t c = let p = c .before .before .before .before .before .before .before .pre .1 .0 in c .before .before .loop .inv .4 (p .0) (p .1) (p .2)
+-- one more tree is read
+more : (t : ℕ) (c : to-fields-lts.After-known-told2 (to-fields-calls t) (to-fields-at t) to-fields.Post to-fields-Inv-loop to-fields-μ-loop)
+    → let a = c .before .before .before .before .before .before .before .before .before .before .before .before .before .before .before .before .before .before .before .before .before .args in
+    let l = c .before .before .before .before .before .before .before .before .before .before .before .before .before .before .before .before .loop in
+    let u = c .before .next .given .0 in
+    RowGoing (now (a .s)) (a .row .at) (a .row .count) (a .row .levels) (u .0) (l .sum + u .1 .0 .len) (l .lines + u .1 .0 .lines) (l .i + 1)
+more t c = row-more (c .before .before .before .before .before .before .before .before .before .before .before .before .before .before .before .before .loop .inv .4) (c .before .before .before .before .before .before .before .before .before .before .before .before .before .before .if1 .taken) _ _ _ (c .before .next .given .1) (c .before .before .before .before .before .before .before .before .before .next-field .ensures .0)
 
--- and after it, of any trees that stood there
+-- and its lines are written, of any trees that stood there
 gone : (t : ℕ) (c : to-fields-lts.After-known-told2 (to-fields-calls t) (to-fields-at t) to-fields.Post to-fields-Inv-loop to-fields-μ-loop)
     → let a = c .before .before .before .before .before .before .before .before .before .before .before .before .before .before .before .before .before .before .before .before .before .args in
     let l = c .before .before .before .before .before .before .before .before .before .before .before .before .before .before .before .before .loop in
@@ -370,11 +320,11 @@ gone : (t : ℕ) (c : to-fields-lts.After-known-told2 (to-fields-calls t) (to-fi
 gone t c us ts h =
     let w = c .before .before .before .before .before .before .before .before .before .before .before .before .before .within in
     let r = c .before .before .before .before .before .before .before .before .before .next-field in
-    going-more _ _ _ _ _ _ _ _ _ _ _ _ _ _ (c .before .before .before .before .before .before .before .before .before .before .before .before .before .before .before .before .loop .inv .4 us ts h) (c .before .before .before .before .before .before .before .before .before .before .before .before .before .before .if1 .taken)
-    (w .result) (w .ensures) (r .last .1 .1 .0) _ _ _ (c .before .next .given .1) (r .ensures)
+    going-more _ _ _ _ _ _ _ _ _ _ _ _ _ _ (c .before .before .before .before .before .before .before .before .before .before .before .before .before .before .before .before .loop .inv .5 us ts h) (c .before .before .before .before .before .before .before .before .before .before .before .before .before .before .if1 .taken)
+    (w .result) (w .ensures) (r .last .1 .1 .0) _ _ _ (c .before .next .given .1) (r .ensures .1)
 
 to-fields-loop-holds : (t : ℕ) → to-fields-lts.Need-loop-holds (to-fields-calls t) (to-fields-at t) to-fields.Post to-fields-Inv-loop to-fields-μ-loop
-to-fields-loop-holds t c = (search needs, refl, refl, refl, λ us ts h. going-none _ _ _ _ _ _ _ _ _ h)
+to-fields-loop-holds t c = (search needs, refl, refl, refl, row-none _ _ _ _ (c .before .before .before .before .pre .1 .1 .0), λ us ts h. going-none _ _ _ _ _ _ _ _ _ h)
 
 to-fields-within-requires : (t : ℕ) → to-fields-lts.Need-within-requires (to-fields-calls t) (to-fields-at t) to-fields.Post to-fields-Inv-loop to-fields-μ-loop
 to-fields-within-requires t c κs = search needs
@@ -391,10 +341,8 @@ to-fields-part-next-field-end t c = omega arith
 to-fields-next-field-requires : (t : ℕ) → to-fields-lts.Need-next-field-requires (to-fields-calls t) (to-fields-at t) to-fields.Post to-fields-Inv-loop to-fields-μ-loop
 to-fields-next-field-requires t c κs =
     let start = c .before .before .before .before .before .before .before .before .before .before .before in
-    let inv = c .before .before .before .before .before .before .loop .inv in (
-      omega (arith, start .pre .0),
-      (going-field _ _ _ _ _ _ _ _ _ _ _ _ _ _ (going t (c .before .before .before .before)) (c .before .before .before .before .if1 .taken), room-kept (start .pre .1 .1) (inv .2) (inv .3)),
-    )
+    let inv = c .before .before .before .before .before .before .loop .inv in
+    (omega (arith, start .pre .0), (start .pre .1 .0, room-kept (start .pre .1 .1 .1) (inv .2) (inv .3)))
 
 to-fields-enum-known-r : (t : ℕ) → to-fields-lts.Need-enum-known-r (to-fields-calls t) (to-fields-at t) to-fields.Post to-fields-Inv-loop to-fields-μ-loop
 to-fields-enum-known-r t c = search needs
@@ -414,22 +362,16 @@ to-fields-same-length-3 t c = c .before .before .before .before .before .before 
 to-fields-returns : (t : ℕ) → to-fields-lts.Need-returns (to-fields-calls t) (to-fields-at t) to-fields.Post to-fields-Inv-loop to-fields-μ-loop
 to-fields-returns t c =
     let r = c .before .before .before .before .before .before .before .before .before .next-field in
-    λ us ts h. going-refused _ _ _ _ _ _ _ _ _ _ _ _ _ _ (c .before .before .before .before .before .before .before .before .before .before .before .before .before .before .before .before .loop .inv .4 us ts h) (c .before .before .before .before .before .before .before .before .before .before .before .before .before .before .if1 .taken) _ (r .last .1 .1 .0) _ _ (c .before .r .given .1) (r .ensures)
+    (tt, tt, λ us ts h. going-refused _ _ _ _ _ _ _ _ _ _ _ _ _ _ (c .before .before .before .before .before .before .before .before .before .before .before .before .before .before .before .before .loop .inv .5 us ts h) (c .before .before .before .before .before .before .before .before .before .before .before .before .before .before .if1 .taken) _ (r .last .1 .1 .0) _ _ (c .before .r .given .1) (r .ensures .1))
 
 to-fields-enum-known-next : (t : ℕ) → to-fields-lts.Need-enum-known-next (to-fields-calls t) (to-fields-at t) to-fields.Post to-fields-Inv-loop to-fields-μ-loop
 to-fields-enum-known-next t c = search needs
 
 to-fields-add-sum : (t : ℕ) → to-fields-lts.Need-add-sum (to-fields-calls t) (to-fields-at t) to-fields.Post to-fields-Inv-loop to-fields-μ-loop
-to-fields-add-sum t c =
-    let p = c .before .before .before .before .before .before .before .before .before .before .before .before .before .before .before .before .before .before .before .before .before .before .pre .1 .0 in
-    let g = gone t (c .before) (p .0) (p .1) (p .2) in
-    omega (arith, g .long, g .left .within, g .left .short)
+to-fields-add-sum t c = let g = more t (c .before) in omega (arith, g .long, row-within g, c .before .before .before .before .before .before .before .before .before .before .before .before .before .before .before .before .before .before .before .before .before .before .pre .1 .0)
 
 to-fields-add-lines : (t : ℕ) → to-fields-lts.Need-add-lines (to-fields-calls t) (to-fields-at t) to-fields.Post to-fields-Inv-loop to-fields-μ-loop
-to-fields-add-lines t c =
-    let p = c .before .before .before .before .before .before .before .before .before .before .before .before .before .before .before .before .before .before .before .before .before .before .before .pre .1 .0 in
-    let g = gone t (c .before .before) (p .0) (p .1) (p .2) in
-    omega (arith, g .each, g .left .within, g .left .short)
+to-fields-add-lines t c = let g = more t (c .before .before) in omega (arith, g .each, row-within g, c .before .before .before .before .before .before .before .before .before .before .before .before .before .before .before .before .before .before .before .before .before .before .before .pre .1 .0)
 
 to-fields-add-i : (t : ℕ) → to-fields-lts.Need-add-i (to-fields-calls t) (to-fields-at t) to-fields.Post to-fields-Inv-loop to-fields-μ-loop
 to-fields-add-i t c = omega arith
@@ -445,6 +387,7 @@ to-fields-loop-again t c =
       length-lent (c .before .before .before .before .before .before .before .before .before .before .before .before .before .before .before .within .result) (l .out) (r .last .1 .1 .0) (r .kept .1 .1 .0) ∙ l .inv .1,
       r .kept .1 .1 .1 .0 ∙ l .inv .2,
       r .kept .1 .1 .1 .1 .0 ∙ l .inv .3,
+      more t (c .before .before),
       gone t (c .before .before),
     )
 
@@ -458,30 +401,88 @@ to-fields-same-length-6 : (t : ℕ) → to-fields-lts.Need-same-length-6 (to-fie
 to-fields-same-length-6 t c = c .before .before .loop .inv .3
 
 to-fields-returns-2 : (t : ℕ) → to-fields-lts.Need-returns-2 (to-fields-calls t) (to-fields-at t) to-fields.Post to-fields-Inv-loop to-fields-μ-loop
-to-fields-returns-2 t c = λ us ts h. going-all _ _ _ _ _ _ _ _ _ _ _ _ _ _ (c .before .before .loop .inv .4 us ts h) (c .if1 .left)
+to-fields-returns-2 t c = let g = c .before .before .loop .inv in (row-all (g .4) (c .if1 .left), row-past (g .4) (c .if1 .left), λ us ts h. going-all _ _ _ _ _ _ _ _ _ _ _ _ _ _ (g .5 us ts h) (c .if1 .left))
 
 pub +next-field+to-dtype+to-field+to-fields-spec : {M : Type 1} → statement M
 +next-field+to-dtype+to-field+to-fields-spec =
-    close μ-next-field μ-to-dtype μ-to-field μ-to-fields
-    (λ t. next-field-lts.spec (next-field-calls t) (next-field-at t) next-field.Post
-    (next-field-put-leaf-requires t) (next-field-enum-known-next t) (next-field-enum-told t) (next-field-to-field-requires t)
-    (next-field-same-length t) (next-field-returns t) (next-field-same-length-2 t) (next-field-same-length-3 t) (next-field-same-length-4 t)
-    (next-field-returns-2 t))
-    (λ t. to-dtype-lts.spec (to-dtype-calls t) (to-dtype-at t) to-dtype.Post
-    (to-dtype-begin-type-requires t) (to-dtype-enum-known-r t) (to-dtype-enum-known-from t) (to-dtype-within-requires t) (to-dtype-sub-to-fields t)
-    (to-dtype-part-to-fields-start t) (to-dtype-part-to-fields-end t) (to-dtype-to-fields-requires t) (to-dtype-enum-known-r-2 t)
-    (to-dtype-enum-known-next t) (to-dtype-add-t34 t) (to-dtype-end-type-requires t) (to-dtype-same-length t) (to-dtype-same-length-2 t)
-    (to-dtype-returns t) (to-dtype-same-length-3 t) (to-dtype-same-length-4 t) (to-dtype-same-length-5 t) (to-dtype-returns-2 t)
-    (to-dtype-same-length-6 t) (to-dtype-same-length-7 t) (to-dtype-same-length-8 t) (to-dtype-returns-3 t))
-    (λ t. to-field-lts.spec (to-field-calls t) (to-field-at t) to-field.Post
-    (to-field-line-at-requires t) (to-field-begin-field-requires t) (to-field-within-requires t) (to-field-sub-to-dtype t) (to-field-sub-to-dtype-2 t)
-    (to-field-part-to-dtype-start t) (to-field-part-to-dtype-end t) (to-field-to-dtype-requires t) (to-field-enum-known-r t)
-    (to-field-enum-known-next t) (to-field-add-t32 t) (to-field-add-t33 t) (to-field-end-field-requires t) (to-field-same-length t) (to-field-same-length-2 t)
-    (to-field-same-length-3 t) (to-field-returns t) (to-field-same-length-4 t) (to-field-same-length-5 t) (to-field-same-length-6 t)
-    (to-field-returns-2 t))
-    λ t. to-fields-lts.spec (to-fields-calls t) (to-fields-at t) to-fields.Post to-fields-Inv-loop to-fields-μ-loop
-    (to-fields-loop-holds t) (to-fields-within-requires t) (to-fields-sub-next-field t) (to-fields-part-next-field-start t)
-    (to-fields-part-next-field-end t) (to-fields-next-field-requires t) (to-fields-enum-known-r t) (to-fields-same-length t)
-    (to-fields-same-length-2 t) (to-fields-same-length-3 t) (to-fields-returns t) (to-fields-enum-known-next t) (to-fields-add-sum t) (to-fields-add-lines t)
-    (to-fields-add-i t) (to-fields-loop-less t) (to-fields-loop-again t) (to-fields-same-length-4 t) (to-fields-same-length-5 t)
-    (to-fields-same-length-6 t) (to-fields-returns-2 t)
+    close μ-next-field μ-to-dtype μ-to-field μ-to-fields (λ t. next-field-lts.spec (next-field-calls t) (next-field-at t)
+    next-field.Post
+    (next-field-returns t)
+    (next-field-put-leaf-requires t)
+    (next-field-enum-known-next t)
+    (next-field-enum-told t)
+    (next-field-to-field-requires t)
+    (next-field-same-length t)
+    (next-field-returns-2 t)
+    (next-field-same-length-2 t)
+    (next-field-same-length-3 t)
+    (next-field-same-length-4 t)
+    (next-field-returns-3 t))
+    (λ t. to-dtype-lts.spec (to-dtype-calls t) (to-dtype-at t)
+    to-dtype.Post
+    (to-dtype-to-fields-requires t)
+    (to-dtype-enum-known-r t)
+    (to-dtype-enum-known-next t)
+    (to-dtype-end-type-requires t)
+    (to-dtype-same-length t)
+    (to-dtype-same-length-2 t)
+    (to-dtype-same-length-3 t)
+    (to-dtype-returns t)
+    (to-dtype-same-length-4 t)
+    (to-dtype-same-length-5 t)
+    (to-dtype-same-length-6 t)
+    (to-dtype-returns-2 t))
+    (λ t. to-field-lts.spec (to-field-calls t) (to-field-at t)
+    to-field.Post
+    (to-field-begin-node-requires t)
+    (to-field-enum-known-r t)
+    (to-field-enum-known-from t)
+    (to-field-within-requires t)
+    (to-field-sub-to-dtype t)
+    (to-field-sub-to-dtype-2 t)
+    (to-field-part-to-dtype-start t)
+    (to-field-part-to-dtype-end t)
+    (to-field-to-dtype-requires t)
+    (to-field-enum-known-r-2 t)
+    (to-field-enum-known-next t)
+    (to-field-add-t35 t)
+    (to-field-add-t36 t)
+    (to-field-end-field-requires t)
+    (to-field-same-length t)
+    (to-field-same-length-2 t)
+    (to-field-same-length-3 t)
+    (to-field-returns t)
+    (to-field-same-length-4 t)
+    (to-field-same-length-5 t)
+    (to-field-same-length-6 t)
+    (to-field-returns-2 t)
+    (to-field-same-length-7 t)
+    (to-field-same-length-8 t)
+    (to-field-same-length-9 t)
+    (to-field-returns-3 t))
+    λ t. to-fields-lts.spec
+    (to-fields-calls t) (to-fields-at t)
+    to-fields.Post
+    to-fields-Inv-loop
+    to-fields-μ-loop
+    (to-fields-loop-holds t)
+    (to-fields-within-requires t)
+    (to-fields-sub-next-field t)
+    (to-fields-part-next-field-start t)
+    (to-fields-part-next-field-end t)
+    (to-fields-next-field-requires t)
+    (to-fields-enum-known-r t)
+    (to-fields-same-length t)
+    (to-fields-same-length-2 t)
+    (to-fields-same-length-3 t)
+    (to-fields-returns t)
+    (to-fields-enum-known-next t)
+    (to-fields-add-sum t)
+    (to-fields-add-lines t)
+    (to-fields-add-i t)
+    (to-fields-loop-less t)
+    (to-fields-loop-again t)
+    (to-fields-same-length-4 t)
+    (to-fields-same-length-5 t)
+    (to-fields-same-length-6 t)
+    (to-fields-returns-2 t)

@@ -1,8 +1,8 @@
 -- `put_sheet` meets its contract: the laws are in `SheetLaws`. Assumes nothing.
-use Rattle.import_sheet.proofs.SheetLaws.{sheet-refused, lines-long, sheet-done}
-use denote.Ref.{now}
-use native.Mathlib.Omega.{arith}
 use mathlib.Core.Path.{refl}
+use native.Mathlib.Omega.{arith}
+use denote.Ref.{now}
+use Rattle.import_sheet.proofs.SheetLaws.{sheet-refused, lines-long, lines-read, sheet-done}
 use borrow.Author.Needs.{needs}
 use Rattle.import_sheet.proofs.put_sheet.Statement.{statement}
 use Rattle.import_sheet.proofs.put_sheet.Tie as tie
@@ -33,9 +33,9 @@ enum-known-next c = search needs
 
 add-t26 : tie.Need-add-t26
 add-t26 c =
-    let h = c .before .before .before .before .before .before .before .before .before .before .before .before .before .before .before .before .before .before .before .before .before .before .before .pre .0 in
+    let start = c .before .before .before .before .before .before .before .before .before .before .before .before .before .before .before .before .before .before .before .before .before .before .before in
     let r = c .before .before .before .before .before .before .before .before .before .before .to-first-field in
-    omega (arith, lines-long _ _ _ _ _ (h .2) _ (r .last .1 .1 .0) _ _ _ (c .before .before .next .given .1) (r .ensures), c .before .before .before .before .before .before .before .before .before .before .before .before .before .before .before .before .before .put-heading .ensures .0)
+    omega (arith, lines-long _ _ (r .result) _ _ (c .before .before .next .given .1) (r .ensures .0) (start .pre .0 .0), c .before .before .before .before .before .before .before .before .before .before .before .before .before .before .before .before .before .put-heading .ensures .0)
 
 same-length : tie.Need-same-length
 same-length c = search needs
@@ -49,7 +49,7 @@ same-length-3 c = search needs
 returns : tie.Need-returns
 returns c =
     let r = c .before .before .before .before .before .before .before .before .before .to-first-field in
-    λ t ts f. sheet-refused _ _ _ t ts f _ (r .last .1 .1 .0) _ _ (c .before .r .given .1) (r .ensures)
+    (tt, λ t ts f. sheet-refused _ _ _ t ts f _ (r .last .1 .1 .0) _ _ (c .before .r .given .1) (r .ensures .1))
 
 same-length-4 : tie.Need-same-length-4
 same-length-4 c = search needs
@@ -65,8 +65,10 @@ returns-2 c =
     let r = c .before .before .before .before .before .before .before .before .before .before .to-first-field in
     let w = c .before .before .before .before .before .before .before .before .before .before .before .before .before .before .within in
     let h = c .before .before .before .before .before .before .before .before .before .before .before .before .before .before .before .before .before .put-heading in
-    λ t ts f. sheet-done _ _ _ t ts f _ (r .last .1 .1 .0) _ _ _ (c .before .before .next .given .1) (r .ensures)
-    (now (c .before .before .before .before .before .before .before .before .before .before .before .before .before .before .before .before .before .before .before .before .before .before .before .args .out)) (h .last .0) (h .result) (w .result) (h .ensures) (w .ensures) refl
+    let e = c .before .before .next .given .1 in (
+      lines-read _ _ (r .result) _ _ e (r .ensures .0),
+      λ t ts f. sheet-done _ _ _ t ts f _ (r .last .1 .1 .0) _ _ _ e (r .ensures .1) (now (c .before .before .before .before .before .before .before .before .before .before .before .before .before .before .before .before .before .before .before .before .before .before .before .args .out)) (h .last .0) (h .result) (w .result) (h .ensures) (w .ensures) refl,
+    )
 
 pub put-sheet-spec : {M : Type 1} → statement M
 put-sheet-spec =

@@ -5,7 +5,7 @@ use mathlib.Core.Path.{_≡_, refl, sym, ap, _∙_}
 use Prim.Native.Nat.{_-_, _≤_}
 use borrow.Author.Needs.{needs}
 use lib.ListN.{length, getD, take}
-use Rattle.key_order.specs.Entry.{keyAt}
+use Rattle.key_order.specs.Entry.{restAt}
 use Rattle.key_order.specs.Order.{insertEntry}
 use Rattle.key_order.proofs.InsertLaws.{between, place-start, place-here, place-there, place-later, place-last}
 use Rattle.byte_order.proofs.CompareLaws.{is-less, is-equal, is-greater}
@@ -13,17 +13,17 @@ use Rattle.key_order.proofs.insert.insert_entry.Statement.{statement}
 use Rattle.key_order.proofs.insert.insert_entry.Tie as tie
 
 abbrev Inv-loop : tie.InvT-loop
-Inv-loop text out₀ n p j₀ out j =
+Inv-loop text out₀ n p shared j₀ out j =
     (length out ≡ length out₀) × (j ≤ n)
-    × (insertEntry (keyAt text) p (take n out₀) ≡ take j out ++ insertEntry (keyAt text) p (between out j n))
+    × (insertEntry (restAt text shared) p (take n out₀) ≡ take j out ++ insertEntry (restAt text shared) p (between out j n))
 
 abbrev μ-loop : tie.MeasureT-loop
-μ-loop text out₀ n p j₀ out j = n - j
+μ-loop text out₀ n p shared j₀ out j = n - j
 
 loop-holds : tie.Need-loop-holds Inv-loop μ-loop
 loop-holds c =
     let st = c .before .before in
-    (refl, search needs, place-start (keyAt (st .args .text .now)) (st .args .p) (st .args .out .now) (st .args .n))
+    (refl, search needs, place-start (restAt (st .args .text .now) (st .args .shared)) (st .args .p) (st .args .out .now) (st .args .n))
 
 mul-q : tie.Need-mul-q Inv-loop μ-loop
 mul-q c = search needs
@@ -47,7 +47,7 @@ returns : tie.Need-returns Inv-loop μ-loop
 returns c =
     let l = c .before .before .before .before .before .before .before .before .before in
     let st = l .before .before .before in
-    let key = keyAt (st .args .text .now) in
+    let key = restAt (st .args .text .now) (st .args .shared) in
     let m = l .loop .out in
     let j = l .loop .j in
     let n = st .args .n in
@@ -67,7 +67,7 @@ returns-2 : tie.Need-returns-2 Inv-loop μ-loop
 returns-2 c =
     let l = c .before .before .before .before .before in
     let st = l .before .before .before in
-    let key = keyAt (st .args .text .now) in
+    let key = restAt (st .args .text .now) (st .args .shared) in
     let m = l .loop .out in
     let j = l .loop .j in
     let n = st .args .n in
@@ -89,7 +89,7 @@ loop-again : tie.Need-loop-again Inv-loop μ-loop
 loop-again c =
     let l = c .before .before .before .before .before in
     let st = l .before .before .before in
-    let key = keyAt (st .args .text .now) in
+    let key = restAt (st .args .text .now) (st .args .shared) in
     let m = l .loop .out in
     let j = l .loop .j in
     let n = st .args .n in
@@ -109,7 +109,7 @@ returns-3 c =
     let l = c .before .before .before .before .before in
     let st = l .before .before .before in
     let put = c .before .before .open-at2 .ensures in
-    (search needs, put .1 ∙ sym (l .loop .inv .2 ∙ place-last (keyAt (st .args .text .now)) (st .args .p) (l .loop .out) (st .args .n) (search needs) (l .loop .j) (search needs) (search needs)))
+    (search needs, put .1 ∙ sym (l .loop .inv .2 ∙ place-last (restAt (st .args .text .now) (st .args .shared)) (st .args .p) (l .loop .out) (st .args .n) (search needs) (l .loop .j) (search needs) (search needs)))
 
 pub insert-entry-spec : {M : Type 1} → statement M
 insert-entry-spec =

@@ -4,23 +4,23 @@ use Prim.Native.Nat.{_-_, _≤_}
 use native.Mathlib.Omega.{arith}
 use borrow.Author.Needs.{needs}
 use lib.ListN.{length, getD, take, drop}
-use Rattle.key_order.specs.Entry.{keyAt}
+use Rattle.key_order.specs.Entry.{restAt}
 use Rattle.key_order.specs.Order.{insertEntry, ordered}
 use Rattle.key_order.proofs.InsertLaws.{none-yet, one-more}
 use Rattle.key_order.proofs.insert.sort_few.Statement.{statement}
 use Rattle.key_order.proofs.insert.sort_few.Tie as tie
 
 abbrev Inv-loop : tie.InvT-loop
-Inv-loop text from to₀ k₀ r₀ to k r =
-    (length to ≡ length to₀) × (k ≤ length from) × (r ≤ length from - k) × (take r to ≡ ordered (keyAt text) (drop k from))
+Inv-loop text from to₀ shared k₀ r₀ to k r =
+    (length to ≡ length to₀) × (k ≤ length from) × (r ≤ length from - k) × (take r to ≡ ordered (restAt text shared) (drop k from))
 
 abbrev μ-loop : tie.MeasureT-loop
-μ-loop text from to₀ k₀ r₀ to k r = k
+μ-loop text from to₀ shared k₀ r₀ to k r = k
 
 loop-holds : tie.Need-loop-holds Inv-loop μ-loop
 loop-holds c =
     let st = c .before .before .before in
-    (refl, search needs, search needs, none-yet (keyAt (st .args .text .now)) (st .args .from .now))
+    (refl, search needs, search needs, none-yet (restAt (st .args .text .now) (st .args .shared)) (st .args .from .now))
 
 sub-k : tie.Need-sub-k Inv-loop μ-loop
 sub-k c = search needs
@@ -41,7 +41,7 @@ loop-again : tie.Need-loop-again Inv-loop μ-loop
 loop-again c =
     let l = c .before .before .before .before .before .before in
     let st = l .before .before .before .before in
-    let key = keyAt (st .args .text .now) in
+    let key = restAt (st .args .text .now) (st .args .shared) in
     let from = st .args .from .now in
     let put = c .before .before .insert-entry in (
       put .kept .1 .0 ∙ l .loop .inv .0,
@@ -58,7 +58,7 @@ returns c =
     let l = c .before in
     let st = l .before .before .before .before in
     let e : l .loop .k ≡ 0 = omega arith in
-    record { within = omega arith; entries = l .loop .inv .3 ∙ ap (λ k. ordered (keyAt (st .args .text .now)) (drop k (st .args .from .now))) e }
+    record { within = omega arith; entries = l .loop .inv .3 ∙ ap (λ k. ordered (restAt (st .args .text .now) (st .args .shared)) (drop k (st .args .from .now))) e }
 
 pub sort-few-spec : {M : Type 1} → statement M
 sort-few-spec =

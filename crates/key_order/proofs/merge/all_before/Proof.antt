@@ -1,7 +1,7 @@
 -- `all_before` meets its contract: both lists ascend, so the last of a and the first of b tell. Assumes nothing.
 use mathlib.Core.Bool.{true≢false}
 use mathlib.Core.Path.{sym, _∙_}
-use Rattle.key_order.specs.Entry.{keyAt}
+use Rattle.key_order.specs.Entry.{restAt}
 use Rattle.key_order.proofs.MergeLaws.{apart}
 use borrow.Author.Needs.{needs}
 use Rattle.key_order.proofs.merge.all_before.Statement.{statement}
@@ -25,11 +25,11 @@ shared-slice-read-p c = search needs
 shared-slice-read-q : tie.Need-shared-slice-read-q
 shared-slice-read-q c = search needs
 
-key-of-requires : tie.Need-key-of-requires
-key-of-requires c κs = search needs
+rest-of-requires : tie.Need-rest-of-requires
+rest-of-requires c κs = search needs
 
-key-of-requires-2 : tie.Need-key-of-requires-2
-key-of-requires-2 c κs = search needs
+rest-of-requires-2 : tie.Need-rest-of-requires-2
+rest-of-requires-2 c κs = search needs
 
 is-before-requires : tie.Need-is-before-requires
 is-before-requires c κs = search needs
@@ -37,8 +37,8 @@ is-before-requires c κs = search needs
 returns-3 : tie.Need-returns-3
 returns-3 c =
     let st = c .before .before .before .before .before .before .before .before .before .before in
-    let found = rw (c .before .before .key-of .ensures, c .before .key-of2 .ensures) at (c .is-before .ensures) in
-    λ e. apart (keyAt (st .args .text .now)) (st .args .a .now) (st .args .b .now) (st .pre .0) (st .pre .1) (search needs) (search needs) (sym found ∙ e)
+    let found = rw (c .before .before .rest-of .ensures, c .before .rest-of2 .ensures) at (c .is-before .ensures) in
+    λ e. apart (restAt (st .args .text .now) (st .args .shared)) (st .args .a .now) (st .args .b .now) (st .pre .0) (st .pre .1) (search needs) (search needs) (sym found ∙ e)
 
 pub all-before-spec : {M : Type 1} → statement M
 all-before-spec =
@@ -50,7 +50,7 @@ all-before-spec =
     mul-p
     shared-slice-read-p
     shared-slice-read-q
-    key-of-requires
-    key-of-requires-2
+    rest-of-requires
+    rest-of-requires-2
     is-before-requires
     returns-3)

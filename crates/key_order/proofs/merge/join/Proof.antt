@@ -1,7 +1,7 @@
 -- `join` meets its contract: where one list comes wholly before the other, merging appends. Assumes nothing.
 use mathlib.Core.Path.{_∙_, sym}
 use native.Mathlib.Omega.{arith}
-use Rattle.key_order.specs.Entry.{keyAt}
+use Rattle.key_order.specs.Entry.{restAt}
 use Rattle.key_order.proofs.MergeLaws.{left-then-right, right-then-left}
 use borrow.Author.Needs.{needs}
 use Rattle.key_order.proofs.merge.join.Statement.{statement}
@@ -20,7 +20,7 @@ returns : tie.Need-returns
 returns c =
     let st = c .before .before .before .before .before .before .before .before .before .before in
     let put = c .before .before .put-both .ensures in
-    let all = left-then-right (keyAt (st .args .text .now)) (st .args .a .now) (st .args .b .now) (st .pre .left) (c .before .before .before .before .before .all-before .ensures (c .before .before .before .before .if1 .taken)) in
+    let all = left-then-right (restAt (st .args .text .now) (st .args .shared)) (st .args .a .now) (st .args .b .now) (st .pre .left) (c .before .before .before .before .before .all-before .ensures (c .before .before .before .before .if1 .taken)) in
     record { within = omega (arith, put .0); entries = put .1 ∙ sym all }
 
 all-before-requires-2 : tie.Need-all-before-requires-2
@@ -36,7 +36,7 @@ returns-2 : tie.Need-returns-2
 returns-2 c =
     let st = c .before .before .before .before .before .before .before .before .before .before .before .before in
     let put = c .before .before .put-both2 .ensures in
-    let all = right-then-left (keyAt (st .args .text .now)) (st .args .a .now) (st .args .b .now) (st .pre .left) (c .before .before .before .before .before .all-before2 .ensures (c .before .before .before .before .if2 .taken)) in
+    let all = right-then-left (restAt (st .args .text .now) (st .args .shared)) (st .args .a .now) (st .args .b .now) (st .pre .left) (c .before .before .before .before .before .all-before2 .ensures (c .before .before .before .before .if2 .taken)) in
     record { within = omega (arith, put .0); entries = put .1 ∙ sym all }
 
 merge-requires : tie.Need-merge-requires

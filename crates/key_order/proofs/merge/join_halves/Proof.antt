@@ -5,7 +5,7 @@ use native.Mathlib.Omega.{arith}
 use lib.Seq.{length-take-le}
 use lib.ListN.{take, drop}
 use Rattle.key_order.specs.Merge.{Mergeable, Merges}
-use Rattle.key_order.specs.Entry.{keyAt}
+use Rattle.key_order.specs.Entry.{restAt}
 use borrow.Author.Needs.{needs}
 use Rattle.key_order.proofs.merge.join_halves.Statement.{statement}
 use Rattle.key_order.proofs.merge.join_halves.Tie as tie
@@ -34,7 +34,7 @@ join-requires : tie.Need-join-requires
 join-requires c κs =
     let st = c .before .before .before .before .before .before in
     let e : st .args .half + st .args .b - st .args .half ≡ st .args .b = omega arith in
-    subst (λ (n : ℕ). Mergeable (keyAt (st .args .text .now)) (take (st .args .a) (st .args .from .now)) (take n (drop (st .args .half) (st .args .from .now))) (st .args .out .now)) (sym e) (st .pre .parts)
+    subst (λ (n : ℕ). Mergeable (restAt (st .args .text .now) (st .args .shared)) (take (st .args .a) (st .args .from .now)) (take n (drop (st .args .half) (st .args .from .now))) (st .args .out .now)) (sym e) (st .pre .parts)
 
 same-length : tie.Need-same-length
 same-length c = search needs
@@ -43,7 +43,7 @@ returns : tie.Need-returns
 returns c =
     let st = c .before .before .before .before .before .before .before .before .before in
     let e : st .args .half + st .args .b - st .args .half ≡ st .args .b = omega arith in
-    subst (λ (n : ℕ). Merges (keyAt (st .args .text .now)) (take (st .args .a) (st .args .from .now)) (take n (drop (st .args .half) (st .args .from .now))) (c .before .before .join .last .1 .1 .1 .0) (c .before .before .join .result)) e (c .before .before .join .ensures)
+    subst (λ (n : ℕ). Merges (restAt (st .args .text .now) (st .args .shared)) (take (st .args .a) (st .args .from .now)) (take n (drop (st .args .half) (st .args .from .now))) (c .before .before .join .last .1 .1 .1 .0) (c .before .before .join .result)) e (c .before .before .join .ensures)
 
 pub join-halves-spec : {M : Type 1} → statement M
 join-halves-spec =

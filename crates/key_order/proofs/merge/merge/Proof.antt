@@ -7,19 +7,19 @@ use native.Mathlib.Omega.{arith}
 use borrow.Author.Needs.{needs}
 use lib.ListN.{length, getD, take, drop}
 use Rattle.key_order.specs.Merge.{merged}
-use Rattle.key_order.specs.Entry.{keyAt}
+use Rattle.key_order.specs.Entry.{restAt}
 use Rattle.key_order.proofs.MergeLaws.{rest-left, rest-right, step-less, step-equal, step-greater, wrote, finished, rest-length}
 use Rattle.byte_order.proofs.CompareLaws.{is-less, is-equal, is-greater}
 use Rattle.key_order.proofs.merge.merge.Statement.{statement}
 use Rattle.key_order.proofs.merge.merge.Tie as tie
 
 abbrev Inv-loop : tie.InvT-loop
-Inv-loop text a b out₀ i₀ j₀ k₀ out i j k =
+Inv-loop text a b out₀ shared i₀ j₀ k₀ out i j k =
     (i ≤ length a) × (j ≤ length b) × (k ≤ i + j) × (length out ≡ length out₀)
-    × (merged (keyAt text) a b ≡ take k out ++ merged (keyAt text) (drop i a) (drop j b))
+    × (merged (restAt text shared) a b ≡ take k out ++ merged (restAt text shared) (drop i a) (drop j b))
 
 abbrev μ-loop : tie.MeasureT-loop
-μ-loop text a b out₀ i₀ j₀ k₀ out i j k = (length a - i) + (length b - j)
+μ-loop text a b out₀ shared i₀ j₀ k₀ out i j k = (length a - i) + (length b - j)
 
 loop-holds : tie.Need-loop-holds Inv-loop μ-loop
 loop-holds c = (search needs, search needs, search needs, refl, refl)
@@ -46,7 +46,7 @@ returns : tie.Need-returns Inv-loop μ-loop
 returns c =
     let l = c .before .before .before .before .before .before .before in
     let st = l .before .before .before .before .before in
-    let key = keyAt (st .args .text .now) in
+    let key = restAt (st .args .text .now) (st .args .shared) in
     let a = st .args .a .now in
     let b = st .args .b .now in
     let i = l .loop .i in
@@ -92,7 +92,7 @@ loop-again : tie.Need-loop-again Inv-loop μ-loop
 loop-again c =
     let l = c .before .before .before .before .before .before .before in
     let st = c .before .before .before .before .before .before .before .before .before .before .before .before in
-    let key = keyAt (st .args .text .now) in
+    let key = restAt (st .args .text .now) (st .args .shared) in
     let a = st .args .a .now in
     let b = st .args .b .now in
     let i = l .loop .i in
@@ -128,7 +128,7 @@ loop-again-2 : tie.Need-loop-again-2 Inv-loop μ-loop
 loop-again-2 c =
     let l = c .before .before .before .before .before .before .before in
     let st = c .before .before .before .before .before .before .before .before .before .before .before .before in
-    let key = keyAt (st .args .text .now) in
+    let key = restAt (st .args .text .now) (st .args .shared) in
     let a = st .args .a .now in
     let b = st .args .b .now in
     let i = l .loop .i in
@@ -161,7 +161,7 @@ loop-again-3 : tie.Need-loop-again-3 Inv-loop μ-loop
 loop-again-3 c =
     let l = c .before .before .before .before .before .before .before in
     let st = c .before .before .before .before .before .before .before .before .before .before .before .before in
-    let key = keyAt (st .args .text .now) in
+    let key = restAt (st .args .text .now) (st .args .shared) in
     let a = st .args .a .now in
     let b = st .args .b .now in
     let i = l .loop .i in
@@ -194,7 +194,7 @@ returns-2 : tie.Need-returns-2 Inv-loop μ-loop
 returns-2 c =
     let l = c .before .before .before .before .before .before in
     let st = l .before .before .before .before .before in
-    let key = keyAt (st .args .text .now) in
+    let key = restAt (st .args .text .now) (st .args .shared) in
     let a = st .args .a .now in
     let b = st .args .b .now in
     let i = l .loop .i in

@@ -4,7 +4,7 @@ use mathlib.Core.List.{List}
 use mathlib.Core.Path.{_≡_, sym, ap, subst, _∙_}
 use lib.Seq.{length-take-le, length-front}
 use Rattle.key_order.specs.Merge.{Sorts}
-use Rattle.key_order.specs.Entry.{keyAt}
+use Rattle.key_order.specs.Entry.{restAt}
 use Rattle.key_order.proofs.HalvesLaws.{second-half, back, back-length, halves, sorted}
 use native.Mathlib.Omega.{arith}
 use borrow.Author.Needs.{needs}
@@ -46,7 +46,7 @@ sort-into-returns : (t : ℕ) → sort-into-lts.Need-returns (sort-into-calls t)
 sort-into-returns t c =
     let st = c .before .before .before .before .before .before .before .before .before in
     let few = c .before .before .sort-few in
-    subst (λ (l : List ℕ). Sorts (keyAt (st .args .text .now)) l (few .last .1 .1 .0) (few .result)) (st .pre .1) (few .ensures)
+    subst (λ (l : List ℕ). Sorts (restAt (st .args .text .now) (st .args .shared)) l (few .last .1 .1 .0) (few .result)) (st .pre .1) (few .ensures)
 
 sort-into-slice-relend-prefix-sort-into : (t : ℕ) → sort-into-lts.Need-slice-relend-prefix-sort-into (sort-into-calls t) (sort-into-at t) sort-into.Post
 sort-into-slice-relend-prefix-sort-into t c = search needs
@@ -123,7 +123,7 @@ sort-into-join-halves-requires t c κs =
     let first = c .before .before .before .before .before .before .before .before .before .before .before .before .before .sort-into in
     let then = c .before .before .before .before .before .before .sort-into2 in
     let n = back-length to (first .last .1 .0) half (omega arith) (first .kept .1 .0) (then .last .1 .0) (then .kept .1 .0) in
-    halves (keyAt (st .args .text .now)) from (first .last .1 .1 .0) (then .last .1 .1 .0) half (first .result) (then .result) (omega arith) (first .kept .1 .1 .0) (then .kept .1 .1 .0) (first .ensures) (then .ensures)
+    halves (restAt (st .args .text .now) (st .args .shared)) from (first .last .1 .1 .0) (then .last .1 .1 .0) half (first .result) (then .result) (omega arith) (first .kept .1 .1 .0) (then .kept .1 .1 .0) (first .ensures) (then .ensures)
     (back to (first .last .1 .0) (then .last .1 .0) half) (omega (arith, n))
 
 sort-into-same-length-3 : (t : ℕ) → sort-into-lts.Need-same-length-3 (sort-into-calls t) (sort-into-at t) sort-into.Post
@@ -158,7 +158,7 @@ sort-into-returns-2 t c =
     let first = c .before .before .before .before .before .before .before .before .before .before .before .before .before .before .before .before .sort-into in
     let then = c .before .before .before .before .before .before .before .before .before .sort-into2 in
     let joined = c .before .before .join-halves in
-    let key = keyAt (st .args .text .now) in
+    let key = restAt (st .args .text .now) (st .args .shared) in
     let all = sorted key from (first .last .1 .1 .0) (then .last .1 .1 .0) half (first .result) (then .result) (omega arith) (first .kept .1 .1 .0) (then .kept .1 .1 .0) (first .ensures) (then .ensures) (joined .last .1 .1 .0) (joined .result) (joined .ensures) in
     subst (λ (l : List ℕ). Sorts key l (joined .last .1 .1 .0) (joined .result)) (st .pre .1) all
 
