@@ -1,7 +1,8 @@
 /* One call on the sheet in a file, for host/instructions. The status is 0 only if it is answered, or refused with 15.
  *
  *   once CALL FILE    a call from sheet to sheet, the page or a measure, by the driver's name; get_child for the last child of the first line; import_big,
- *                     export_big and strict_export_big are of big-endian metadata, which import_big's sheet is turned to before the call */
+ *                     export_big and strict_export_big are of big-endian metadata, which import_big's sheet is turned to before the call;
+ *                     by_hand_import and by_hand_export are those of differential/by_hand */
 #include <stdio.h>
 #include <stdlib.h>
 #include <string.h>
@@ -9,6 +10,9 @@
 #include "arrow/juzontefa_arrow.h"
 
 typedef struct juzontefa_answer call(const uint8_t *sheet, size_t sheet_len, uint8_t *out, size_t out_len);
+
+/* The measures by hand in C: their answers are two numbers of 64 bits too. */
+call by_hand_import, by_hand_export;
 
 static uint8_t sheet[65536], out[1u << 19];
 static size_t size;
@@ -62,6 +66,8 @@ static const struct {
 } calls[] = {
     { "import", juzontefa_import, 0 },
     { "export", juzontefa_export, 0 },
+    { "by_hand_import", by_hand_import, 0 },
+    { "by_hand_export", by_hand_export, 0 },
     { "import_big", import_big, 0 },
     { "export_big", export_big, 0 },
     { "strict_export", strict_export, 0 },

@@ -1,5 +1,6 @@
 //! Times the Rust from sheet to sheet: reading the sheet into its structs or values, its own call, and writing the sheet
-//! of the answer. Where our library is linked, it is timed beside it, batch by batch, and the ratio is printed. Plain form
+//! of the answer. Where our library is linked, it is timed beside it, batch by batch, and the ratio is printed; for import and
+//! export so are those by hand in C (`by_hand.rs`), on the same sheets into the same buffers. Plain form
 //! and the page are not in the Rust: ours are timed beside our own export of the same sheet, as strict export is, and a measure
 //! beside our own conversion. A sheet that a mapping is not defined for is timed up to its refusal.
 
@@ -9,6 +10,7 @@ use std::path::Path;
 use std::time::Duration;
 
 use crate::answer::Answer;
+use crate::by_hand;
 use crate::call::{Call, Input, Order, Request};
 use crate::compare;
 use crate::failure::Failure;
@@ -108,11 +110,13 @@ fn text(number: usize, len: usize) -> Vec<u8> {
     text
 }
 
-/// Nanoseconds a call, the shortest yet, of the Rust or what stands for it and, where it is linked, of our library.
+/// Nanoseconds a call, the shortest yet, of the Rust or what stands for it, of our library where it is linked, and by hand in C
+/// where there is that.
 #[derive(Clone, Copy)]
 struct Timed {
     beside: f64,
     ours: Option<f64>,
+    by_hand: Option<f64>,
 }
 
 /// A sheet that a call is timed on.
@@ -179,6 +183,10 @@ pub fn bench(rust: &Rust, rounds: u64, only: Option<Call>, out: &mut dyn Write) 
     if !ratios.is_empty() {
         writeln!(out, "greatest ratio: {}", ratios.join(", "))?;
     }
+    let ratios: Vec<String> = CALLS.into_iter().filter_map(|call| greatest_ratio_to_c(&rows, call)).collect();
+    if !ratios.is_empty() {
+        writeln!(out, "greatest ratio to the C by hand: {}", ratios.join(", "))?;
+    }
     Ok(())
 }
 
@@ -200,8 +208,17 @@ fn can_be_timed(call: Call) -> bool {
 
 /// The greatest ratio of our time to what stands beside it, over a call's workloads; nothing where our library is not linked.
 fn greatest_ratio(rows: &[Row], call: Call) -> Option<String> {
+    greatest(rows, call, |timed| Some(timed.ours? / timed.beside))
+}
+
+/// The same, to the call by hand in C.
+fn greatest_ratio_to_c(rows: &[Row], call: Call) -> Option<String> {
+    greatest(rows, call, |timed| Some(timed.ours? / timed.by_hand?))
+}
+
+fn greatest(rows: &[Row], call: Call, ratio: impl Fn(&Timed) -> Option<f64>) -> Option<String> {
     let of_call = rows.iter().map(|row| &row.whole).filter(|trial| trial.request.call == call);
-    let ratios = of_call.filter_map(|trial| trial.timed.ours.map(|ours| ours / trial.timed.beside));
+    let ratios = of_call.filter_map(|trial| ratio(&trial.timed));
     ratios.reduce(f64::max).map(|ratio| format!("{} {ratio:.2}", call.name()))
 }
 
@@ -256,14 +273,14 @@ fn trial(rust: &Rust, workload: &Workload, size: usize, call: Call) -> Result<Tr
     };
     match (answer, beside) {
         (Err(UNDEFINED), _) | (Ok(_), Ok(_)) => {
-            let timed = Timed { beside: f64::INFINITY, ours: None };
+            let timed = Timed { beside: f64::INFINITY, ours: None, by_hand: None };
             Ok(Trial { request, beside: beside.unwrap_or(0), answer, sheet, timed })
         }
         _ => Err(Failure::Found(format!("{}: {answer:?}", workload.name))),
     }
 }
 
-/// A batch of the Rust, or of our own call beside what the Rust has not, and, where it is linked, one of ours.
+/// A batch of the Rust, or of our own call beside what the Rust has not, and, where they are there, one of ours and one by hand.
 fn measure(rust: &Rust, trial: &mut Trial) {
     let (request, sheet) = (trial.request, &trial.sheet[..]);
     // Where it is refused, the buffer has as many bytes as the sheet: no answer of a mapping is longer.
@@ -282,6 +299,13 @@ fn measure(rust: &Rust, trial: &mut Trial) {
     if library::has(request) {
         let of_ours = of_ours(request, sheet, room);
         trial.timed.ours = Some(trial.timed.ours.map_or(of_ours, |least| least.min(of_ours)));
+    }
+    if by_hand::has(request.call) {
+        let mut buffer = vec![0; room];
+        let of_c = nanoseconds(|| {
+            black_box(by_hand::ask(request.call, black_box(sheet), &mut buffer));
+        });
+        trial.timed.by_hand = Some(trial.timed.by_hand.map_or(of_c, |least| least.min(of_c)));
     }
 }
 
@@ -332,11 +356,16 @@ fn columns(whole: &Trial, quarter: Option<&Trial>) -> String {
         Some(quarter) => format!("{:.2}", time / quarter),
         None => "-".to_string(),
     };
-    let Timed { beside, ours } = whole.timed;
+    let Timed { beside, ours, by_hand } = whole.timed;
     let grows = growth(beside, quarter.map(|quarter| quarter.timed.beside));
     let what = match whole.request.is_in_rust() {
         true => "the Rust".to_string(),
         false => format!("our {}", call_beside(whole.request.call).name()),
+    };
+    let of_c = match (by_hand, ours) {
+        (None, _) => String::new(),
+        (Some(by_hand), None) => format!("; C by hand {by_hand:.0} ns"),
+        (Some(by_hand), Some(ours)) => format!("; C by hand {by_hand:.0} ns, ours {:.2} of it", ours / by_hand),
     };
     let ours = match ours {
         None => "-".to_string(),
@@ -348,5 +377,5 @@ fn columns(whole: &Trial, quarter: Option<&Trial>) -> String {
     let (call, input) = (whole.request.call.name(), whole.sheet.len());
     let output = whole.answer.map_or_else(|number| format!("no {number}"), |length| length.to_string());
     let speed = input as f64 * 1_000.0 / beside;
-    format!("{call:<24} {input:>6} {output:>6} {beside:>10.0} {speed:>8.1} {grows:>8}  {ours}")
+    format!("{call:<24} {input:>6} {output:>6} {beside:>10.0} {speed:>8.1} {grows:>8}  {ours}{of_c}")
 }

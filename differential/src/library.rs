@@ -1,7 +1,8 @@
 //! Our own calls, from the static library that `differential/build --with LIBRARY` links; without it there are none.
 //!
 //! `host/rust/src/raw.rs` declares the library's functions, and this is the one place that asks them. `differential/build`
-//! turns a feature on for each that the library has; a call whose feature is off is passed over by all commands.
+//! turns a feature on for each that the library has; a call whose feature is off is passed over by all commands. The import and the
+//! export by hand (`by_hand.rs`) are asked in the same way.
 //!
 //! Import, export and the round trip have two functions each: one without the order of metadata blocks, which is asked where
 //! that is little-endian, and one with it (document 02, #104), which is asked where it is big-endian. `outcome_with_order` and
@@ -141,23 +142,34 @@ pub fn has_demand3(order: Order) -> bool {
 /// The call's outcome; none where `has` says no. Ends the program if the library changes its input or writes outside the
 /// lent buffer.
 pub fn outcome(request: Request, sheet: &[u8], lent: &[u8]) -> Option<Outcome> {
-    Some(outcome_of(function(request)?, request, sheet, lent))
+    Some(outcome_of(function(request)?, request.argument, sheet, lent))
 }
 
 /// The outcome of the little-endian call by the function that takes the order; none for all other requests.
 pub fn outcome_with_order(request: Request, sheet: &[u8], lent: &[u8]) -> Option<Outcome> {
     match request.order() {
-        Order::Little => Some(outcome_of(function_with_order(request.call)?, request, sheet, lent)),
+        Order::Little => Some(outcome_of(function_with_order(request.call)?, request.argument, sheet, lent)),
         Order::Big => None,
     }
 }
 
-fn outcome_of(function: Function, request: Request, sheet: &[u8], lent: &[u8]) -> Outcome {
+fn outcome_of(function: Function, argument: u64, sheet: &[u8], lent: &[u8]) -> Outcome {
     let input = sheet.to_vec();
     let mut memory = Fenced::new(lent);
-    let (number, first, second) = ask_function(function, request.argument, &input, memory.buffer());
-    assert!(input == sheet, "the library changed its input");
+    let (number, first, second) = ask_function(function, argument, &input, memory.buffer());
+    assert!(input == sheet, "the call changed its input");
     Outcome { number: u8::try_from(number).unwrap_or(u8::MAX), first, second, buffer: memory.end() }
+}
+
+/// The outcome of a function that takes a sheet and a buffer; ends the program as `outcome` does.
+pub fn outcome_to_sheet(function: ToSheet, sheet: &[u8], lent: &[u8]) -> Outcome {
+    outcome_of(Function::ToSheet(function), 0, sheet, lent)
+}
+
+/// What such a function answers: the number and the length.
+pub fn ask_to_sheet(function: ToSheet, sheet: &[u8], out: &mut [u8]) -> (u64, u64) {
+    let (number, length, _) = ask_function(Function::ToSheet(function), 0, sheet, out);
+    (number, length)
 }
 
 /// What the call answers with a buffer that holds any answer. For calls that `has` says yes to.
@@ -187,7 +199,7 @@ fn ask_function(function: Function, argument: u64, sheet: &[u8], out: &mut [u8])
     let (from, len, to, room) = (start(sheet), sheet.len(), start_mut(out), out.len());
     let of_sheet = |told: juzontefa::Answer| (told.number, told.length, 0);
     let of_yes_no = |told: juzontefa::YesNo| (told.number, told.answer, 0);
-    // SAFETY: both slices are live, and the library keeps to their lengths.
+    // SAFETY: both slices are live, and the functions keep to their lengths.
     unsafe {
         match function {
             Function::ToSheet(call) => of_sheet(call(from, len, to, room)),
@@ -274,7 +286,7 @@ impl Fenced {
 
     /// What the buffer holds at the end.
     fn end(mut self) -> Vec<u8> {
-        assert!(self.0.starts_with(&FENCE) && self.0.ends_with(&FENCE), "the library wrote outside the buffer");
+        assert!(self.0.starts_with(&FENCE) && self.0.ends_with(&FENCE), "the call wrote outside the buffer");
         self.buffer().to_vec()
     }
 }

@@ -5,6 +5,7 @@
 
 mod answer;
 mod bench;
+mod by_hand;
 mod call;
 mod causes;
 mod compare;
@@ -34,7 +35,7 @@ use model::Model;
 use oracle::Rust;
 
 const USAGE: &str = "usage: juzontefa-differential answer CALL [NUMBER] | model CALL [NUMBER] | compare N [SEED [CALL]] | \
-    strict N [SEED] | demand3 N [SEED] | mutants [N [SEED]] | record SEED | check FILE | bench [ROUNDS [CALL]] | workloads FOLDER CALL";
+    strict N [SEED] | demand3 N [SEED] | by_hand N [SEED] | mutants [N [SEED]] | record SEED | check FILE | bench [ROUNDS [CALL]] | workloads FOLDER CALL";
 
 /// Deep sheets are read by recursion in the plain reading, and dropped by recursion in the Rust.
 const STACK: usize = 256 << 20;
@@ -84,6 +85,10 @@ fn run(arguments: &[String]) -> Result<(), Failure> {
         ["demand3", ref rest @ ..] => {
             let (fields, seed) = number_and_seed(rest, None)?;
             demand3::demand3(&Rust::new(), fields, seed, out)
+        }
+        ["by_hand", ref rest @ ..] => {
+            let (sheets, seed) = number_and_seed(rest, None)?;
+            by_hand::by_hand(sheets, seed, out)
         }
         ["mutants", ref rest @ ..] => {
             let (limit, seed) = number_and_seed(rest, Some(1_000_000))?;
