@@ -1,5 +1,7 @@
 // The bench cases of document 01 that import answers, A1 to A11, one after the other: each prints its field sheet, or `refused N`. They are rows of
 // the table in crates/sheets/specs/Bench.antt, and `case` demands that a sheet is its row's.
+#![tactic(auto)]
+
 ghost use Rattle.std.specs.Prelude.{◌≡◌};
 ghost use Rattle.bench.specs.Rows.{row_at, IsRow};
 

@@ -1,4 +1,6 @@
 // Byte strings written into a lent buffer as far as they fit, compared, and cleared; one byte as a number. A writer whose buffer is full goes on counting.
+#![tactic(auto)]
+
 ghost use Rattle.std.specs.Prelude.{◌≡◌, [], ◌∷◌, ◌+◌, ◌<◌, min, length, replicate};
 ghost use Rattle.sheets.specs.Bytes.{same};
 ghost use Rattle.buffer.specs.Over.{over, IsUsize, PutAt};

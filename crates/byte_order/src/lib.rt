@@ -1,4 +1,6 @@
 // Byte strings compared in byte order, as the source's `str` and `BTreeMap` have it.
+#![tactic(auto)]
+
 ghost use Rattle.std.specs.Prelude.{◌≡◌, ◌+◌, ◌-◌, ◌≤◌, min, length, drop};
 ghost use Rattle.sheets.specs.Field.{before};
 ghost use Rattle.byte_order.specs.Compare.{ordering, ordering_answer, Word};

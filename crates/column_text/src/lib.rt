@@ -1,4 +1,6 @@
 // A text's column of a field line: what it says, and whether byte 00 stands in it.
+#![tactic(auto)]
+
 ghost use Rattle.std.specs.Prelude.{◌≡◌};
 ghost use Rattle.sheets.specs.Format.{or_empty};
 ghost use Rattle.column_text.specs.ColumnText.{column_text, has_zero, TextColumn};

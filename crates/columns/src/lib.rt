@@ -1,4 +1,6 @@
 // The columns of a line: where one ends, and the part of the sheet that it is.
+#![tactic(auto)]
+
 pub mod ascii_pairs;
 pub mod number;
 pub mod text;

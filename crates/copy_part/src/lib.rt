@@ -1,4 +1,6 @@
 // Bytes of one slice copied into another, eight at once, then four, two and one: most are names and lines, which are short, so there is one loop only.
+#![tactic(auto)]
+
 ghost use Rattle.std.specs.Prelude.{◌+◌, ◌<◌};
 ghost use Rattle.buffer.specs.Over.{PutAt};
 ghost use Rattle.columns.specs.Columns.{part};

@@ -1,5 +1,7 @@
 // `IntegerType` and `PrimitiveType` of the source. `place` is the number that the sheets and the host have for a case, from 0 in declaration order;
 // `at` gives the case at a place.
+#![tactic(auto)]
+
 pub mod dtype;
 pub mod kind;
 pub mod physical_type;

@@ -1,4 +1,6 @@
 // A sheet's numbers: a column read without plus, spare zeros or `-0`, at each width.
+#![tactic(auto)]
+
 pub mod digit;
 pub mod put;
 

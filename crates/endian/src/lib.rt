@@ -1,5 +1,7 @@
 // The 32-bit counts and lengths of a metadata block in hexadecimal text, most significant byte first (`big`) or last. They stay unsigned: a negative one
 // is 2147483648 or more.
+#![tactic(auto)]
+
 ghost use Rattle.std.specs.Prelude.{◌≡◌, true, [], ◌∷◌, ◌+◌, ◌*◌, ◌<◌, get_or, take, drop};
 ghost use Rattle.sheets.specs.Text.{hex_digit, hex};
 ghost use Rattle.buffer.specs.Over.{IsUsize, PutAt};

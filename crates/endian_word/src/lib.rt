@@ -1,4 +1,6 @@
 // The last argument of the programs that read or write metadata: `little` or `big`, the order of its count and lengths. Without it they are little-endian.
+#![tactic(auto)]
+
 ghost use Rattle.std.specs.Prelude.{◌≡◌};
 ghost use Rattle.endian_word.specs.Words.{order_named};
 

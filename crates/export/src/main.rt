@@ -1,5 +1,7 @@
 // Reads a field sheet on standard input and prints its schema sheet, or `refused N`: `export [--strict] [little|big]`. A strict export refuses a field with a reserved
 // key or a dictionary index of 128 bits, so that what it prints imports to the plain form. The other word is the order of the metadata's lengths.
+#![tactic(auto)]
+
 use endian_word::Asked;
 use libc::{STDERR_FILENO, STDIN_FILENO};
 

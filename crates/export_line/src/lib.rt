@@ -1,5 +1,7 @@
 // What export writes for one field of a field sheet: the schema line of its type, from the first line of the field and the line of the type inside all
 // extensions around it; and what is left to be visited below.
+#![tactic(auto)]
+
 ghost use Rattle.std.specs.Prelude.{◌≡◌, true, ◌<◌};
 ghost use Rattle.std.proofs.Math.Option.{none};
 ghost use Rattle.put_format.specs.Formats.{exported_answer};

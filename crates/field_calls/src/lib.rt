@@ -1,4 +1,6 @@
 // The calls that take a field sheet's bytes and answer a sheet, or a page, in a lent buffer; and the measure of one of them, export.
+#![tactic(auto)]
+
 ghost use Rattle.std.specs.Prelude.{◌≡◌};
 ghost use Rattle.sheets.specs.Outcome.{export_outcome_in, strict_export_outcome, export_outcome_as, plain_outcome, to_storage_recursive_outcome, underlying_physical_type_outcome, page_outcome, measure_export_outcome};
 ghost use Rattle.buffer.specs.Over.{PutAt};

@@ -1,4 +1,6 @@
 // The columns of a field line that are no numbers: found and tested where they stand.
+#![tactic(auto)]
+
 pub mod lists;
 
 ghost use Rattle.std.specs.Prelude.{◌≡◌};

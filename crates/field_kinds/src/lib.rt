@@ -1,4 +1,6 @@
 // What a field line's kind asks of its other columns.
+#![tactic(auto)]
+
 ghost use Rattle.std.specs.Prelude.{◌≡◌};
 ghost use Rattle.sheets.specs.Field.{is_leaf};
 ghost use Rattle.sheets.specs.FieldTrees.{kind_bare};

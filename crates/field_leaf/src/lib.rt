@@ -1,4 +1,6 @@
 // The field line of a leaf recognised at once, as most lines are: a kind without a unit, a name in ASCII, no pairs, nothing below.
+#![tactic(auto)]
+
 ghost use Rattle.std.specs.Prelude.{◌≡◌, [], ◌∷◌, ◌+◌, ◌≤◌, length};
 ghost use Rattle.columns.specs.Columns.{part};
 ghost use Rattle.field_leaf.specs.FieldLeaves.{is_short, kind_of, kind_option, kind_end, field_leaf_in, leaf_option};

@@ -1,5 +1,7 @@
 // Lines of a field sheet, written column by column into a lent buffer, as much as fits. Each writer answers the place after what it wrote, also
 // where that is past the buffer's end.
+#![tactic(auto)]
+
 
 ghost use Rattle.std.specs.Prelude.{◌≡◌, ◌+◌, length};
 ghost use Rattle.sheets.specs.Number.{decimal};

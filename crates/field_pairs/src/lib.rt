@@ -1,4 +1,6 @@
 // The column `pairs` of a field line, read in place: `key=value` in hexadecimal, joined by commas.
+#![tactic(auto)]
+
 ghost use Rattle.std.specs.Prelude.{◌≡◌, false, ◌+◌, ◌≤◌, ◌<◌, length, drop};
 ghost use Rattle.hex.specs.Hex.{is_digit};
 ghost use Rattle.field_pairs.specs.Pairs.{reach, PassesDigits, Pairs, PairsFrom, pairs_of, PairAt, later_text, first_place, PairsColumn};

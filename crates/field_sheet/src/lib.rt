@@ -1,4 +1,6 @@
 // The reader of field sheets: heading, form and levels of the whole sheet, and what a strict export asks of it.
+#![tactic(auto)]
+
 pub mod levels;
 pub mod strict;
 pub mod subtrees;

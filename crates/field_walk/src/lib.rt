@@ -1,5 +1,7 @@
 // The walk over the lines of a field sheet, once for every call that answers lines for it: the lines that a call makes of a type are written line by line
 // into a lent buffer, by a recursion on the levels left.
+#![tactic(auto)]
+
 ghost use Rattle.std.specs.Prelude.{◌≡◌};
 ghost use Rattle.walks.specs.Places.{HasType, HasRow};
 ghost use Rattle.field_walk.specs.Calls.{is_inner, leaf_line_of, CallBegins, CallLeafWrote, CallWrote, CallRowWrote};

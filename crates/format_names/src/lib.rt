@@ -1,5 +1,7 @@
 // The fixed names of formats: one table of names, kinds and units, for `to_dtype` and for `to_format`, and the heads before a colon that name a unit
 // or a mode.
+#![tactic(auto)]
+
 pub mod candidates;
 pub mod first_byte;
 pub mod names;

@@ -1,4 +1,6 @@
 // Lowercase hexadecimal text, read in place.
+#![tactic(auto)]
+
 pub mod put;
 
 ghost use Rattle.std.specs.Prelude.{◌≡◌, true, ◌<◌, get_or};

@@ -1,4 +1,6 @@
 // Reads a schema sheet on standard input and prints its field sheet, or `refused N`: `import [little|big]`, which is the order of the metadata's lengths.
+#![tactic(auto)]
+
 use endian_word::Asked;
 use libc::STDIN_FILENO;
 

@@ -1,6 +1,8 @@
 // The lines of a field from the lines of its schema, in a lent buffer. A field is read through its type, and a type through its fields. Each line is tested
 // when it is come to, and no line is looked at twice: where one breaks its rules, or has too many levels, some refusal is answered, and whoever asked
 // tests the sheet to tell which one comes first.
+#![tactic(auto)]
+
 ghost use Rattle.std.specs.Prelude.{◌≡◌, ◌≤◌, length};
 ghost use Rattle.node.specs.Info.{HasEntries};
 ghost use Rattle.sheets.specs.Sheet.{sheet_limit};

@@ -1,4 +1,6 @@
 // Import: a schema sheet's bytes become a field sheet in a lent buffer; and how much buffer that takes.
+#![tactic(auto)]
+
 ghost use Rattle.std.specs.Prelude.{◌≡◌, ◌≤◌, length};
 ghost use Rattle.sheets.specs.Outcome.{import_outcome_in, measure_import_outcome};
 ghost use Rattle.outcome.specs.Answers.{outcome_of, measure_of};

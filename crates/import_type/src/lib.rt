@@ -1,4 +1,6 @@
 // The columns `kind p q text more` of a field line, written from what the schema line's format says: the type of `to_dtype`.
+#![tactic(auto)]
+
 pub mod put;
 
 ghost use Rattle.std.specs.Prelude.{◌+◌};

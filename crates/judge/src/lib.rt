@@ -1,5 +1,7 @@
 // An answer held against the recorded one. Before a call that writes a sheet the lent buffer was filled with a byte that no sheet has. A sheet is lent
 // as `&[u8]`: that it is unchanged needs no test.
+#![tactic(auto)]
+
 pub mod print;
 pub mod tally;
 

@@ -1,4 +1,6 @@
 // The calls for a host: over pointers and lengths, with nothing demanded of the caller. `include/juzontefa.h` declares them for C.
+#![tactic(auto)]
+
 ghost use Rattle.std.specs.Prelude.{◌≡◌};
 ghost use Rattle.sheets.specs.Outcome.{is_yes, import_outcome_in, export_outcome_in, import_outcome, export_outcome, strict_export_outcome, measure_import_outcome, measure_export_outcome, plain_outcome, page_outcome, to_physical_type_outcome, underlying_physical_type_outcome, to_storage_outcome, to_storage_recursive_outcome, inner_dtype_outcome, get_child_outcome, is_nested_outcome, contains_dictionary_outcome, from_integer_type_outcome, from_primitive_type_outcome};
 ghost use Rattle.sheets.specs.RoundTrip.{round_trip_outcome_in, strict_round_trip_outcome, round_trip_outcome};

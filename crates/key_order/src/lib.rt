@@ -1,4 +1,6 @@
 // The order of a metadata block's keys: an entry tells where a key stands in the block's text, and entries are compared by their keys.
+#![tactic(auto)]
+
 pub mod insert;
 pub mod merge;
 pub mod shared;

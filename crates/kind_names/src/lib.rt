@@ -1,5 +1,7 @@
 // The names of the kinds, as `ArrowDataType` spells them, each left-justified in 16 bytes. A `match` whose arms are constants compiles to a table that is only
 // read, where an array of all names would be stored anew at each call.
+#![tactic(auto)]
+
 ghost use Rattle.std.specs.Prelude.{◌≡◌, ◌≤◌};
 ghost use Rattle.sheets.specs.Kind.{Interval, Binary, Union};
 ghost use Rattle.sheets.specs.KindNames.{kind_name};

@@ -1,4 +1,6 @@
 // What stands below a line that was read, all of it still to be visited.
+#![tactic(auto)]
+
 ghost use Rattle.std.specs.Prelude.{◌≡◌, ◌≤◌};
 ghost use Rattle.line_below.specs.Below.{row_below};
 

@@ -1,4 +1,6 @@
 // The calls that map a type and answer numbers, and the conversions of a type's place into a sheet.
+#![tactic(auto)]
+
 pub mod conversions;
 pub mod dictionaries;
 pub mod physical;

@@ -1,5 +1,7 @@
 // What the mappings write for a line of a field sheet: the line with the columns of another field, copied from the sheet; and, for those that walk it, what
 // is left to be visited below.
+#![tactic(auto)]
+
 pub mod change;
 pub mod put;
 

@@ -1,5 +1,7 @@
 // Tells of the sheet on standard input how many bytes import or export of it would write, and how many of its lines it would visit:
 // `measure import|export [little|big]`; the second word is the order of the metadata's lengths. Prints `length N, lines M` or `refused N`.
+#![tactic(auto)]
+
 use endian_word::Asked;
 use libc::{STDERR_FILENO, STDIN_FILENO, STDOUT_FILENO};
 use outcome::Measured;

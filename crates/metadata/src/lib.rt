@@ -1,5 +1,7 @@
 // `metadata_from_bytes` over the hexadecimal text of a schema line's metadata, in place: pairs are entries, numbers that say where they stand. The
 // count and the lengths are big-endian (`big`) or not.
+#![tactic(auto)]
+
 pub mod pair;
 pub mod put;
 

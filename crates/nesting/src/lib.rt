@@ -1,4 +1,6 @@
 // How a type holds other types, by the kind of its line: what the mappings ask of a kind.
+#![tactic(auto)]
+
 ghost use Rattle.std.specs.Prelude.{◌≡◌};
 ghost use Rattle.nesting.specs.Nestings.{kind_nesting};
 

@@ -1,4 +1,6 @@
 // One line of a schema sheet to the field lines of its node: what its metadata and its name say of its field, and its type.
+#![tactic(auto)]
+
 pub mod dtype;
 pub mod info;
 pub mod lines;

@@ -1,4 +1,6 @@
 // What a call that answers a sheet tells its caller, once for all of them: a number and a length; and what a call tells that measures such a sheet.
+#![tactic(auto)]
+
 ghost use Rattle.std.specs.Prelude.{◌≡◌};
 ghost use Rattle.sheets.specs.Refusal.{number_of};
 ghost use Rattle.sheets.specs.Outcome.{refusal};

@@ -1,4 +1,6 @@
 // Reads a field sheet on standard input and prints its page, or `refused N`.
+#![tactic(auto)]
+
 use libc::STDIN_FILENO;
 
 // More than any answer has: 265,780 bytes at most (crates/rooms).

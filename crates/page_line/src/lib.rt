@@ -1,5 +1,7 @@
 // What the page has for one line of a field sheet: its level, the mark of its nullable and the digits of its name, and what is left to be visited below
 // it; and the line of a leaf, read and written at once.
+#![tactic(auto)]
+
 pub mod put;
 
 ghost use Rattle.std.specs.Prelude.{◌≡◌, ◌<◌};

@@ -1,4 +1,6 @@
 // The Rust's `parse::<usize>`, at 64 bits, and `parse::<i32>`, of hexadecimal text.
+#![tactic(auto)]
+
 ghost use Rattle.std.specs.Prelude.{◌≡◌, true, ◌+◌, drop};
 ghost use Rattle.sheets.specs.Format.{drop_plus, read_size, read_id};
 ghost use Rattle.hex.specs.Hex.{is_hex, bytes_of};

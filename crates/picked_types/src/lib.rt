@@ -1,4 +1,6 @@
 // The calls that answer a type of a field: `to_storage`, `inner_dtype` and `get_child`. Its lines are copied, the first with the columns of the field or bare.
+#![tactic(auto)]
+
 pub mod child;
 pub mod inner;
 pub mod pick;

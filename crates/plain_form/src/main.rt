@@ -1,4 +1,6 @@
 // Reads a field sheet on standard input and prints its plain form, a field sheet, or `refused N`.
+#![tactic(auto)]
+
 use libc::STDIN_FILENO;
 
 // More than any answer has: 83,739 bytes at most (crates/rooms).

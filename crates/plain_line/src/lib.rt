@@ -1,4 +1,6 @@
 // What plain form writes for one line of a field sheet, and what is left to be visited below it. It refuses nothing.
+#![tactic(auto)]
+
 pub mod ids;
 pub mod line;
 

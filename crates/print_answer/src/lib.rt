@@ -1,4 +1,6 @@
 // What the programs print of an answer that is a sheet: the sheet, or `refused N`, and then why on standard error.
+#![tactic(auto)]
+
 mod sentence;
 
 ghost use Rattle.std.specs.Prelude.{◌≡◌};

@@ -1,4 +1,6 @@
 // What the programs print of a schema sheet, whose metadata is big-endian (`big`) or not: its field sheet, or `refused N`. The output buffer has 65,536 bytes.
+#![tactic(auto)]
+
 ghost use Rattle.std.specs.Prelude.{◌≡◌};
 ghost use Rattle.print_import.specs.Printed.{printed_number};
 

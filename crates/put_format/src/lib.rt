@@ -1,4 +1,6 @@
 // `to_format`: the format of a field line's type in hexadecimal, from the line's columns, as the schema line has it.
+#![tactic(auto)]
+
 pub mod names;
 pub mod numbers;
 

@@ -1,5 +1,7 @@
 // The metadata column of a schema line: the block of `metadata_to_bytes` in hexadecimal, from the column `pairs` of a field line and the
 // columns of its extension; its count and lengths are big-endian (`big`) or not. The pairs stand in the order of their keys, so that the reserved keys are merged in on one walk.
+#![tactic(auto)]
+
 ghost use Rattle.std.specs.Prelude.{◌<◌, length};
 ghost use Rattle.buffer.specs.Over.{PutAt};
 ghost use Rattle.field_pairs.specs.Pairs.{Pairs, PairAt};

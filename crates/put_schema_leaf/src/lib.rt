@@ -1,5 +1,7 @@
 // What becomes of a leaf's field line where it is recognised at once: its schema line, for export, and the line itself, as it is its own plain form
 // and, unless it is a date's, its own underlying type.
+#![tactic(auto)]
+
 pub mod format;
 
 ghost use Rattle.std.specs.Prelude.{◌≡◌, [], ◌∷◌, ◌++◌, ◌+◌, ◌%◌, ◌≤◌, ◌<◌, length};

@@ -1,4 +1,6 @@
 // One line of a schema sheet, written from columns of a field sheet: `format name flags metadata children dictionary`.
+#![tactic(auto)]
+
 ghost use Rattle.std.specs.Prelude.{◌≡◌, not, ◌&&◌, [], ◌∷◌, eqb, ltb};
 ghost use Rattle.buffer.specs.Over.{PutAt};
 ghost use Rattle.column_text.specs.ColumnText.{TextColumn};

@@ -1,4 +1,6 @@
 // A line of a field sheet at a place: read and tested, or, where it is known to stand, found again.
+#![tactic(auto)]
+
 pub mod own;
 pub mod types;
 

@@ -1,4 +1,6 @@
 // The recorded list of answers read through the window: its first line, then a record at a time, and whether it is read to its end.
+#![tactic(auto)]
+
 pub mod call;
 pub mod number_line;
 pub mod records;

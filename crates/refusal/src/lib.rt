@@ -1,4 +1,6 @@
 // Why a sheet is refused (document 01, 'Who is turned back', and the requests of document 02): the reasons by name, and the number of each.
+#![tactic(auto)]
+
 ghost use Rattle.std.specs.Prelude.{◌≡◌};
 ghost use Rattle.sheets.specs.Refusal.{number_of};
 ghost use Rattle.refusal.specs.Refusals.{refusal_of};

@@ -1,5 +1,7 @@
 // Replays the recorded list of answers (differential/ANSWERS.md) that stands on standard input. Prints for each call how many records were
 // replayed and how many differ, and in full the first that does; or at which record the list is malformed. Records are counted from 0.
+#![tactic(auto)]
+
 ghost use Rattle.std.specs.Prelude.{◌≡◌, length};
 ghost use Rattle.outcome.specs.Answers.{outcome_of, measure_of};
 ghost use Rattle.mapping_calls.specs.Answers.{places_of, yes_no_of};

@@ -1,5 +1,7 @@
 // Reads a field sheet on standard input, exports it, imports that, makes its plain form and exports that, and prints `the same` if all came back as
 // demand 3 says; or which step refused, with its number, or which step differs: `round_trip [little|big]`, which is the order of the metadata's lengths.
+#![tactic(auto)]
+
 use endian_word::Asked;
 use libc::{STDIN_FILENO, STDOUT_FILENO};
 use round_trips::RoundTrip;

@@ -1,5 +1,7 @@
 // Demand 3 as two calls: a field sheet goes out and back over four lent buffers, and what stands in them is compared; and two field sheets are
 // compared by their exports and their plain forms; the metadata of all exports is big-endian (`big`) or not. A round trip's exports are strict (`strict`) or not. The first step that is refused is the answer, and then every lent byte is zero.
+#![tactic(auto)]
+
 ghost use Rattle.std.specs.Prelude.{◌≡◌, length, replicate, take};
 ghost use Rattle.sheets.specs.Bytes.{same};
 ghost use Rattle.sheets.specs.Outcome.{import_outcome_in, export_outcome_in, export_outcome_as, plain_outcome};

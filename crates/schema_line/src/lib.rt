@@ -1,4 +1,6 @@
 // A line of a schema sheet: its columns as parts of the sheet, the text of a column, and its flags.
+#![tactic(auto)]
+
 pub mod read;
 
 ghost use Rattle.std.specs.Prelude.{◌≡◌};

@@ -187,6 +187,6 @@ module _ (big : Bool) where
   long_read : (p : Bytes) → leb (length p) 65535 ≡ false → read_field_sheet p ≡ refused not_sheet
   long_read p h = rw h
 
-  pub too_long : (strict : Bool) (p : Bytes) → leb (length p) 65535 ≡ false → exported_as strict big p ≡ refused not_sheet
-  too_long true p h = strict_form p not_sheet (long_read p h)
-  too_long false p h = export_form p not_sheet (long_read p h)
+  pub too_long_lem : (strict : Bool) (p : Bytes) → leb (length p) 65535 ≡ false → exported_as strict big p ≡ refused not_sheet
+  too_long_lem true p h = strict_form p not_sheet (long_read p h)
+  too_long_lem false p h = export_form p not_sheet (long_read p h)

@@ -1,4 +1,6 @@
 // The line of a type inside all extensions around it; [below] what stands below a line.
+#![tactic(auto)]
+
 pub mod below;
 
 ghost use Rattle.walks.specs.Places.{HasType};

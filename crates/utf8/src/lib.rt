@@ -1,4 +1,6 @@
 // UTF-8 by one class for each byte value.
+#![tactic(auto)]
+
 ghost use Rattle.std.specs.Prelude.{◌≡◌, true};
 ghost use Rattle.sheets.specs.Utf8.{is_utf8};
 ghost use Rattle.sheets.specs.Utf8Classes.{class_of, next_of};
