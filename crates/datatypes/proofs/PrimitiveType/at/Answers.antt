@@ -1,0 +1,60 @@
+-- `at` meets its contract: in each arm the place is the pattern, and the definition computes there; in `_` no case has it. Assumes nothing.
+use mathlib.Core.Path.{refl, sym}
+use Rattle.datatypes.specs.Places.{primitive_place}
+use Rattle.datatypes.specs.At.{primitive_types}
+use Rattle.datatypes.proofs.AtLaws.{below, case_at, nowhere}
+use Rattle.datatypes.proofs.PrimitiveType.at.Goals as goal
+
+pub returns-in-0 : goal.returns-in-0
+returns-in-0 c = case_at primitive_place _ _ c.in-0.is primitive_types
+
+pub returns-in-1 : goal.returns-in-1
+returns-in-1 c = case_at primitive_place _ _ c.in-1.is primitive_types
+
+pub returns-in-2 : goal.returns-in-2
+returns-in-2 c = case_at primitive_place _ _ c.in-2.is primitive_types
+
+pub returns-in-3 : goal.returns-in-3
+returns-in-3 c = case_at primitive_place _ _ c.in-3.is primitive_types
+
+pub returns-in-4 : goal.returns-in-4
+returns-in-4 c = case_at primitive_place _ _ c.in-4.is primitive_types
+
+pub returns-in-5 : goal.returns-in-5
+returns-in-5 c = case_at primitive_place _ _ c.in-5.is primitive_types
+
+pub returns-in-6 : goal.returns-in-6
+returns-in-6 c = case_at primitive_place _ _ c.in-6.is primitive_types
+
+pub returns-in-7 : goal.returns-in-7
+returns-in-7 c = case_at primitive_place _ _ c.in-7.is primitive_types
+
+pub returns-in-8 : goal.returns-in-8
+returns-in-8 c = case_at primitive_place _ _ c.in-8.is primitive_types
+
+pub returns-in-9 : goal.returns-in-9
+returns-in-9 c = case_at primitive_place _ _ c.in-9.is primitive_types
+
+pub returns-in-10 : goal.returns-in-10
+returns-in-10 c = case_at primitive_place _ _ c.in-10.is primitive_types
+
+pub returns-in-11 : goal.returns-in-11
+returns-in-11 c = case_at primitive_place _ _ c.in-11.is primitive_types
+
+pub returns-in-12 : goal.returns-in-12
+returns-in-12 c = case_at primitive_place _ _ c.in-12.is primitive_types
+
+pub returns-in-13 : goal.returns-in-13
+returns-in-13 c = case_at primitive_place _ _ c.in-13.is primitive_types
+
+pub returns-in-14 : goal.returns-in-14
+returns-in-14 c = case_at primitive_place _ _ c.in-14.is primitive_types
+
+pub returns-in-15 : goal.returns-in-15
+returns-in-15 c = case_at primitive_place _ _ c.in-15.is primitive_types
+
+pub returns-in-16 : goal.returns-in-16
+returns-in-16 c = case_at primitive_place _ _ c.in-16.is primitive_types
+
+pub returns-in_default : goal.returns-in_default
+returns-in_default c = sym (nowhere primitive_place c.args.place (below 17) c.in_default.in_default-own.rest primitive_types refl)
