@@ -12,8 +12,8 @@ use Rattle.sheets.specs.Field.{text_rule}
 use Rattle.sheets.proofs.BytesLaws.{same_eq, same_refl}
 use Rattle.sheets.proofs.TextLaws.{bytes_rule, read_text_lem}
 use Rattle.sheets.proofs.Utf8Laws.{text_bytes}
-use Rattle.hex.specs.Hex.{given_or, is_hex, bytes_of}
-use Rattle.hex.proofs.PartLaws.{bytes_hex, is_hex_hex}
+use Rattle.hexadecimal.specs.Hex.{given_or, is_hex, bytes_of}
+use Rattle.hexadecimal.proofs.PartLaws.{bytes_hex, is_hex_hex}
 use Rattle.schema_line.specs.Texts.{text_in}
 use Rattle.schema_line.proofs.TextLaws.{text_whole}
 use Rattle.column_text.specs.ColumnText.{column_text, TextColumn}

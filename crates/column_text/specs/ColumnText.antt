@@ -5,7 +5,7 @@ use Rattle.sheets.specs.Rule.{passes, Meets}
 use Rattle.sheets.specs.Bytes.{Bytes, lacks}
 use Rattle.sheets.specs.Text.{write_text, read_text}
 use Rattle.sheets.specs.Field.{text_rule}
-use Rattle.hex.specs.Hex.{given_or}
+use Rattle.hexadecimal.specs.Hex.{given_or}
 
 -- what the column says
 unfoldable pub column_text : Bytes → Option Bytes

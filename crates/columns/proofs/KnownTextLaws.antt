@@ -8,8 +8,8 @@ use lib.Dec.{ltb}
 use lib.ListN.{length, get_or}
 use borrow.Author.Tests.{ltb-true, ltb-false}
 use Rattle.sheets.specs.Bytes.{Bytes}
-use Rattle.hex.specs.Hex.{bytes_of}
-use Rattle.hex.proofs.HexLaws.{twice_length}
+use Rattle.hexadecimal.specs.Hex.{bytes_of}
+use Rattle.hexadecimal.proofs.HexLaws.{twice_length}
 use Rattle.columns.specs.Columns.{part, stop_from}
 use Rattle.columns.specs.TextColumns.{HasText}
 use Rattle.columns.proofs.ColumnLaws.{space_stops, length_stop, stop_on, column_size, column_end_lem, column_stop}

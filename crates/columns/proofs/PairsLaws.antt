@@ -13,8 +13,8 @@ use Rattle.sheets.specs.Bytes.{Bytes, all, lacks}
 use Rattle.sheets.specs.Text.{hex_digit, hex}
 use Rattle.sheets.proofs.Tests.{never, and_left, and_right, meets}
 use Rattle.sheets.proofs.Utf8Laws.{is_ascii}
-use Rattle.hex.specs.Hex.{is_digit, value_of}
-use Rattle.hex.proofs.DigitLaws.{to_9, to_f, value_below, digit_of_value}
+use Rattle.hexadecimal.specs.Hex.{is_digit, value_of}
+use Rattle.hexadecimal.proofs.DigitLaws.{to_9, to_f, value_below, digit_of_value}
 use Rattle.columns.specs.Columns.{part}
 use Rattle.columns.specs.Pairs.{is_pair, pairs, pairs_length, pairs_from}
 use Rattle.columns.proofs.OneByteLaws.{two_cons}

@@ -17,9 +17,9 @@ use Rattle.sheets.specs.Answer.{Answer, refused, given, ◌>>=◌}
 use Rattle.sheets.specs.Text.{hex_digit, hex, unhex, read_text}
 use Rattle.sheets.proofs.Tests.{never, and_left, and_right}
 use Rattle.sheets.proofs.TextLaws.{unhex_hex}
-use Rattle.hex.specs.Hex.{gives, is_digit, value_of, is_hex, bytes_of}
-use Rattle.hex.proofs.DigitLaws.{digit_of_value}
-use Rattle.hex.proofs.HexLaws.{unhex_is, digit_at, byte_of_pair, length_bytes}
+use Rattle.hexadecimal.specs.Hex.{gives, is_digit, value_of, is_hex, bytes_of}
+use Rattle.hexadecimal.proofs.DigitLaws.{digit_of_value}
+use Rattle.hexadecimal.proofs.HexLaws.{unhex_is, digit_at, byte_of_pair, length_bytes}
 use Rattle.columns.specs.Columns.{past_space, column_of}
 use Rattle.columns.specs.TextColumns.{is_mark, is_zero, zeros_apart, is_text, lacks_zero_in, is_cstring}
 use Rattle.columns.proofs.OneByteLaws.{One, one_past, one_part, one_column}

@@ -6,7 +6,7 @@ use Rattle.sheets.specs.Bytes.{Bytes, space}
 use Rattle.sheets.specs.Answer.{Answer, refused, given}
 use Rattle.sheets.specs.Text.{read_text}
 use Rattle.sheets.specs.Schema.{lacks_zero}
-use Rattle.hex.specs.Hex.{gives}
+use Rattle.hexadecimal.specs.Hex.{gives}
 use Rattle.columns.specs.Columns.{part, ColumnAt}
 
 -- a text of one byte: `~`, a null pointer, or `-`, an empty text

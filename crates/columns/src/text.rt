@@ -2,7 +2,7 @@
 ghost use Rattle.std.specs.Prelude.{◌≡◌, true, drop};
 ghost use Rattle.sheets.specs.Rule.{passes};
 ghost use Rattle.sheets.specs.Bytes.{lacks, space};
-ghost use Rattle.hex.specs.Hex.{is_hex, bytes_of};
+ghost use Rattle.hexadecimal.specs.Hex.{is_hex, bytes_of};
 ghost use Rattle.columns.specs.Columns.{stop_from, column_of, one_of, place_option};
 ghost use Rattle.columns.specs.TextColumns.{is_mark, is_text, is_zero, zeros_apart, is_cstring, HasText, HasPairs};
 
@@ -27,7 +27,7 @@ fn is_text(s: &[u8]) -> bool
     if s.len() == 1 {
         return is_mark(s[0]);
     }
-    hex::is_hex(s)
+    hexadecimal::is_hex(s)
 }
 
 // Whether the digits are 00.

@@ -12,9 +12,9 @@ use Rattle.sheets.specs.Bytes.{Bytes}
 use Rattle.sheets.specs.Text.{hex_digit, hex}
 use Rattle.sheets.specs.Metadata.{little_value, in_order, word32, value32}
 use Rattle.sheets.proofs.MetadataLaws.{word_length}
-use Rattle.hex.specs.Hex.{bytes_of}
-use Rattle.hex.proofs.HexLaws.{twice_length}
-use Rattle.hex.proofs.PartLaws.{length_hex, bytes_hex, bytes_part}
+use Rattle.hexadecimal.specs.Hex.{bytes_of}
+use Rattle.hexadecimal.proofs.HexLaws.{twice_length}
+use Rattle.hexadecimal.proofs.PartLaws.{length_hex, bytes_hex, bytes_part}
 use Rattle.words.specs.Words.{WordAt, WordOf, low_bytes}
 use Rattle.words.proofs.WordLaws.{word_is, low_is}
 use Rattle.endian.specs.Word.{word_value, word_bytes, HasWord, HasThree, four_at}

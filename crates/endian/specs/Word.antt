@@ -4,7 +4,7 @@
 use Rattle.std.specs.Prelude.{◌≡◌, Bool, true, ℕ, ◌+◌, ◌*◌, ◌≤◌, length, take, drop}
 use Rattle.sheets.specs.Bytes.{Bytes}
 use Rattle.sheets.specs.Metadata.{word32, value32}
-use Rattle.hex.specs.Hex.{is_hex, bytes_of}
+use Rattle.hexadecimal.specs.Hex.{is_hex, bytes_of}
 
 -- the number of the bytes
 unfoldable pub word_value : Bool → Bytes → ℕ

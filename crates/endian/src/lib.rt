@@ -5,7 +5,7 @@
 ghost use Rattle.std.specs.Prelude.{◌≡◌, true, [], ◌∷◌, ◌+◌, ◌*◌, ◌<◌, get_or, take, drop};
 ghost use Rattle.sheets.specs.Text.{hex_digit, hex};
 ghost use Rattle.buffer.specs.Over.{IsUsize, PutAt};
-ghost use Rattle.hex.specs.Hex.{bytes_of, HasPair};
+ghost use Rattle.hexadecimal.specs.Hex.{bytes_of, HasPair};
 ghost use Rattle.words.specs.Words.{low_bytes};
 ghost use Rattle.endian.specs.Word.{word_value, word_bytes, HasWord, HasThree, four_at};
 
@@ -14,7 +14,7 @@ fn wide_at(s: &[u8], k: usize) -> u32
     requires { HasPair s.now k }
     ensures { (result ≡ get_or (bytes_of s.now) k 0) × (result < 256) }
 {
-    hex::byte_at(s, k) as u32
+    hexadecimal::byte_at(s, k) as u32
 }
 
 // The number of four bytes, the least significant first.
@@ -84,14 +84,14 @@ fn put_bytes(out: &mut [u8], at: usize, n: u32, big: bool) -> usize
     ensures { PutAt at (hex (word_bytes big n)) result out.old out.new }
 {
     let b = word_bytes(n, big);
-    hex::put::put_hex(out, at, &b)
+    hexadecimal::put::put_hex(out, at, &b)
 }
 
 fn wide_digit(n: u32) -> u64
     requires { n < 16 }
     ensures { (result ≡ hex_digit n) × (result < 256) }
 {
-    hex::put::digit_of(n as u8) as u64
+    hexadecimal::put::digit_of(n as u8) as u64
 }
 
 // The text of a number below 256 as one word: its two digits, with six zeros after or before them.

@@ -22,8 +22,8 @@ use Rattle.sheets.proofs.Tests.{and_left, not_given}
 use Rattle.sheets.proofs.BytesLaws.{same_refl}
 use Rattle.sheets.proofs.HeadingLaws.{turned}
 use Rattle.sheets.proofs.InverseLaws.{number_read, text_read}
-use Rattle.hex.specs.Hex.{gives, is_hex, bytes_of}
-use Rattle.hex.proofs.HexLaws.{unhex_is, unhex_not}
+use Rattle.hexadecimal.specs.Hex.{gives, is_hex, bytes_of}
+use Rattle.hexadecimal.proofs.HexLaws.{unhex_is, unhex_not}
 use Rattle.columns.specs.TextColumns.{is_text}
 use Rattle.field_columns.specs.Lists.{keeps}
 use Rattle.field_columns.specs.FieldColumns.{is_nothing, is_some_text, is_optional_text, is_flag}

@@ -25,8 +25,8 @@ use Rattle.sheets.proofs.PartLaws.{before_free, before_cut}
 use Rattle.sheets.proofs.InverseLaws.{split_some, unhex_read}
 use Rattle.sheets.proofs.TextLaws.{hex_lacks}
 use Rattle.sheets.proofs.Utf8Laws.{utf8_bytes}
-use Rattle.hex.specs.Hex.{is_hex, bytes_of}
-use Rattle.hex.proofs.HexLaws.{unhex_is, unhex_not}
+use Rattle.hexadecimal.specs.Hex.{is_hex, bytes_of}
+use Rattle.hexadecimal.proofs.HexLaws.{unhex_is, unhex_not}
 use Rattle.field_columns.specs.Lists.{keeps, is_mark, is_digits, is_pair, key_end, are_pairs, follow_pairs, is_pairs}
 use Rattle.field_columns.proofs.ListLaws.{list_mark, list_parts, some_keeps}
 

@@ -8,7 +8,7 @@ use Rattle.sheets.specs.Text.{read_text}
 use Rattle.sheets.specs.Utf8.{is_utf8}
 use Rattle.sheets.specs.Field.{text_rule}
 use Rattle.sheets.specs.FieldSheet.{no_text, read_some, bool_at}
-use Rattle.hex.specs.Hex.{gives}
+use Rattle.hexadecimal.specs.Hex.{gives}
 use Rattle.field_columns.specs.Lists.{keeps, is_ids, is_pairs}
 use Rattle.field_columns.specs.declared.Content.{Content}
 use Rattle.field_columns.specs.declared.Content.TheVariants as C

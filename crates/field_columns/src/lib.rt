@@ -44,7 +44,7 @@ fn is_text(c: &[u8]) -> bool
     if c.len() == 1 {
         return c[0] == b'-';
     }
-    if !hex::is_hex(c) {
+    if !hexadecimal::is_hex(c) {
         return false;
     }
     utf8::is_utf8_hex(c)

@@ -68,7 +68,7 @@ pub fn is_ids(c: &[u8]) -> bool
 fn is_digits(t: &[u8]) -> bool
     ensures { result ≡ is_digits t.now }
 {
-    if !hex::is_hex(t) {
+    if !hexadecimal::is_hex(t) {
         return false;
     }
     utf8::is_utf8_hex(t)

@@ -28,7 +28,7 @@ use Rattle.sheets.proofs.FieldSheetLaws.{type_entries, type_ends}
 use Rattle.sheets.proofs.FieldTrees.{fields_lawful}
 use Rattle.sheets.proofs.Utf8Laws.{ascii_utf8}
 use Rattle.sheets.specs.Metadata.{little_value}
-use Rattle.hex.proofs.PartLaws.{length_hex}
+use Rattle.hexadecimal.proofs.PartLaws.{length_hex}
 use Rattle.words.specs.Words.{WordAt}
 use Rattle.words.proofs.WordLaws.{word_is}
 use Rattle.columns.specs.Columns.{part}

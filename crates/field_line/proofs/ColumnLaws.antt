@@ -12,8 +12,8 @@ use Rattle.sheets.specs.Sheet.{ended}
 use Rattle.sheets.specs.Field.{Info}
 use Rattle.sheets.specs.FieldSheet.{Shape, Line, columns, info_columns, columns_of, own_of, children_of, field_line, line_of, pair_text, no_text, to_nat}
 use Rattle.buffer.specs.Over.{PutAt}
-use Rattle.hex.specs.Hex.{is_hex, bytes_of}
-use Rattle.hex.proofs.PartLaws.{hex_bytes}
+use Rattle.hexadecimal.specs.Hex.{is_hex, bytes_of}
+use Rattle.hexadecimal.proofs.PartLaws.{hex_bytes}
 use Rattle.field_line.specs.Columns.{column, kind_piece, shape_piece, columns_piece, own_piece, end_piece, pair_piece}
 
 -- ── a line

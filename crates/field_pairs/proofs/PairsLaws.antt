@@ -23,8 +23,8 @@ use Rattle.sheets.proofs.TextLaws.{hex_lacks}
 use Rattle.sheets.proofs.Utf8Laws.{utf8_bytes}
 use Rattle.sheets.proofs.MetadataLaws.{text_pair, pairs_text_lem}
 use Rattle.sheets.proofs.FieldSheetLaws.{pairs_listed, read_pairs}
-use Rattle.hex.specs.Hex.{is_digit, is_hex, given_or}
-use Rattle.hex.proofs.HexLaws.{first_digit, second_digit, hex_after, hex_one}
+use Rattle.hexadecimal.specs.Hex.{is_digit, is_hex, given_or}
+use Rattle.hexadecimal.proofs.HexLaws.{first_digit, second_digit, hex_after, hex_one}
 use Rattle.columns.specs.Columns.{part}
 use Rattle.field_pairs.specs.Pairs.{reach, pairs_in, pairs_of, PairsColumn, first_place, after_commas, pairs_text, Pairs, PairsFrom, PairAt, later_text}
 use Rattle.field_pairs.specs.Reserved.{is_past}

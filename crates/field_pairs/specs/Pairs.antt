@@ -8,7 +8,7 @@ use Rattle.sheets.specs.Text.{hex}
 use Rattle.sheets.specs.Field.{Pair, pairs_rule, metadata_rule}
 use Rattle.sheets.specs.FieldSheet.{pair_text, write_list, read_list, read_pair}
 use Rattle.sheets.specs.Metadata.{or_none}
-use Rattle.hex.specs.Hex.{is_digit, given_or}
+use Rattle.hexadecimal.specs.Hex.{is_digit, given_or}
 use Rattle.columns.specs.Columns.{part}
 use Rattle.field_pairs.specs.declared.PairPlace.{PairPlace}
 

@@ -2,7 +2,7 @@
 #![tactic(auto)]
 
 ghost use Rattle.std.specs.Prelude.{◌≡◌, false, ◌+◌, ◌≤◌, ◌<◌, length, drop};
-ghost use Rattle.hex.specs.Hex.{is_digit};
+ghost use Rattle.hexadecimal.specs.Hex.{is_digit};
 ghost use Rattle.field_pairs.specs.Pairs.{reach, PassesDigits, Pairs, PairsFrom, pairs_of, PairAt, later_text, first_place, PairsColumn};
 ghost use Rattle.field_pairs.specs.Reserved.{is_reserved, is_past, any_reserved, mentions_in, has_reserved};
 
@@ -43,7 +43,7 @@ fn pass_digits(s: &[u8], from: usize) -> usize
     let mut i = from;
     while BLOCK <= s.len() - i {
         let next = i + BLOCK;
-        if !hex::is_hex(&s[i..next]) {
+        if !hexadecimal::is_hex(&s[i..next]) {
             return i;
         }
         i = next;

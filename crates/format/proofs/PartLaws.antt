@@ -13,9 +13,9 @@ use lib.Seq.{take_all}
 use Rattle.sheets.specs.Bytes.{Bytes}
 use Rattle.sheets.specs.Parts.{bytes_before}
 use Rattle.sheets.specs.Format.{cut}
-use Rattle.hex.specs.Hex.{is_hex, bytes_of}
-use Rattle.hex.proofs.HexLaws.{length_bytes}
-use Rattle.hex.proofs.PartLaws.{hex_drop, bytes_drop, hex_part, bytes_part}
+use Rattle.hexadecimal.specs.Hex.{is_hex, bytes_of}
+use Rattle.hexadecimal.proofs.HexLaws.{length_bytes}
+use Rattle.hexadecimal.proofs.PartLaws.{hex_drop, bytes_drop, hex_part, bytes_part}
 use Rattle.format.specs.Parts.{format_part}
 
 -- ── the first colon

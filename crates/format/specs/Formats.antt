@@ -6,7 +6,7 @@ use Rattle.sheets.specs.Answer.{Answer, refused, given, ◌>>=◌}
 use Rattle.sheets.specs.Field.{leaf, timestamp, fixed_size_binary, decimal_type, list, large_list, fixed_size_list, map, struct, union}
 use Rattle.sheets.specs.Format.{Format, of_scalar, of_nesting, of_grouping, read_size, width_of, decimal_parts, zone}
 use Rattle.refusal.specs.Refusals.{refusal_of}
-use Rattle.hex.specs.Hex.{is_hex, bytes_of}
+use Rattle.hexadecimal.specs.Hex.{is_hex, bytes_of}
 use Rattle.datatypes.specs.Places.{time_unit, is_sparse}
 use Rattle.datatypes.specs.declared.units.TimeUnit.{TimeUnit}
 use Rattle.datatypes.specs.declared.units.UnionMode.{UnionMode}

@@ -3,7 +3,7 @@ use Rattle.std.specs.Prelude.{◌≡◌, true, List, ℕ, ◌-◌, ◌≤◌, �
 use Rattle.sheets.specs.Bytes.{Bytes, comma, split}
 use Rattle.sheets.specs.Answer.{Answer, read_each}
 use Rattle.sheets.specs.Format.{read_id}
-use Rattle.hex.specs.Hex.{is_hex, bytes_of}
+use Rattle.hexadecimal.specs.Hex.{is_hex, bytes_of}
 
 -- pairs of digits that say k bytes or more
 abbrev pub HasBytes : Bytes → ℕ → Type 0

@@ -1,7 +1,7 @@
 // A dictionary's index type, read from its format.
 ghost use Rattle.std.specs.Prelude.{◌≡◌, true};
 ghost use Rattle.sheets.specs.Format.{to_integer_type};
-ghost use Rattle.hex.specs.Hex.{is_hex, bytes_of};
+ghost use Rattle.hexadecimal.specs.Hex.{is_hex, bytes_of};
 ghost use Rattle.format.specs.Dictionary.{index_answer, index_of};
 
 use datatypes::{IntegerType, kind};

@@ -1,6 +1,6 @@
 // The parts of a format. Places are of bytes, two digits each.
 ghost use Rattle.std.specs.Prelude.{◌≡◌, true, ◌+◌, drop};
-ghost use Rattle.hex.specs.Hex.{is_hex, bytes_of};
+ghost use Rattle.hexadecimal.specs.Hex.{is_hex, bytes_of};
 ghost use Rattle.sheets.specs.Parts.{bytes_before};
 ghost use Rattle.format.specs.Parts.{HasPart, IsPartText};
 
@@ -12,7 +12,7 @@ pub fn place_of(f: &[u8], from: usize, b: u8) -> usize
     let n = f.len() / 2;
     let mut k = from;
     while k < n {
-        if hex::byte_at(f, k) == b {
+        if hexadecimal::byte_at(f, k) == b {
             return k;
         }
         k += 1;

@@ -2,7 +2,7 @@
 ghost use Rattle.std.specs.Prelude.{◌≡◌, true, ◌∷◌, ◌+◌, take, drop};
 ghost use Rattle.sheets.specs.Format.{read_cut, read_other, read_format, cut};
 ghost use Rattle.sheets.specs.FixedNames.{is_nested, named_format};
-ghost use Rattle.hex.specs.Hex.{is_hex, bytes_of};
+ghost use Rattle.hexadecimal.specs.Hex.{is_hex, bytes_of};
 ghost use Rattle.sheets.specs.Parts.{parts_from};
 ghost use Rattle.format.specs.Parts.{HasBytes, HasPart, format_part};
 ghost use Rattle.format.specs.Formats.{textless_format, Reads, decimal_of, decimal_format, IsOtherHead};
@@ -95,19 +95,19 @@ fn read_sizes(f: &[u8], at: usize, h: &[u8]) -> FormatRead
     ensures { Reads f.now (read_cut (bytes_of h.now) (drop at (bytes_of f.now))) result }
 {
     let n = f.len() / 2;
-    if hex::says(h, b"w") {
+    if hexadecimal::says(h, b"w") {
         let Size::Value(size) = parse::parse_usize(parts::part_of(f, at, n)) else {
             return FormatRead::Refused(Refusal::BadNumber);
         };
         return FormatRead::Numbers(Textless::FixedSizeBinary(size));
     }
-    if hex::says(h, b"+w") {
+    if hexadecimal::says(h, b"+w") {
         let Size::Value(size) = parse::parse_usize(parts::part_of(f, at, n)) else {
             return FormatRead::Refused(Refusal::BadNumber);
         };
         return FormatRead::Numbers(Textless::FixedSizeList(size));
     }
-    if hex::says(h, b"d") {
+    if hexadecimal::says(h, b"d") {
         return read_decimal(f, at);
     }
     FormatRead::Refused(Refusal::UnsupportedFormat)

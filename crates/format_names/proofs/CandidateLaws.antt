@@ -22,9 +22,9 @@ use Rattle.sheets.specs.FixedNames.{fixed_rows, is_nested, cell_of, chosen, comp
 use Rattle.sheets.proofs.Tests.{never, meets, every, at_each}
 use Rattle.sheets.proofs.BytesLaws.{same_refl}
 use Rattle.sheets.proofs.FixedNameLaws.{found_compared, chosen_first, chosen_length, compared_once, compared_none}
-use Rattle.hex.specs.Hex.{is_hex, bytes_of}
-use Rattle.hex.proofs.HexLaws.{length_bytes, bytes_below}
-use Rattle.hex.proofs.PartLaws.{hex_bytes, bytes_take}
+use Rattle.hexadecimal.specs.Hex.{is_hex, bytes_of}
+use Rattle.hexadecimal.proofs.HexLaws.{length_bytes, bytes_below}
+use Rattle.hexadecimal.proofs.PartLaws.{hex_bytes, bytes_take}
 use Rattle.words.specs.Words.{WordAt, low_bytes}
 use Rattle.words.proofs.WordLaws.{low_word, length_low}
 use Rattle.datatypes.proofs.AtLaws.{Rest, listed, not_listed}

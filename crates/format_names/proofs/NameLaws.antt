@@ -23,9 +23,9 @@ use Rattle.sheets.specs.FixedNames.{fixed_rows, is_nested, named_format, has_len
 use Rattle.sheets.proofs.Tests.{never, not_some, and_left, and_right, meets, every, at_each}
 use Rattle.sheets.proofs.BytesLaws.{same_refl, same_eq}
 use Rattle.sheets.proofs.FixedNameLaws.{names_38, read_fixed, read_fixed_lem}
-use Rattle.hex.specs.Hex.{is_hex, bytes_of}
-use Rattle.hex.proofs.PartLaws.{bytes_hex, hex_bytes, length_hex, all_take, all_drop}
-use Rattle.hex.proofs.HexLaws.{length_bytes, twice_length, bytes_below}
+use Rattle.hexadecimal.specs.Hex.{is_hex, bytes_of}
+use Rattle.hexadecimal.proofs.PartLaws.{bytes_hex, hex_bytes, length_hex, all_take, all_drop}
+use Rattle.hexadecimal.proofs.HexLaws.{length_bytes, twice_length, bytes_below}
 use Rattle.words.specs.Words.{Small}
 use Rattle.words.proofs.WordLaws.{same_bytes}
 use Rattle.words.proofs.DigitLaws.{hex_bytes_small}

@@ -17,9 +17,9 @@ use Rattle.sheets.specs.FixedNames.{fixed_rows, starts_alike, cell_of, chosen}
 use Rattle.sheets.proofs.Tests.{meets}
 use Rattle.sheets.proofs.BytesLaws.{same_refl, same_eq}
 use Rattle.sheets.proofs.SameLaws.{lengths_differ}
-use Rattle.hex.specs.Hex.{is_hex, bytes_of}
-use Rattle.hex.proofs.HexLaws.{length_bytes, unhex_not}
-use Rattle.hex.proofs.PartLaws.{bytes_hex, hex_bytes, is_hex_hex}
+use Rattle.hexadecimal.specs.Hex.{is_hex, bytes_of}
+use Rattle.hexadecimal.proofs.HexLaws.{length_bytes, unhex_not}
+use Rattle.hexadecimal.proofs.PartLaws.{bytes_hex, hex_bytes, is_hex_hex}
 use Rattle.format_names.specs.Names.{leaf_of, leaf_named}
 use Rattle.format_names.specs.ShortNames.{of_one_byte, short_rows, kind_among, without_unit}
 use Rattle.format_names.proofs.NameLaws.{byte_rule, rows_bytes}

@@ -8,7 +8,7 @@ use Rattle.sheets.specs.Text.{hex}
 use Rattle.sheets.specs.Format.{FormatRow, row_named}
 use Rattle.sheets.specs.FixedNames.{fixed_rows, is_nested, has_length}
 use Rattle.sheets.specs.Metadata.{little_value}
-use Rattle.hex.specs.Hex.{is_hex}
+use Rattle.hexadecimal.specs.Hex.{is_hex}
 use Rattle.datatypes.specs.declared.units.TimeUnit.{TimeUnit}
 use Rattle.datatypes.specs.declared.units.TimeUnit.TheVariants as TimeUnits
 use Rattle.datatypes.specs.declared.units.UnionMode.{UnionMode}

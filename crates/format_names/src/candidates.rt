@@ -1,7 +1,7 @@
 // Which fixed names a format is compared with: those of its length and its first byte, and no other.
 ghost use Rattle.std.specs.Prelude.{◌≡◌, ◌<◌};
 ghost use Rattle.sheets.specs.FixedNames.{chosen};
-ghost use Rattle.hex.specs.Hex.{bytes_of};
+ghost use Rattle.hexadecimal.specs.Hex.{bytes_of};
 ghost use Rattle.words.specs.Words.{low_bytes};
 ghost use Rattle.format_names.specs.Candidates.{candidate_rows, AreCandidates};
 

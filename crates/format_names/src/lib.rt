@@ -10,7 +10,7 @@ pub mod short;
 ghost use Rattle.std.specs.Prelude.{◌≡◌, true, ◌<◌};
 ghost use Rattle.std.proofs.Math.Option.{some};
 ghost use Rattle.sheets.specs.Format.{row_named};
-ghost use Rattle.hex.specs.Hex.{is_hex, bytes_of};
+ghost use Rattle.hexadecimal.specs.Hex.{is_hex, bytes_of};
 ghost use Rattle.datatypes.specs.At.{time_unit_option, union_mode_option};
 ghost use Rattle.format_names.specs.Names.{table_length, row_at, rows_from, IsRow, HasDigits, DigitsOf, same_digits, HasRows, name_option, Told, leaf_of, leaf_named, head_unit, head_mode};
 
@@ -220,10 +220,10 @@ pub fn head_unit(h: &[u8]) -> TimeUnitAt
     if h.len() != 6 {
         return TimeUnitAt::Nothing;
     }
-    if !hex::says(&h[0..4], b"ts") {
+    if !hexadecimal::says(&h[0..4], b"ts") {
         return TimeUnitAt::Nothing;
     }
-    match hex::byte_at(h, 2) {
+    match hexadecimal::byte_at(h, 2) {
         b's' => TimeUnitAt::Is(TimeUnit::Second),
         b'm' => TimeUnitAt::Is(TimeUnit::Millisecond),
         b'u' => TimeUnitAt::Is(TimeUnit::Microsecond),
@@ -240,10 +240,10 @@ pub fn head_mode(h: &[u8]) -> UnionModeAt
     if h.len() != 6 {
         return UnionModeAt::Nothing;
     }
-    if !hex::says(&h[0..4], b"+u") {
+    if !hexadecimal::says(&h[0..4], b"+u") {
         return UnionModeAt::Nothing;
     }
-    match hex::byte_at(h, 2) {
+    match hexadecimal::byte_at(h, 2) {
         b'd' => UnionModeAt::Is(UnionMode::Dense),
         b's' => UnionModeAt::Is(UnionMode::Sparse),
         _ => UnionModeAt::Nothing,

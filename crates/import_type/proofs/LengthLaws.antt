@@ -24,9 +24,9 @@ use Rattle.sheets.specs.Field.{TimeUnit, unit_place, second, millisecond, micros
 use Rattle.sheets.specs.FieldSheet.{columns, of_dictionary, no_text, to_nat, decimal_kind, write_list}
 use Rattle.sheets.specs.Format.{Format, of_scalar, of_nesting, of_grouping, FormatRow, rows, row_named, unsigned, drop_plus, read_size, minus, read_id, width_of, decimal_parts, zone, cut, read_cut, read_other, read_named, read_format}
 use Rattle.sheets.proofs.Tests.{meets}
-use Rattle.hex.specs.Hex.{is_hex, bytes_of}
-use Rattle.hex.proofs.HexLaws.{twice_length}
-use Rattle.hex.proofs.PartLaws.{length_hex}
+use Rattle.hexadecimal.specs.Hex.{is_hex, bytes_of}
+use Rattle.hexadecimal.proofs.HexLaws.{twice_length}
+use Rattle.hexadecimal.proofs.PartLaws.{length_hex}
 use Rattle.decimal.proofs.WriteLaws.{signed_short}
 use Rattle.datatypes.specs.Places.{integer_place}
 use Rattle.datatypes.specs.declared.IntegerType.{IntegerType}

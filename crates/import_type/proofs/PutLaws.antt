@@ -12,9 +12,9 @@ use Rattle.sheets.specs.Kind
 use Rattle.sheets.specs.Text.{hex, write_text}
 use Rattle.sheets.specs.FieldSheet.{decimal_kind, no_text, to_nat}
 use Rattle.sheets.specs.Format.{width_of, zone}
-use Rattle.hex.specs.Hex.{is_hex, bytes_of}
-use Rattle.hex.proofs.HexLaws.{twice_length}
-use Rattle.hex.proofs.PartLaws.{hex_bytes}
+use Rattle.hexadecimal.specs.Hex.{is_hex, bytes_of}
+use Rattle.hexadecimal.proofs.HexLaws.{twice_length}
+use Rattle.hexadecimal.proofs.PartLaws.{hex_bytes}
 use Rattle.datatypes.specs.Places.{time_place, union_place, is_sparse}
 use Rattle.datatypes.specs.declared.units.TimeUnit.{TimeUnit}
 use Rattle.datatypes.specs.declared.units.TimeUnit.TheVariants as TimeUnits

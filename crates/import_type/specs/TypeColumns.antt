@@ -8,7 +8,7 @@ use Rattle.sheets.specs.FieldSheet.{Columns, Shape, columns, no_text, write_list
 use Rattle.sheets.specs.FieldSheet.{of_scalar as scalar_shape, of_nesting as nesting_shape, of_grouping as grouping_shape}
 use Rattle.sheets.specs.Format.{Format, of_scalar, of_nesting, of_grouping}
 use Rattle.refusal.specs.Refusals.{refusal_of}
-use Rattle.hex.specs.Hex.{is_hex}
+use Rattle.hexadecimal.specs.Hex.{is_hex}
 use Rattle.buffer.specs.Over.{PutAt}
 use Rattle.field_line.specs.Columns.{columns_piece}
 use Rattle.import_type.specs.declared.Below.{Below}

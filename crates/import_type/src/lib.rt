@@ -6,7 +6,7 @@ pub mod put;
 ghost use Rattle.std.specs.Prelude.{◌+◌};
 ghost use Rattle.sheets.specs.FieldSheet.{columns, of_dictionary};
 ghost use Rattle.sheets.specs.Format.{read_format};
-ghost use Rattle.hex.specs.Hex.{bytes_of};
+ghost use Rattle.hexadecimal.specs.Hex.{bytes_of};
 ghost use Rattle.buffer.specs.Over.{IsUsize, PutAt};
 ghost use Rattle.datatypes.specs.Places.{integer_place};
 ghost use Rattle.field_line.specs.Columns.{columns_piece};

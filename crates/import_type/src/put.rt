@@ -2,7 +2,7 @@
 ghost use Rattle.std.specs.Prelude.{◌≡◌, ◌+◌};
 ghost use Rattle.sheets.specs.FieldSheet.{columns, decimal_kind};
 ghost use Rattle.sheets.specs.Format.{width_of};
-ghost use Rattle.hex.specs.Hex.{bytes_of};
+ghost use Rattle.hexadecimal.specs.Hex.{bytes_of};
 ghost use Rattle.buffer.specs.Over.{IsUsize, PutAt};
 ghost use Rattle.field_line.specs.Columns.{columns_piece};
 ghost use Rattle.format.specs.Formats.{textless_format, timestamp_format, union_format};

@@ -20,7 +20,7 @@ use Rattle.sheets.specs.Kind
 use Rattle.sheets.proofs.Tests.{not_some, meets}
 use Rattle.sheets.proofs.BytesLaws.{same_eq}
 use Rattle.sheets.proofs.Utf8Laws.{ascii_utf8}
-use Rattle.hex.proofs.PartLaws.{is_hex_hex, bytes_hex}
+use Rattle.hexadecimal.proofs.PartLaws.{is_hex_hex, bytes_hex}
 use Rattle.format_names.specs.Names.{leaf_named}
 use Rattle.format_names.specs.ShortNames.{short_rows, kind_among, without_unit}
 use Rattle.format_names.proofs.NameLaws.{name_says}

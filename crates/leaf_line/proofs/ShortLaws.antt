@@ -23,7 +23,7 @@ use Rattle.sheets.specs.Utf8.{is_utf8}
 use Rattle.sheets.proofs.Utf8Laws.{ascii_utf8, utf8_bytes}
 use Rattle.sheets.proofs.Tests.{not_some, same_some, passing, meets, same_given}
 use Rattle.sheets.proofs.BytesLaws.{same_refl, same_eq}
-use Rattle.hex.proofs.PartLaws.{length_hex}
+use Rattle.hexadecimal.proofs.PartLaws.{length_hex}
 use Rattle.sheets.specs.Metadata.{little_value}
 use Rattle.words.specs.Words.{WordAt, low_bytes}
 use Rattle.words.proofs.WordLaws.{word_is, low_word}

@@ -11,9 +11,9 @@ use Rattle.sheets.specs.Rule.{Meets}
 use Rattle.sheets.specs.Bytes.{Bytes, all, is_byte}
 use Rattle.sheets.specs.Text.{hex}
 use Rattle.sheets.specs.Field.{Pair}
-use Rattle.hex.specs.Hex.{is_hex, bytes_of}
-use Rattle.hex.proofs.HexLaws.{twice_length, bytes_below}
-use Rattle.hex.proofs.PartLaws.{hex_bytes, is_hex_hex, bytes_hex, take_hex, drop_hex, all_take, all_drop}
+use Rattle.hexadecimal.specs.Hex.{is_hex, bytes_of}
+use Rattle.hexadecimal.proofs.HexLaws.{twice_length, bytes_below}
+use Rattle.hexadecimal.proofs.PartLaws.{hex_bytes, is_hex_hex, bytes_hex, take_hex, drop_hex, all_take, all_drop}
 use Rattle.endian.specs.Word.{word_value, four_at}
 use Rattle.key_order.specs.Entry.{entry_of, start_of, size_of, key_at, Each}
 use Rattle.key_order.proofs.KeyLaws.{entry_start, entry_size}

@@ -16,8 +16,8 @@ use Rattle.sheets.specs.Strict.{no_reserved}
 use Rattle.sheets.specs.Metadata.{name_key, metadata_key, reserved, insert_new, ordinary, or_else, value_of, extension_of, some_pairs, meaning}
 use Rattle.sheets.proofs.BytesLaws.{same_eq}
 use Rattle.sheets.proofs.SameLaws.{lengths_differ}
-use Rattle.hex.specs.Hex.{is_hex, bytes_of}
-use Rattle.hex.proofs.HexLaws.{twice_length}
+use Rattle.hexadecimal.specs.Hex.{is_hex, bytes_of}
+use Rattle.hexadecimal.proofs.HexLaws.{twice_length}
 use Rattle.key_order.specs.Entry.{Each}
 use Rattle.metadata.specs.declared.Metadata.{Metadata}
 use Rattle.metadata.specs.Entry.{pair_at, pairs_at, value_at, EntryStands}

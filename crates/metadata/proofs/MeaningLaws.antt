@@ -15,8 +15,8 @@ use Rattle.sheets.specs.Answer.{Answer, refused, given, ◌>>=◌}
 use Rattle.sheets.specs.Field.{Pair}
 use Rattle.sheets.specs.Strict.{no_reserved}
 use Rattle.sheets.specs.Metadata.{value32, take_pairs, count_of, read_block, extension_of, Extension, some_pairs, meaning, metadata_from_bytes}
-use Rattle.hex.specs.Hex.{is_hex, bytes_of}
-use Rattle.hex.proofs.HexLaws.{twice_length}
+use Rattle.hexadecimal.specs.Hex.{is_hex, bytes_of}
+use Rattle.hexadecimal.proofs.HexLaws.{twice_length}
 use Rattle.endian.specs.Word.{word_value, four_at}
 use Rattle.key_order.specs.Entry.{key_at, Each}
 use Rattle.key_order.specs.Order.{ordered}

@@ -17,7 +17,7 @@ use Rattle.sheets.specs.FieldSheet.{write_list, pair_text}
 use Rattle.sheets.specs.Metadata.{some_pairs}
 use Rattle.buffer.specs.Over.{over_at, PutAt}
 use Rattle.buffer.proofs.OverLaws.{Written, none_yet, and_then}
-use Rattle.hex.specs.Hex.{is_hex, bytes_of}
+use Rattle.hexadecimal.specs.Hex.{is_hex, bytes_of}
 use Rattle.key_order.specs.Entry.{key_at}
 use Rattle.field_line.specs.Columns.{pair_piece}
 use Rattle.field_line.proofs.ColumnLaws.{pair_hex}

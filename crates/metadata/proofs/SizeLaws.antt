@@ -19,9 +19,9 @@ use Rattle.sheets.specs.FieldSheet.{write_list, pair_text}
 use Rattle.sheets.specs.Strict.{no_reserved}
 use Rattle.sheets.specs.Metadata.{value32, cut_at, take_text, take_pairs, count_of, read_block, reserved, insert_new, ordinary, Extension, some_pairs, meaning, metadata_from_bytes}
 use Rattle.sheets.proofs.Tests.{not_given, same_given, first_gave, met_when}
-use Rattle.hex.specs.Hex.{is_hex, bytes_of}
-use Rattle.hex.proofs.HexLaws.{twice_length}
-use Rattle.hex.proofs.PartLaws.{length_hex}
+use Rattle.hexadecimal.specs.Hex.{is_hex, bytes_of}
+use Rattle.hexadecimal.proofs.HexLaws.{twice_length}
+use Rattle.hexadecimal.proofs.PartLaws.{length_hex}
 use Rattle.key_order.specs.Entry.{start_of, size_of}
 use Rattle.metadata.specs.declared.Metadata.{Metadata}
 use Rattle.metadata.specs.Entry.{length_at, pair_from, pair_at, pairs_at, value_at}

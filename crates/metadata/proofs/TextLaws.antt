@@ -18,9 +18,9 @@ use Rattle.sheets.specs.Utf8.{is_utf8}
 use Rattle.sheets.specs.Field.{Pair}
 use Rattle.sheets.specs.Metadata.{value32, cut_at, take_text, take_pairs}
 use Rattle.sheets.proofs.Tests.{not_given, first_gave}
-use Rattle.hex.specs.Hex.{bytes_of}
-use Rattle.hex.proofs.HexLaws.{twice_length}
-use Rattle.hex.proofs.PartLaws.{bytes_part}
+use Rattle.hexadecimal.specs.Hex.{bytes_of}
+use Rattle.hexadecimal.proofs.HexLaws.{twice_length}
+use Rattle.hexadecimal.proofs.PartLaws.{bytes_part}
 use Rattle.endian.specs.Word.{word_value, four_at}
 use Rattle.metadata.specs.Entry.{length_at, pair_from}
 use Rattle.metadata.specs.PairReading.{Block, text_size, pair_places, KeyIn}

@@ -4,7 +4,7 @@ use Rattle.sheets.specs.Bytes.{Bytes}
 use Rattle.sheets.specs.Answer.{Answer, refused, given, ◌>>=◌}
 use Rattle.sheets.specs.Metadata.{take_text}
 use Rattle.refusal.specs.Refusals.{refusal_of}
-use Rattle.hex.specs.Hex.{is_hex, bytes_of}
+use Rattle.hexadecimal.specs.Hex.{is_hex, bytes_of}
 use Rattle.metadata.specs.declared.pair.TextRead.{TextRead}
 use Rattle.metadata.specs.declared.pair.TextRead.TheVariants as Text
 use Rattle.metadata.specs.declared.pair.PairRead.{PairRead}

@@ -5,7 +5,7 @@ use Rattle.sheets.specs.Text.{write_text}
 use Rattle.sheets.specs.FieldSheet.{write_list, pair_text}
 use Rattle.sheets.specs.Metadata.{some_pairs}
 use Rattle.buffer.specs.Over.{IsUsize}
-use Rattle.hex.specs.Hex.{is_hex, bytes_of}
+use Rattle.hexadecimal.specs.Hex.{is_hex, bytes_of}
 use Rattle.metadata.specs.Entry.{pair_at, pairs_at, value_at, EntryStands, Entries, OrNone}
 
 -- the column of the first n entries: `~` for none

@@ -8,7 +8,7 @@ use Rattle.sheets.specs.Field.{Pair}
 use Rattle.sheets.specs.Strict.{no_reserved}
 use Rattle.sheets.specs.Metadata.{take_pairs, name_key, metadata_key, reserved, ordinary, value_of, Extension, extension_of, some_pairs}
 use Rattle.refusal.specs.Refusals.{refusal_of}
-use Rattle.hex.specs.Hex.{is_hex, bytes_of}
+use Rattle.hexadecimal.specs.Hex.{is_hex, bytes_of}
 use Rattle.metadata.specs.declared.Metadata.{Metadata}
 use Rattle.metadata.specs.declared.MetadataRead.{MetadataRead}
 use Rattle.metadata.specs.declared.MetadataRead.TheVariants as Read

@@ -9,7 +9,7 @@ ghost use Rattle.std.specs.Prelude.{◌≡◌, true, drop};
 ghost use Rattle.std.proofs.Math.Option.{some};
 ghost use Rattle.sheets.specs.Bytes.{same};
 ghost use Rattle.sheets.specs.Metadata.{count_of, name_key, metadata_key, metadata_from_bytes};
-ghost use Rattle.hex.specs.Hex.{is_hex, bytes_of};
+ghost use Rattle.hexadecimal.specs.Hex.{is_hex, bytes_of};
 ghost use Rattle.endian.specs.Word.{HasWord};
 ghost use Rattle.metadata.specs.Entry.{length_at};
 ghost use Rattle.metadata.specs.Reading.{kept_pairs, kept_answer, metadata_answer, MetadataStands, CanKeep, Keeps, Room, HasCount, CanOrderKeys, OrdersKeys};
@@ -39,7 +39,7 @@ fn is_name(text: &[u8]) -> bool
     if text.len() != 40 {
         return false;
     }
-    hex::says(text, b"ARROW:extension:name")
+    hexadecimal::says(text, b"ARROW:extension:name")
 }
 
 fn is_more(text: &[u8]) -> bool
@@ -49,7 +49,7 @@ fn is_more(text: &[u8]) -> bool
     if text.len() != 48 {
         return false;
     }
-    hex::says(text, b"ARROW:extension:metadata")
+    hexadecimal::says(text, b"ARROW:extension:metadata")
 }
 
 // The reserved keys do not become pairs; of equal ones the last is kept. Keys are the same in either order.

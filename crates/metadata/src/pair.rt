@@ -1,6 +1,6 @@
 // A pair of a metadata block, read and tested in place over the block's hexadecimal text; its lengths are big-endian (`big`) or not.
 ghost use Rattle.std.specs.Prelude.{◌≡◌};
-ghost use Rattle.hex.specs.Hex.{bytes_of};
+ghost use Rattle.hexadecimal.specs.Hex.{bytes_of};
 ghost use Rattle.metadata.specs.PairReading.{BlockPlace, KeyIn, text_size, text_answer, pair_places, pair_answer};
 
 use refusal::Refusal;

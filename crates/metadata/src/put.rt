@@ -3,7 +3,7 @@ ghost use Rattle.std.specs.Prelude.{◌≡◌};
 ghost use Rattle.sheets.specs.Text.{hex};
 ghost use Rattle.sheets.specs.FieldSheet.{pair_text};
 ghost use Rattle.buffer.specs.Over.{PutAt};
-ghost use Rattle.hex.specs.Hex.{bytes_of};
+ghost use Rattle.hexadecimal.specs.Hex.{bytes_of};
 ghost use Rattle.metadata.specs.Entry.{pair_at};
 ghost use Rattle.metadata.specs.Pairs.{pairs_column, value_column, EntryIn, CanPutPair, CanPut, CanPutValue};
 

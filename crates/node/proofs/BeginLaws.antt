@@ -21,11 +21,11 @@ use Rattle.sheets.specs.Metadata.{Extension, extension_of, some_pairs, metadata_
 use Rattle.sheets.proofs.Tests.{first_gave}
 use Rattle.refusal.specs.declared.Refusal.{Refusal as Reason}
 use Rattle.refusal.specs.Refusals.{refusal_of}
-use Rattle.hex.specs.Hex.{is_hex, bytes_of}
+use Rattle.hexadecimal.specs.Hex.{is_hex, bytes_of}
 use Rattle.buffer.specs.Over.{PutAt, PutFirst}
 use Rattle.buffer.proofs.OverLaws.{over_nothing, put_over}
 use Rattle.decimal.proofs.WriteLaws.{decimal_length}
-use Rattle.hex.proofs.HexLaws.{twice_length}
+use Rattle.hexadecimal.proofs.HexLaws.{twice_length}
 use Rattle.field_line.specs.Columns.{end_piece}
 use Rattle.field_line.proofs.LengthLaws.{bare_length, end_length}
 use Rattle.columns.specs.declared.Part.{Part}

@@ -19,7 +19,7 @@ use Rattle.sheets.specs.Import.{name_text}
 use Rattle.sheets.specs.Metadata.{Extension, metadata_from_bytes}
 use Rattle.sheets.proofs.BytesLaws.{same_eq, same_refl}
 use Rattle.sheets.proofs.InverseLaws.{text_read}
-use Rattle.hex.specs.Hex.{is_hex, bytes_of}
+use Rattle.hexadecimal.specs.Hex.{is_hex, bytes_of}
 use Rattle.schema_line.specs.Texts.{text_in}
 use Rattle.schema_line.proofs.TextLaws.{text_shorter}
 use Rattle.refusal.specs.declared.Refusal.{Refusal as Reason}

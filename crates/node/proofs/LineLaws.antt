@@ -17,7 +17,7 @@ use Rattle.sheets.specs.FieldSheet.{Shape, of_extension, columns, no_text, to_na
 use Rattle.sheets.specs.Import.{name_text}
 use Rattle.sheets.specs.ImportLines.{shown}
 use Rattle.sheets.specs.Kind
-use Rattle.hex.specs.Hex.{is_hex, bytes_of}
+use Rattle.hexadecimal.specs.Hex.{is_hex, bytes_of}
 use Rattle.field_line.specs.Columns.{column, kind_piece, shape_piece, columns_piece, own_piece, end_piece}
 use Rattle.field_line.proofs.ColumnLaws.{then_space, line_pieces_left}
 use Rattle.field_line.proofs.LengthLaws.{column_length_lem, bare_length, shape_short}

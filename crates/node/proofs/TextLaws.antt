@@ -11,7 +11,7 @@ use Rattle.sheets.specs.Bytes.{Bytes}
 use Rattle.sheets.specs.Answer.{Answer, refused, given, ◌>>=◌}
 use Rattle.sheets.specs.Text.{unhex, read_text}
 use Rattle.sheets.specs.Format.{or_empty}
-use Rattle.hex.specs.Hex.{gives, given_or, is_hex, bytes_of}
+use Rattle.hexadecimal.specs.Hex.{gives, given_or, is_hex, bytes_of}
 use Rattle.schema_line.specs.Texts.{text_in}
 use Rattle.schema_line.proofs.TextLaws.{text_whole}
 

@@ -20,7 +20,7 @@ use Rattle.sheets.proofs.BytesLaws.{same_eq, same_refl}
 use Rattle.sheets.proofs.InverseLaws.{text_read}
 use Rattle.refusal.specs.declared.Refusal.{Refusal as Reason}
 use Rattle.refusal.specs.Refusals.{refusal_of}
-use Rattle.hex.specs.Hex.{is_hex, bytes_of}
+use Rattle.hexadecimal.specs.Hex.{is_hex, bytes_of}
 use Rattle.buffer.specs.Over.{PutAt}
 use Rattle.field_line.specs.Columns.{columns_piece}
 use Rattle.schema_line.specs.declared.SchemaLine.{SchemaLine}

@@ -7,7 +7,7 @@ use Rattle.sheets.specs.Text.{read_text}
 use Rattle.sheets.specs.Field.{Pair}
 use Rattle.sheets.specs.Metadata.{Extension, metadata_from_bytes}
 use Rattle.sheets.specs.Import.{name_text}
-use Rattle.hex.specs.Hex.{bytes_of}
+use Rattle.hexadecimal.specs.Hex.{bytes_of}
 use Rattle.metadata.specs.declared.MetadataRead.{MetadataRead}
 use Rattle.metadata.specs.Reading.{metadata_answer, MetadataStands}
 use Rattle.node.specs.Types.{IsText}

@@ -6,7 +6,7 @@ use Rattle.sheets.specs.Text.{write_text}
 use Rattle.sheets.specs.Field.{Info}
 use Rattle.sheets.specs.FieldSheet.{no_text, info_columns}
 use Rattle.sheets.specs.Kind
-use Rattle.hex.specs.Hex.{is_hex, bytes_of}
+use Rattle.hexadecimal.specs.Hex.{is_hex, bytes_of}
 use Rattle.field_line.specs.Columns.{column, shape_piece, own_piece, end_piece}
 use Rattle.metadata.specs.declared.Metadata.{Metadata}
 use Rattle.metadata.specs.Entry.{value_at, OrNone}

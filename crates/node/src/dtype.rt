@@ -1,6 +1,6 @@
 // The type of a schema line's node: the columns that its format says, written, and which subtrees it visits.
 ghost use Rattle.std.specs.Prelude.{◌≡◌, true, ◌<◌, length};
-ghost use Rattle.hex.specs.Hex.{is_hex, bytes_of};
+ghost use Rattle.hexadecimal.specs.Hex.{is_hex, bytes_of};
 ghost use Rattle.import_type.specs.TypeColumns.{CanPut};
 ghost use Rattle.node.specs.Types.{lacks_child, IsText, index_shape, format_shape, column_type, TypePuts};
 

@@ -1,6 +1,6 @@
 // The lines of a node in a field sheet, written column by column, as much as fits. Each writer answers the place after what it wrote.
 ghost use Rattle.std.specs.Prelude.{◌^◌, ◌<◌};
-ghost use Rattle.hex.specs.Hex.{bytes_of};
+ghost use Rattle.hexadecimal.specs.Hex.{bytes_of};
 ghost use Rattle.buffer.specs.Over.{PutAt};
 ghost use Rattle.node.specs.Pieces.{shown_text, extension_piece, extension_text, CanShow, CanExtend};
 

@@ -3,7 +3,7 @@
 
 ghost use Rattle.std.specs.Prelude.{◌≡◌, true, ◌+◌, drop};
 ghost use Rattle.sheets.specs.Format.{drop_plus, read_size, read_id};
-ghost use Rattle.hex.specs.Hex.{is_hex, bytes_of};
+ghost use Rattle.hexadecimal.specs.Hex.{is_hex, bytes_of};
 ghost use Rattle.parse.specs.Parse.{size_answer, id_answer, number_below};
 
 use decimal::digit::Number;
@@ -39,7 +39,7 @@ fn number_below(s: &[u8], at: usize, max: u64) -> Size
     let mut v: u64 = 0;
     let mut i = at;
     while i < n {
-        let Number::Value(m) = decimal::digit::after(v, hex::byte_at(s, i), max) else {
+        let Number::Value(m) = decimal::digit::after(v, hexadecimal::byte_at(s, i), max) else {
             return Size::Bad;
         };
         v = m;
@@ -56,7 +56,7 @@ fn after_plus(s: &[u8]) -> usize
     if s.len() < 2 {
         return 0;
     }
-    if hex::byte_at(s, 0) == b'+' {
+    if hexadecimal::byte_at(s, 0) == b'+' {
         return 1;
     }
     0
@@ -76,7 +76,7 @@ pub fn parse_i32(s: &[u8]) -> Id
     if s.len() < 2 {
         return Id::Bad;
     }
-    if hex::byte_at(s, 0) == b'-' {
+    if hexadecimal::byte_at(s, 0) == b'-' {
         let Size::Value(m) = number_below(s, 1, I32_MIN) else {
             return Id::Bad;
         };

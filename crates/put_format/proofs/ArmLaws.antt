@@ -21,7 +21,7 @@ use Rattle.sheets.specs.FieldTrees.{shape_rule}
 use Rattle.sheets.specs.Format.{or_empty, scalar_format, grouping_format, union_name}
 use Rattle.sheets.specs.Kind
 use Rattle.sheets.proofs.Tests.{same_given, not_given, every, at_each, meets}
-use Rattle.hex.specs.Hex.{given_or}
+use Rattle.hexadecimal.specs.Hex.{given_or}
 use Rattle.datatypes.proofs.AtLaws.{Rest}
 use Rattle.column_text.specs.ColumnText.{column_text}
 use Rattle.put_format.specs.Formats.{CanPutLeaf}

@@ -12,7 +12,7 @@ use Rattle.sheets.specs.Text.{hex}
 use Rattle.sheets.specs.Field.{up_from}
 use Rattle.buffer.specs.Over.{over_at, PutAt}
 use Rattle.buffer.proofs.OverLaws.{Written, none_yet, and_then, over_at_zero, over_fits}
-use Rattle.hex.proofs.PartLaws.{hex_append}
+use Rattle.hexadecimal.proofs.PartLaws.{hex_append}
 use Rattle.decimal.proofs.WriteLaws.{decimal_short}
 use Rattle.put_format.specs.Counted.{counted_text, CanCount}
 

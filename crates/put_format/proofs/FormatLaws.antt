@@ -22,8 +22,8 @@ use Rattle.sheets.proofs.BytesLaws.{same_eq, same_refl, each_lacks, join_lacks}
 use Rattle.sheets.proofs.NumberLaws.{decimal_lacks, signed_lacks}
 use Rattle.buffer.specs.Over.{over_at, PutAt}
 use Rattle.buffer.proofs.OverLaws.{Written as Puts, none_yet, and_then}
-use Rattle.hex.specs.Hex.{given_or}
-use Rattle.hex.proofs.PartLaws.{hex_append}
+use Rattle.hexadecimal.specs.Hex.{given_or}
+use Rattle.hexadecimal.proofs.PartLaws.{hex_append}
 use Rattle.column_text.specs.ColumnText.{has_zero}
 use Rattle.put_format.specs.Counted.{counted_text}
 use Rattle.put_format.specs.Formats.{Formats}

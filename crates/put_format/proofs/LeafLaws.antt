@@ -23,7 +23,7 @@ use Rattle.sheets.proofs.BytesLaws.{same_eq}
 use Rattle.sheets.proofs.FieldTrees.{leaf_small}
 use Rattle.buffer.specs.Over.{over_at, PutAt}
 use Rattle.buffer.proofs.OverLaws.{length_over_at}
-use Rattle.hex.proofs.PartLaws.{length_hex}
+use Rattle.hexadecimal.proofs.PartLaws.{length_hex}
 use Rattle.words.specs.Words.{low_bytes}
 use Rattle.words.proofs.WordLaws.{low_is, length_low}
 use Rattle.words.proofs.DigitLaws.{hex_bytes_small}

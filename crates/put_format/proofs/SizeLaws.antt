@@ -20,7 +20,7 @@ use Rattle.sheets.specs.FieldSheet.{Shape, of_scalar, of_nesting, of_grouping, o
 use Rattle.sheets.specs.FieldTrees.{shape_rule}
 use Rattle.sheets.specs.Format.{FormatRow, rows, row_of, scalar_format, union_name, or_empty}
 use Rattle.sheets.proofs.Tests.{same_given, not_given, meets}
-use Rattle.hex.proofs.PartLaws.{length_hex}
+use Rattle.hexadecimal.proofs.PartLaws.{length_hex}
 use Rattle.decimal.proofs.WriteLaws.{decimal_short}
 use Rattle.put_format.specs.LineFormat.{shape_format, line_format, CanFormat}
 

@@ -11,7 +11,7 @@ use Rattle.sheets.specs.FieldSheet.{Columns, Shape, of_scalar, of_nesting, of_gr
 use Rattle.sheets.specs.FieldTrees.{shape_rule}
 use Rattle.sheets.specs.Format.{scalar_format, nesting_format, grouping_format, index_format, write_ids}
 use Rattle.sheets.specs.Kind
-use Rattle.hex.specs.Hex.{given_or}
+use Rattle.hexadecimal.specs.Hex.{given_or}
 use Rattle.column_text.specs.ColumnText.{TextColumn}
 use Rattle.put_format.specs.Formats.{CanPutName}
 

@@ -29,7 +29,7 @@ fn put_sized(out: &mut [u8], at: usize, name: &[u8], n: u64) -> Exported
     requires { CanPutName name.now at }
     ensures { Formats (given (name.now ++ decimal n)) at result out.old out.new }
 {
-    let after = hex::put::put_hex(out, at, name);
+    let after = hexadecimal::put::put_hex(out, at, name);
     let end = crate::numbers::put_number(out, after, n);
     Exported::Written(end, false)
 }
@@ -39,11 +39,11 @@ fn put_decimal_type(out: &mut [u8], at: usize, p: u64, q: u64, width: &[u8]) -> 
     requires { CanPutName width.now at }
     ensures { Formats (given (decimal_text p q width.now)) at result out.old out.new }
 {
-    let precision = hex::put::put_hex(out, at, b"d:");
+    let precision = hexadecimal::put::put_hex(out, at, b"d:");
     let sign = crate::numbers::put_number(out, precision, p);
-    let scale = hex::put::put_hex(out, sign, b",");
+    let scale = hexadecimal::put::put_hex(out, sign, b",");
     let after = crate::numbers::put_number(out, scale, q);
-    let end = hex::put::put_hex(out, after, width);
+    let end = hexadecimal::put::put_hex(out, after, width);
     Exported::Written(end, false)
 }
 
@@ -52,7 +52,7 @@ fn put_zoned(out: &mut [u8], at: usize, name: &[u8], zone: &[u8]) -> Exported
     requires { CanPutName name.now at × TextColumn zone.now }
     ensures { Formats (given (name.now ++ or_empty (column_text zone.now))) at result out.old out.new }
 {
-    let after = hex::put::put_hex(out, at, name);
+    let after = hexadecimal::put::put_hex(out, at, name);
     let text = schema_line::text_of(zone);
     let end = buffer::put_at(out, after, text);
     let zero = column_text::has_zero(zone);
@@ -83,12 +83,12 @@ fn put_ids(out: &mut [u8], at: usize, name: &[u8], ids: &[u8], fields: u64) -> E
         if fields == 0 {
             return Exported::Refused(Refusal::NoUnionIds);
         }
-        let after = hex::put::put_hex(out, at, name);
+        let after = hexadecimal::put::put_hex(out, at, name);
         let end = crate::numbers::put_counted(out, after, fields);
         return Exported::Written(end, false);
     }
-    let after = hex::put::put_hex(out, at, name);
-    let end = hex::put::put_hex(out, after, ids);
+    let after = hexadecimal::put::put_hex(out, at, name);
+    let end = hexadecimal::put::put_hex(out, after, ids);
     Exported::Written(end, false)
 }
 

@@ -12,7 +12,7 @@ pub fn put_number(out: &mut [u8], at: usize, n: u64) -> usize
 {
     let mut digits = [0u8; 20];
     let end = decimal::put::put_u64(&mut digits, 0, n);
-    hex::put::put_hex(out, at, &digits[..end])
+    hexadecimal::put::put_hex(out, at, &digits[..end])
 }
 
 // Writes 0, 1, .. up to `count` of them, with commas between; the place after them.
@@ -23,7 +23,7 @@ pub fn put_counted(out: &mut [u8], at: usize, count: u64) -> usize
     let mut end = put_number(out, at, 0);
     let mut i = 1;
     while i < count {
-        let next = hex::put::put_hex(out, end, b",");
+        let next = hexadecimal::put::put_hex(out, end, b",");
         end = put_number(out, next, i);
         i += 1;
     }

@@ -12,7 +12,7 @@ use Rattle.sheets.specs.Field.{Pair, before}
 use Rattle.sheets.specs.FieldSheet.{pair_text, write_list}
 use Rattle.sheets.specs.Metadata.{write_pairs, metadata_to_bytes, name_key, metadata_key, insert_over, with_metadata, or_none, block_of, extension_of, schema_metadata}
 use Rattle.sheets.proofs.MetadataLaws.{word_text, pairs_length_lem, block_length}
-use Rattle.hex.proofs.PartLaws.{length_hex}
+use Rattle.hexadecimal.proofs.PartLaws.{length_hex}
 use Rattle.column_text.specs.ColumnText.{column_text, TextColumn}
 use Rattle.column_text.proofs.ColumnTextLaws.{column_is}
 use Rattle.field_pairs.specs.Pairs.{PairsColumn, pairs_in, pairs_text, after_commas}

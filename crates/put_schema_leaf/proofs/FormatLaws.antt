@@ -16,7 +16,7 @@ use Rattle.sheets.specs.Text.{hex}
 use Rattle.sheets.specs.Sheet.{is_some}
 use Rattle.sheets.specs.Format.{FormatRow, rows, row_of}
 use Rattle.sheets.proofs.Tests.{not_some, same_some, every, at_each, meets}
-use Rattle.hex.proofs.PartLaws.{all_take, all_drop}
+use Rattle.hexadecimal.proofs.PartLaws.{all_take, all_drop}
 use Rattle.words.specs.Words.{Small, low_bytes}
 use Rattle.words.proofs.WordLaws.{low_is, length_low}
 use Rattle.datatypes.proofs.AtLaws.{Rest, listed, not_listed}

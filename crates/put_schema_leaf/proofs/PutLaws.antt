@@ -24,7 +24,7 @@ use Rattle.sheets.specs.Schema.{Node, schema, end, absent, schema_lines}
 use Rattle.sheets.specs.Format.{rows, row_of}
 use Rattle.sheets.specs.Export.{flag, schema_new}
 use Rattle.sheets.proofs.Tests.{when_met}
-use Rattle.hex.proofs.PartLaws.{length_hex}
+use Rattle.hexadecimal.proofs.PartLaws.{length_hex}
 use Rattle.buffer.specs.Over.{over, over_at, PutAt, PutFirst}
 use Rattle.buffer.proofs.OverLaws.{over_empty, Written, none_yet, and_then, length_written, whole, stored, over_at_nothing, length_over_at}
 use Rattle.words.specs.Words.{low_bytes}

@@ -29,7 +29,7 @@ use Rattle.sheets.specs.Export.{flag, sorted_flag, values_info}
 use Rattle.sheets.proofs.Tests.{same_given, not_given, and_left, and_right}
 use Rattle.buffer.specs.Over.{over, over_at, PutAt}
 use Rattle.buffer.proofs.OverLaws.{over_empty, Written, none_yet, and_then, over_at_zero, over_append}
-use Rattle.hex.proofs.PartLaws.{length_hex}
+use Rattle.hexadecimal.proofs.PartLaws.{length_hex}
 use Rattle.words.specs.Words.{low_bytes}
 use Rattle.words.proofs.WordLaws.{low_is, length_low}
 use Rattle.decimal.proofs.WriteLaws.{decimal_start, first_digit, decimal_short}

@@ -10,9 +10,9 @@ use lib.Seq.{drop-cons, drop-drop}
 use Rattle.sheets.specs.Rule.{Meets}
 use Rattle.sheets.specs.Bytes.{Bytes, all, is_byte}
 use Rattle.sheets.specs.Text.{hex}
-use Rattle.hex.specs.Hex.{is_hex, bytes_of}
-use Rattle.hex.proofs.HexLaws.{twice_length, bytes_below}
-use Rattle.hex.proofs.PartLaws.{bytes_hex, is_hex_hex, hex_bytes}
+use Rattle.hexadecimal.specs.Hex.{is_hex, bytes_of}
+use Rattle.hexadecimal.proofs.HexLaws.{twice_length, bytes_below}
+use Rattle.hexadecimal.proofs.PartLaws.{bytes_hex, is_hex_hex, hex_bytes}
 use Rattle.recorded_list.specs.ListText.{is_plain, byte_text}
 use Rattle.recorded_list.specs.Reads.{TextBetween, Missing}
 use Rattle.sheets.proofs.BytesLaws.{same_head, same_tail}

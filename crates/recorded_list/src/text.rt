@@ -52,10 +52,10 @@ fn read_byte(s: &[u8], at: usize) -> ByteRead
         return ByteRead::Bad;
     }
     let digits = &s[at + 1..at + 3];
-    if !hex::is_hex(digits) {
+    if !hexadecimal::is_hex(digits) {
         return ByteRead::Bad;
     }
-    let c = hex::byte_at(digits, 0);
+    let c = hexadecimal::byte_at(digits, 0);
     if is_plain(c) {
         return ByteRead::Bad;
     }

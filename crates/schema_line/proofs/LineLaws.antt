@@ -26,7 +26,7 @@ use Rattle.sheets.proofs.Tests.{meets, passing, when_met, met_when, first_gave, 
 use Rattle.sheets.proofs.BytesLaws.{split_next, split_last, Cut, first_of}
 use Rattle.sheets.proofs.InverseLaws.{split_some, number_read, signed_read, text_read}
 use Rattle.sheets.proofs.RefusalLaws.{OnlyLines, refused_only, given_only, chain_only, when_only, schema_line_only}
-use Rattle.hex.specs.Hex.{gives}
+use Rattle.hexadecimal.specs.Hex.{gives}
 use Rattle.columns.specs.Columns.{part, column_of, part_of, ColumnAt}
 use Rattle.columns.specs.TextColumns.{is_text, lacks_zero_in, is_cstring}
 use Rattle.columns.specs.NumberColumns.{number_in, signed_in}

@@ -12,9 +12,9 @@ use Rattle.sheets.specs.Bytes.{Bytes, all}
 use Rattle.sheets.specs.Utf8.{is_utf8}
 use Rattle.sheets.proofs.Tests.{meets}
 use Rattle.sheets.proofs.Utf8Laws.{ascii_utf8}
-use Rattle.hex.specs.Hex.{is_digit, value_of, is_hex, bytes_of}
-use Rattle.hex.proofs.DigitLaws.{low, letter, high, to_9, to_f, value_below}
-use Rattle.hex.proofs.HexLaws.{digit_at, byte_of_pair}
+use Rattle.hexadecimal.specs.Hex.{is_digit, value_of, is_hex, bytes_of}
+use Rattle.hexadecimal.proofs.DigitLaws.{low, letter, high, to_9, to_f, value_below}
+use Rattle.hexadecimal.proofs.HexLaws.{digit_at, byte_of_pair}
 use Rattle.utf8.specs.Tables.{is_ascii, all_ascii}
 
 pub ascii_is_utf8 : (s : Bytes) → all_ascii s ≡ true → is_utf8 s ≡ true

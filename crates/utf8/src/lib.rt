@@ -4,7 +4,7 @@
 ghost use Rattle.std.specs.Prelude.{◌≡◌, true};
 ghost use Rattle.sheets.specs.Utf8.{is_utf8};
 ghost use Rattle.sheets.specs.Utf8Classes.{class_of, next_of};
-ghost use Rattle.hex.specs.Hex.{is_hex, bytes_of};
+ghost use Rattle.hexadecimal.specs.Hex.{is_hex, bytes_of};
 ghost use Rattle.utf8.specs.Tables.{ClassTable, NextTable, Ready, all_ascii};
 
 const CLASS: [u8; 256] = [
@@ -120,7 +120,7 @@ fn decide_hex(s: &[u8]) -> bool
     let next = next_table();
     let mut q: u64 = 0;
     for k in 0..s.len() / 2 {
-        q = step(&class, &next, q, hex::byte_at(s, k));
+        q = step(&class, &next, q, hexadecimal::byte_at(s, k));
     }
     q == 0
 }

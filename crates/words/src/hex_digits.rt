@@ -8,8 +8,8 @@ ghost use Rattle.words.specs.Words.{WordOf};
 pub fn pair_of(b: u8) -> u64
     ensures { (result ≡ little_value (hex (b ∷ []))) × (result < 65536) }
 {
-    let high = hex::put::digit_of(b / 16);
-    let low = hex::put::digit_of(b % 16);
+    let high = hexadecimal::put::digit_of(b / 16);
+    let low = hexadecimal::put::digit_of(b % 16);
     buffer::wide(high) + buffer::wide(low) * 256
 }
 

@@ -3,7 +3,7 @@ use mathlib.Core.Path.{ap, ◌∙◌}
 use mathlib.Core.Bool.{not}
 use Rattle.sheets.specs.Rule.{passes}
 use Rattle.sheets.specs.Bytes.{Bytes, lacks}
-use Rattle.hex.specs.Hex.{is_hex, bytes_of}
+use Rattle.hexadecimal.specs.Hex.{is_hex, bytes_of}
 use Rattle.column_text.proofs.ColumnTextLaws.{column_hex, column_zero}
 use borrow.Author.Rules.{rules}
 use Rattle.column_text.proofs.has_zero.Statement.{statement}

@@ -1,5 +1,4 @@
 -- `number` meets its contract: by whether the digits are lean. Assumes nothing.
-use borrow.Author.Tests.{not-true, not-false}
 use Rattle.decimal.proofs.ColumnLaws.{column_lean, column_spare}
 use lib.ListN.{drop}
 use Prim.Native.Nat.{◌+◌}
@@ -9,9 +8,9 @@ use Rattle.decimal.proofs.number.Goals as goal
 pub returns-then-not-lean : goal.returns-then-not-lean
 returns-then-not-lean c =
     let st = c.args in
-    sym (column_spare (st.max + 1) (drop st.at st.s.now) (sym c.lean.ensures ∙ not-true c.lean.result c.if-not-lean.true))
+    sym (column_spare (st.max + 1) (drop st.at st.s.now) (sym c.lean.ensures ∙ c.if-not-lean.true))
 
 pub returns : goal.returns
 returns c =
     let st = c.args in
-    c.digits.ensures ∙ sym (column_lean (st.max + 1) (drop st.at st.s.now) (sym c.lean.ensures ∙ not-false c.lean.result c.if-not-lean.false))
+    c.digits.ensures ∙ sym (column_lean (st.max + 1) (drop st.at st.s.now) (sym c.lean.ensures ∙ c.if-not-lean.false))

@@ -49,7 +49,7 @@ returns-then-s-eq45 c =
     let half = st.max + 1 in
     let m = c.in-Value.m in
     let o = sym c.number.ensures ∙ ap unsigned_answer c.in-Value.is in
-    ap given (to_z-of_z {w = w64} (record { sfits = c.negated.type-inv }) ∙ c.negated.ensures)
+    ap given (to_z-of_z {w = w64} (record { sfits = c.negated.type_inv }) ∙ c.negated.ensures)
     ∙ sym (minus_given half s (omega arith) c.if-s-eq45.true m o c.if-m-eq0.false)
 
 pub returns-in_default-number : goal.returns-in_default-number

@@ -15,5 +15,11 @@ is_big w h k = rw h (rw k refl)
 is_neither : (w : Bytes) → same w (ascii "little") ≡ false → same w (ascii "big") ≡ false → A.Nothing ≡ order_named w
 is_neither w h k = rw h (rw k refl)
 
-pub same-requires-2 : goal.same-requires-2
-same-requires-2 c = is_little c.args.word.now (sym c.same.ensures ∙ c.if-same.true)
+pub returns-then-same : goal.returns-then-same
+returns-then-same c = is_little c.args.word.now (sym c.same.ensures ∙ c.if-same.true)
+
+pub returns-then-same-2 : goal.returns-then-same-2
+returns-then-same-2 c = is_big c.args.word.now (sym c.same.ensures ∙ c.if-same.false) (sym c.same-2.ensures ∙ c.if-same-2.true)
+
+pub returns : goal.returns
+returns c = is_neither c.args.word.now (sym c.same.ensures ∙ c.if-same.false) (sym c.same-2.ensures ∙ c.if-same-2.false)

@@ -5,7 +5,7 @@ use Prim.Native.Nat.{ℕ, ◌+◌, ◌-◌, ◌≤◌}
 use native.Mathlib.Omega.{arith}
 use lib.ListN.{length, drop}
 use borrow.Author.Tests.{not-false}
-use Rattle.hex.specs.Hex.{is_digit}
+use Rattle.hexadecimal.specs.Hex.{is_digit}
 use Rattle.field_pairs.specs.Pairs.{reach}
 use Rattle.field_pairs.proofs.PairsLaws.{digits_passed}
 use borrow.Author.Rules.{rules}

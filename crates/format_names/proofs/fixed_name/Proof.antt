@@ -1,8 +1,8 @@
 -- `fixed_name` meets its contract: a format finds its row among its candidates. Assumes nothing.
 use mathlib.Core.Path.{◌∙◌}
 use native.Mathlib.Omega.{arith}
-use Rattle.hex.specs.Hex.{bytes_of}
-use Rattle.hex.proofs.HexLaws.{length_bytes}
+use Rattle.hexadecimal.specs.Hex.{bytes_of}
+use Rattle.hexadecimal.proofs.HexLaws.{length_bytes}
 use Rattle.format_names.proofs.CandidateLaws.{none_empty, named_nothing, named_one, has_rows, named_rows_lem}
 use borrow.Author.Rules.{rules}
 use Rattle.format_names.proofs.fixed_name.Statement.{statement}

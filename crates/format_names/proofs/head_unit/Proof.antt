@@ -2,9 +2,9 @@
 use borrow.Author.Tests.{not-true, not-false}
 -- `head_unit` meets its contract: by the laws of heads of three bytes. Assumes nothing.
 use Rattle.format_names.proofs.HeadLaws.{unit_length, unit_other, unit_lettered, no_unit_lem}
-use Rattle.hex.proofs.PartLaws.{hex_take, bytes_take}
-use Rattle.hex.proofs.HexLaws.{twice_length}
-use Rattle.hex.specs.Hex.{bytes_of}
+use Rattle.hexadecimal.proofs.PartLaws.{hex_take, bytes_take}
+use Rattle.hexadecimal.proofs.HexLaws.{twice_length}
+use Rattle.hexadecimal.specs.Hex.{bytes_of}
 use Rattle.sheets.specs.Bytes.{Bytes, ascii, same}
 use lib.ListN.{length}
 use native.Mathlib.Omega.{arith}

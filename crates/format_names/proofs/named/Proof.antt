@@ -4,7 +4,7 @@ use Prim.Native.Nat.{◌-◌, ◌≤◌}
 use native.Mathlib.Omega.{arith}
 use lib.ListN.{drop}
 use Rattle.sheets.specs.Format.{row_named}
-use Rattle.hex.specs.Hex.{bytes_of}
+use Rattle.hexadecimal.specs.Hex.{bytes_of}
 use Rattle.format_names.specs.Names.{rows_from, leaf_of}
 use Rattle.format_names.proofs.NameLaws.{rows_found, rows_next, rows_end, row_same}
 use borrow.Author.Rules.{rules}

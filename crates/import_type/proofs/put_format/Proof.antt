@@ -7,7 +7,7 @@ use Rattle.sheets.specs.Format.{Format, read_format}
 use Rattle.sheets.specs.FieldSheet.{columns}
 use Rattle.sheets.specs.Answer.{Answer}
 use Rattle.sheets.specs.Bytes.{Bytes}
-use Rattle.hex.specs.Hex.{is_hex, bytes_of}
+use Rattle.hexadecimal.specs.Hex.{is_hex, bytes_of}
 use Rattle.field_line.specs.Columns.{columns_piece}
 use Rattle.field_line.proofs.ColumnLaws.{put_same}
 use Rattle.format.specs.Formats.{textless_format, timestamp_format, union_format, Reads}

@@ -2,7 +2,7 @@
 use mathlib.Core.Path.{sym, ap, ◌∙◌}
 use Rattle.sheets.specs.Bytes.{Bytes, same}
 use Rattle.sheets.specs.Metadata.{name_key, metadata_key}
-use Rattle.hex.specs.Hex.{bytes_of}
+use Rattle.hexadecimal.specs.Hex.{bytes_of}
 use Rattle.metadata.proofs.EntryLaws.{key_hex, key_bytes}
 use Rattle.metadata.proofs.KeepLaws.{adds_name, adds_more, adds_pair}
 use borrow.Author.Rules.{rules}

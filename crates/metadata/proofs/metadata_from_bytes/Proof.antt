@@ -2,7 +2,7 @@
 use mathlib.Core.Path.{sym, ap, subst, ◌∙◌}
 use borrow.Author.Rules.{rules}
 use Rattle.sheets.specs.Answer.{given}
-use Rattle.hex.specs.Hex.{bytes_of}
+use Rattle.hexadecimal.specs.Hex.{bytes_of}
 use Rattle.metadata.specs.Reading.{kept_answer, MetadataStands}
 use Rattle.metadata.proofs.MeaningLaws.{cut_off, block_means}
 use Rattle.metadata.proofs.SizeLaws.{can_order}

@@ -4,7 +4,7 @@ use Prim.Native.Nat.{◌-◌}
 use native.Mathlib.Omega.{arith}
 use lib.ListN.{length}
 use borrow.Author.Rules.{rules}
-use Rattle.hex.specs.Hex.{bytes_of}
+use Rattle.hexadecimal.specs.Hex.{bytes_of}
 use Rattle.metadata.specs.PairReading.{pair_answer}
 use Rattle.metadata.proofs.TextLaws.{pair_between}
 use Rattle.metadata.proofs.WalkLaws.{Walking, walk_start, walk_refused, walk_end, walk_next, is_entry_lem, room_for}

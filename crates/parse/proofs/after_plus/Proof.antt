@@ -1,8 +1,8 @@
 -- `parse::after_plus` meets its contract. Assumes nothing.
 use mathlib.Core.Path.{sym, ◌∙◌}
 use native.Mathlib.Omega.{arith}
-use Rattle.hex.specs.Hex.{bytes_of}
-use Rattle.hex.proofs.HexLaws.{length_bytes}
+use Rattle.hexadecimal.specs.Hex.{bytes_of}
+use Rattle.hexadecimal.proofs.HexLaws.{length_bytes}
 use Rattle.parse.proofs.ParseLaws.{plus, no_plus}
 use borrow.Author.Rules.{rules}
 use Rattle.parse.proofs.after_plus.Statement.{statement}

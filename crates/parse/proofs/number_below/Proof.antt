@@ -5,8 +5,8 @@ use Prim.Native.Nat.{◌≤◌, ◌<◌, ◌-◌, ◌+◌}
 use native.Mathlib.Omega.{arith}
 use lib.ListN.{length, get_or, drop}
 use Rattle.sheets.specs.Refusal.{bad_number}
-use Rattle.hex.specs.Hex.{bytes_of}
-use Rattle.hex.proofs.HexLaws.{length_bytes}
+use Rattle.hexadecimal.specs.Hex.{bytes_of}
+use Rattle.hexadecimal.proofs.HexLaws.{length_bytes}
 use Rattle.decimal.specs.Digits.{digit_after, digits_below}
 use Rattle.decimal.specs.Answers.{number_option}
 use Rattle.decimal.proofs.DigitLaws.{bad, next, within, done}

@@ -6,8 +6,8 @@ use lib.ListN.{length, get_or, drop}
 use mir.Facts.{to_z-of_z, to_z_pos}
 use mir.Syntax.{w32, w64}
 use Rattle.sheets.specs.Answer.{given}
-use Rattle.hex.specs.Hex.{bytes_of}
-use Rattle.hex.proofs.HexLaws.{length_bytes}
+use Rattle.hexadecimal.specs.Hex.{bytes_of}
+use Rattle.hexadecimal.proofs.HexLaws.{length_bytes}
 use Rattle.decimal.proofs.SignLaws.{minus_fits}
 use Rattle.parse.specs.Parse.{size_answer}
 use Rattle.parse.proofs.ParseLaws.{no_id, minus_refused, minus_given, plain_refused_lem, plain_given}

@@ -1,7 +1,7 @@
 -- `parse::parse_usize` meets its contract: `read_size` is the digits after an optional plus, below 2 ^ 64. Assumes nothing.
 use mathlib.Core.Path.{sym, ap, ◌∙◌}
 use Prim.Native.Nat.{◌^◌}
-use Rattle.hex.specs.Hex.{bytes_of}
+use Rattle.hexadecimal.specs.Hex.{bytes_of}
 use Rattle.parse.specs.Parse.{number_below}
 use Rattle.parse.proofs.ParseLaws.{read_size_lem}
 use borrow.Author.Rules.{rules}

@@ -6,7 +6,7 @@ use Prim.Native.Nat.{◌+◌}
 use native.Mathlib.Omega.{arith}
 use Rattle.sheets.specs.Number.{decimal}
 use Rattle.sheets.specs.Bytes.{ascii}
-use Rattle.hex.proofs.PartLaws.{length_hex}
+use Rattle.hexadecimal.proofs.PartLaws.{length_hex}
 use Rattle.put_format.proofs.FormatLaws.{zero_append, decimal_clean, hex_start, hex_then, formats_put}
 use borrow.Author.Rules.{rules}
 use Rattle.put_format.proofs.put_decimal_type.Statement.{statement}

@@ -13,7 +13,7 @@ use Prim.Native.Nat.{◌+◌}
 use native.Mathlib.Omega.{arith}
 use Rattle.put_format.proofs.LeafLaws.{formats_as}
 use Rattle.sheets.specs.Answer.{refused, given}
-use Rattle.hex.proofs.PartLaws.{length_hex}
+use Rattle.hexadecimal.proofs.PartLaws.{length_hex}
 use borrow.Author.Rules.{rules}
 use Rattle.put_format.proofs.put_ids.Statement.{statement}
 use Rattle.put_format.proofs.put_ids.Tie as tie

@@ -11,7 +11,7 @@ use lib.ListN.{length}
 use native.Mathlib.Omega.{arith}
 use Rattle.sheets.specs.Text.{hex}
 use Rattle.sheets.specs.Bytes.{Bytes}
-use Rattle.hex.proofs.PartLaws.{length_hex}
+use Rattle.hexadecimal.proofs.PartLaws.{length_hex}
 use Rattle.put_format.proofs.FormatLaws.{zero_append, hex_start, hex_then, formats_put}
 use borrow.Author.Rules.{rules}
 use Rattle.put_format.proofs.put_zoned.Statement.{statement}

@@ -6,8 +6,8 @@ use lib.ListN.{length, get_or, drop}
 use Rattle.sheets.specs.Utf8.{is_utf8}
 use Rattle.sheets.specs.Utf8Classes.{class_of, next_of}
 use Rattle.sheets.proofs.Utf8Laws.{from_state, next_state}
-use Rattle.hex.specs.Hex.{bytes_of}
-use Rattle.hex.proofs.HexLaws.{length_bytes}
+use Rattle.hexadecimal.specs.Hex.{bytes_of}
+use Rattle.hexadecimal.proofs.HexLaws.{length_bytes}
 use Rattle.utf8.proofs.StateLaws.{move_at, finish_at}
 use borrow.Author.Rules.{rules}
 use Rattle.utf8.proofs.decide_hex.Statement.{statement}

@@ -4,8 +4,8 @@ use mathlib.Core.Bool.{Bool, ◌&&◌}
 use Prim.Native.Nat.{◌<◌, ◌+◌, ◌-◌, ◌/◌}
 use native.Mathlib.Omega.{arith}
 use lib.ListN.{length, drop}
-use Rattle.hex.specs.Hex.{bytes_of}
-use Rattle.hex.proofs.HexLaws.{length_bytes}
+use Rattle.hexadecimal.specs.Hex.{bytes_of}
+use Rattle.hexadecimal.proofs.HexLaws.{length_bytes}
 use Rattle.utf8.specs.Tables.{all_ascii}
 use Rattle.utf8.proofs.AsciiLaws.{ascii_next, ascii_end, first_digit_ascii}
 use borrow.Author.Rules.{rules}

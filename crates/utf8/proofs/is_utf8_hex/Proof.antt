@@ -1,6 +1,6 @@
 -- `is_utf8_hex` meets its contract: ASCII is UTF-8. Assumes nothing.
 use mathlib.Core.Path.{sym, ◌∙◌}
-use Rattle.hex.specs.Hex.{bytes_of}
+use Rattle.hexadecimal.specs.Hex.{bytes_of}
 use Rattle.utf8.proofs.AsciiLaws.{ascii_is_utf8}
 use borrow.Author.Rules.{rules}
 use Rattle.utf8.proofs.is_utf8_hex.Statement.{statement}

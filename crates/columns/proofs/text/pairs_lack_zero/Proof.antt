@@ -7,7 +7,7 @@ use native.Mathlib.Omega.{arith}
 use lib.ListN.{length, drop}
 use Rattle.sheets.specs.Rule.{passes}
 use Rattle.sheets.specs.Bytes.{lacks}
-use Rattle.hex.specs.Hex.{bytes_of}
+use Rattle.hexadecimal.specs.Hex.{bytes_of}
 use Rattle.columns.proofs.TextLaws.{zero_next, zero_end}
 use borrow.Author.Rules.{rules}
 use Rattle.columns.proofs.text.pairs_lack_zero.Statement.{statement}

@@ -1,6 +1,6 @@
 -- `to_integer_type` meets its contract: by the row of the name. Assumes nothing.
 use mathlib.Core.Path.{sym, ◌∙◌, ap}
-use Rattle.hex.specs.Hex.{bytes_of}
+use Rattle.hexadecimal.specs.Hex.{bytes_of}
 use Rattle.format_names.specs.Names.{name_option}
 use Rattle.format.proofs.IndexLaws.{index_named, no_index}
 use borrow.Author.Rules.{rules}

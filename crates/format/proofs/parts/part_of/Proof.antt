@@ -1,6 +1,6 @@
 -- `part_of` meets its contract: each byte is two digits. Assumes nothing.
 use native.Mathlib.Omega.{arith}
-use Rattle.hex.proofs.HexLaws.{twice_length}
+use Rattle.hexadecimal.proofs.HexLaws.{twice_length}
 use Rattle.format.proofs.PartLaws.{part_hex, part_bytes}
 use borrow.Author.Rules.{rules}
 use Rattle.format.proofs.parts.part_of.Statement.{statement}

@@ -4,7 +4,7 @@ use Prim.Native.Nat.{◌+◌}
 use Rattle.sheets.specs.Format.{read_size}
 use Rattle.sheets.specs.Answer.{refused, given}
 use Rattle.sheets.specs.Refusal.{bad_number}
-use Rattle.hex.specs.Hex.{bytes_of}
+use Rattle.hexadecimal.specs.Hex.{bytes_of}
 use Rattle.parse.specs.Parse.{size_answer}
 use Rattle.format.specs.Parts.{format_part}
 use Rattle.format.proofs.ReadLaws.{decimal_read}

@@ -6,8 +6,8 @@ use lib.ListN.{take, drop}
 use Rattle.sheets.specs.Format.{read_cut}
 use Rattle.sheets.specs.Answer.{given}
 use Rattle.sheets.specs.Bytes.{Bytes}
-use Rattle.hex.specs.Hex.{bytes_of}
-use Rattle.hex.proofs.HexLaws.{twice_length}
+use Rattle.hexadecimal.specs.Hex.{bytes_of}
+use Rattle.hexadecimal.proofs.HexLaws.{twice_length}
 use Rattle.datatypes.specs.At.{time_unit_option, union_mode_option}
 use Rattle.format.specs.Formats.{timestamp_format, union_format}
 use Rattle.format_names.specs.Names.{head_unit, head_mode}

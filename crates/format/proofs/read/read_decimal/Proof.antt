@@ -4,8 +4,8 @@ use mathlib.Core.List.{List, ◌∷◌}
 use Prim.Native.Nat.{◌+◌}
 use native.Mathlib.Omega.{arith}
 use Rattle.sheets.specs.Bytes.{Bytes}
-use Rattle.hex.specs.Hex.{bytes_of}
-use Rattle.hex.proofs.HexLaws.{length_bytes}
+use Rattle.hexadecimal.specs.Hex.{bytes_of}
+use Rattle.hexadecimal.proofs.HexLaws.{length_bytes}
 use Rattle.format.specs.Formats.{decimal_of, decimal_format}
 use Rattle.sheets.specs.Parts.{parts_from}
 use Rattle.format.specs.Parts.{format_part}

@@ -3,7 +3,7 @@ use mathlib.Core.Path.{sym, ◌∙◌, ap, subst}
 use Rattle.sheets.specs.Answer.{given}
 use Rattle.sheets.specs.Format.{cut, read_other, read_format}
 use Rattle.sheets.proofs.FixedNameLaws.{leaf_format_lem}
-use Rattle.hex.specs.Hex.{bytes_of}
+use Rattle.hexadecimal.specs.Hex.{bytes_of}
 use Rattle.format_names.specs.Names.{name_option, Told}
 use Rattle.format_names.proofs.NameLaws.{name_says, name_other}
 use Rattle.format.proofs.ReadLaws.{reads_as}

@@ -5,8 +5,8 @@ use Prim.Native.Nat.{◌+◌, ◌/◌, ◌<◌}
 use native.Mathlib.Omega.{arith}
 use lib.ListN.{length, take, drop}
 use Rattle.sheets.specs.Format.{cut, read_cut, read_other}
-use Rattle.hex.specs.Hex.{bytes_of}
-use Rattle.hex.proofs.HexLaws.{length_bytes}
+use Rattle.hexadecimal.specs.Hex.{bytes_of}
+use Rattle.hexadecimal.proofs.HexLaws.{length_bytes}
 use Rattle.sheets.specs.Parts.{bytes_before}
 use Rattle.format.proofs.ReadLaws.{reads_as}
 use Rattle.sheets.proofs.PartLaws.{before_within}

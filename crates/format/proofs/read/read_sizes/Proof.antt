@@ -5,8 +5,8 @@ use lib.ListN.{drop}
 use Rattle.sheets.specs.Format.{read_size, read_cut}
 use Rattle.sheets.specs.Answer.{refused, given}
 use Rattle.sheets.specs.Refusal.{bad_number}
-use Rattle.hex.specs.Hex.{bytes_of}
-use Rattle.hex.proofs.HexLaws.{length_bytes}
+use Rattle.hexadecimal.specs.Hex.{bytes_of}
+use Rattle.hexadecimal.proofs.HexLaws.{length_bytes}
 use Rattle.parse.specs.Parse.{size_answer}
 use Rattle.format.specs.Formats.{decimal_format}
 use Rattle.sheets.specs.Parts.{parts_from}

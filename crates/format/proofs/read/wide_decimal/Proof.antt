@@ -6,8 +6,8 @@ use Prim.Native.Nat.{◌+◌, ◌/◌}
 use native.Mathlib.Omega.{arith}
 use lib.ListN.{length}
 use Rattle.sheets.specs.Format.{read_size}
-use Rattle.hex.specs.Hex.{bytes_of}
-use Rattle.hex.proofs.HexLaws.{length_bytes, twice_length}
+use Rattle.hexadecimal.specs.Hex.{bytes_of}
+use Rattle.hexadecimal.proofs.HexLaws.{length_bytes, twice_length}
 use Rattle.parse.specs.Parse.{size_answer}
 use Rattle.format.specs.Formats.{decimal_of, decimal_format}
 use Rattle.sheets.specs.Parts.{parts_from}

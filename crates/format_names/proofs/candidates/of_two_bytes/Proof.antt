@@ -5,7 +5,7 @@ use Prim.Native.Nat.{ℕ}
 use native.Mathlib.Omega.{arith}
 use Rattle.sheets.specs.FixedNames.{fixed_rows}
 use Rattle.sheets.proofs.Tests.{meets, every}
-use Rattle.hex.specs.Hex.{bytes_of}
+use Rattle.hexadecimal.specs.Hex.{bytes_of}
 use Rattle.words.specs.Words.{low_bytes}
 use Rattle.format_names.proofs.CandidateLaws.{at_digits, armed, no_candidates}
 use Rattle.format_names.proofs.candidates.of_two_bytes.Statement.{statement}

@@ -9,8 +9,8 @@ use mir.Syntax.{w32}
 use mir.Val.{SFits}
 use mir.Facts.{to_z-of_z}
 use Rattle.sheets.specs.Format.{read_id}
-use Rattle.hex.specs.Hex.{bytes_of}
-use Rattle.hex.proofs.HexLaws.{length_bytes, twice_length}
+use Rattle.hexadecimal.specs.Hex.{bytes_of}
+use Rattle.hexadecimal.proofs.HexLaws.{length_bytes, twice_length}
 use Rattle.buffer.proofs.OverLaws.{length_written, length_over_at}
 use Rattle.decimal.proofs.WriteLaws.{signed_short}
 use Rattle.parse.specs.Parse.{id_answer}

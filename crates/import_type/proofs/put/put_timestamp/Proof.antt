@@ -6,7 +6,7 @@ use native.Mathlib.Omega.{arith}
 use Rattle.sheets.specs.FieldSheet.{columns, no_text}
 use Rattle.sheets.specs.Kind
 use Rattle.sheets.specs.Bytes.{Bytes}
-use Rattle.hex.specs.Hex.{bytes_of}
+use Rattle.hexadecimal.specs.Hex.{bytes_of}
 use Rattle.buffer.proofs.OverLaws.{none_yet, and_then}
 use Rattle.field_line.specs.Columns.{kind_piece, shape_piece, columns_piece}
 use Rattle.field_line.proofs.LengthLaws.{kind_short}

@@ -11,8 +11,8 @@ use Rattle.sheets.specs.Field.{union}
 use Rattle.sheets.specs.Kind
 use Rattle.sheets.specs.Number.{write_signed}
 use Rattle.sheets.specs.Answer.{Answer, given, ◌>>=◌}
-use Rattle.hex.specs.Hex.{bytes_of}
-use Rattle.hex.proofs.HexLaws.{twice_length}
+use Rattle.hexadecimal.specs.Hex.{bytes_of}
+use Rattle.hexadecimal.proofs.HexLaws.{twice_length}
 use Rattle.buffer.proofs.OverLaws.{none_yet, and_then}
 use Rattle.datatypes.specs.Places.{is_sparse}
 use Rattle.field_line.specs.Columns.{kind_piece, shape_piece, columns_piece}

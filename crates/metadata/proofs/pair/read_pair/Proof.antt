@@ -2,7 +2,7 @@
 use mathlib.Core.Path.{sym, ap, ◌∙◌}
 use Prim.Native.Nat.{ℕ}
 use Rattle.sheets.specs.Answer.{Answer, ◌>>=◌}
-use Rattle.hex.specs.Hex.{bytes_of}
+use Rattle.hexadecimal.specs.Hex.{bytes_of}
 use Rattle.metadata.specs.PairReading.{text_answer}
 use Rattle.metadata.proofs.TextLaws.{after_key}
 use borrow.Author.Rules.{rules}

@@ -2,7 +2,7 @@
 use mathlib.Core.Path.{◌≡◌, refl, sym, ◌∙◌}
 use Prim.Native.Nat.{◌+◌, ◌-◌, ◌*◌}
 use native.Mathlib.Omega.{arith}
-use Rattle.hex.proofs.PartLaws.{hex_part}
+use Rattle.hexadecimal.proofs.PartLaws.{hex_part}
 use Rattle.metadata.proofs.TextLaws.{read_none, read_short, read_bad, read_text_lem}
 use borrow.Author.Rules.{rules}
 use Rattle.metadata.proofs.pair.read_text.Statement.{statement}

@@ -3,7 +3,7 @@ use mathlib.Core.Path.{sym, ap, ◌∙◌}
 use Prim.Native.Nat.{ℕ, ◌+◌}
 use native.Mathlib.Omega.{arith}
 use Rattle.sheets.specs.Answer.{Answer, given, ◌>>=◌}
-use Rattle.hex.specs.Hex.{bytes_of}
+use Rattle.hexadecimal.specs.Hex.{bytes_of}
 use Rattle.metadata.specs.PairReading.{text_answer}
 use Rattle.metadata.proofs.TextLaws.{after_key, key_within, value_within}
 use borrow.Author.Rules.{rules}

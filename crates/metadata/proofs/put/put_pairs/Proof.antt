@@ -5,7 +5,7 @@ use native.Mathlib.Omega.{arith}
 use lib.ListN.{length}
 use Rattle.sheets.specs.Bytes.{Bytes}
 use Rattle.buffer.specs.Over.{PutAt}
-use Rattle.hex.specs.Hex.{bytes_of}
+use Rattle.hexadecimal.specs.Hex.{bytes_of}
 use Rattle.metadata.proofs.PutLaws.{Putting, column_none, entry_at, first_fits, first_put, next_fits, next_put, put_finished}
 use borrow.Author.Rules.{rules}
 use Rattle.metadata.proofs.put.put_pairs.Statement.{statement}

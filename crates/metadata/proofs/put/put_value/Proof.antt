@@ -5,7 +5,7 @@ use lib.ListN.{length}
 use borrow.Author.Tests.{ne_eqb}
 use Rattle.sheets.specs.Bytes.{Bytes}
 use Rattle.buffer.specs.Over.{PutAt}
-use Rattle.hex.specs.Hex.{bytes_of}
+use Rattle.hexadecimal.specs.Hex.{bytes_of}
 use Rattle.metadata.proofs.PutLaws.{value_none, value_empty, value_text}
 use borrow.Author.Rules.{rules}
 use Rattle.metadata.proofs.put.put_value.Statement.{statement}

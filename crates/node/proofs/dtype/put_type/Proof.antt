@@ -4,7 +4,7 @@ use mathlib.Core.Bool.{true}
 use native.Mathlib.Omega.{arith}
 use lib.ListN.{length}
 use Rattle.sheets.specs.Bytes.{Bytes}
-use Rattle.hex.specs.Hex.{is_hex}
+use Rattle.hexadecimal.specs.Hex.{is_hex}
 use Rattle.schema_line.proofs.TextLaws.{text_shorter}
 use Rattle.import_type.specs.TypeColumns.{put_answer}
 use Rattle.node.proofs.TextLaws.{text_bytes}

@@ -2,7 +2,7 @@
 use mathlib.Core.Path.{◌≡◌, sym, subst, ◌∙◌}
 use mathlib.Core.Bool.{true}
 use Rattle.sheets.specs.Bytes.{Bytes}
-use Rattle.hex.specs.Hex.{is_hex}
+use Rattle.hexadecimal.specs.Hex.{is_hex}
 use Rattle.node.proofs.TextLaws.{text_bytes}
 use Rattle.node.proofs.InfoLaws.{own_refused, own_found, own_unnamed}
 use borrow.Author.Rules.{rules}

@@ -9,7 +9,7 @@ use Rattle.field_line.proofs.ColumnLaws.{put_same}
 use Rattle.node.proofs.LineLaws.{extension_shape, extension_kind}
 use mathlib.Core.Path.{ap, ◌∙◌}
 use Rattle.metadata.specs.Pairs.{value_column}
-use Rattle.hex.specs.Hex.{bytes_of}
+use Rattle.hexadecimal.specs.Hex.{bytes_of}
 use Rattle.field_line.specs.Columns.{kind_piece, shape_piece}
 use Rattle.sheets.specs.Kind
 use mathlib.Core.List.{[], ◌∷◌, ◌++◌}

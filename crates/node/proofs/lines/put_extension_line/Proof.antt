@@ -1,6 +1,6 @@
 -- `put_extension_line` meets its contract: a chain of three writes. Assumes nothing.
 use native.Mathlib.Omega.{arith}
-use Rattle.hex.specs.Hex.{bytes_of}
+use Rattle.hexadecimal.specs.Hex.{bytes_of}
 use Rattle.buffer.proofs.OverLaws.{none_yet, and_then}
 use Rattle.field_line.specs.Columns.{end_piece}
 use Rattle.node.specs.Pieces.{shown_text, extension_piece, extension_text}

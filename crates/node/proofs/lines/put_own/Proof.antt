@@ -2,7 +2,7 @@
 use mathlib.Core.List.{[], ◌∷◌, ◌++◌}
 use native.Mathlib.Omega.{arith}
 use Rattle.sheets.specs.FieldSheet.{no_text}
-use Rattle.hex.specs.Hex.{bytes_of}
+use Rattle.hexadecimal.specs.Hex.{bytes_of}
 use Rattle.buffer.proofs.OverLaws.{none_yet, and_then}
 use Rattle.field_line.specs.Columns.{own_piece}
 use Rattle.metadata.specs.Pairs.{pairs_column}

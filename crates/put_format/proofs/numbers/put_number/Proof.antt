@@ -7,7 +7,7 @@ use Rattle.sheets.specs.Bytes.{Bytes}
 use Rattle.sheets.specs.Text.{hex}
 use Rattle.sheets.specs.Number.{decimal}
 use Rattle.buffer.specs.Over.{over_at}
-use Rattle.hex.proofs.PartLaws.{length_hex}
+use Rattle.hexadecimal.proofs.PartLaws.{length_hex}
 use Rattle.decimal.proofs.WriteLaws.{decimal_short}
 use Rattle.put_format.proofs.CountedLaws.{digits_are}
 use borrow.Author.Rules.{rules}

@@ -4,7 +4,7 @@ use mathlib.Core.Option.{some}
 use Prim.Native.Nat.{ℕ, ◌*◌}
 use native.Mathlib.Omega.{arith}
 use Rattle.sheets.specs.Text.{hex}
-use Rattle.hex.proofs.PartLaws.{length_hex}
+use Rattle.hexadecimal.proofs.PartLaws.{length_hex}
 use Rattle.words.proofs.DigitLaws.{hex_bytes_small}
 use Rattle.format_names.specs.Names.{row_at}
 use Rattle.format_names.proofs.NameLaws.{row_bytes, name_short}

@@ -17,8 +17,8 @@ use Rattle.sheets.specs.Rule.{Meets}
 use Rattle.sheets.specs.Bytes.{Bytes, all, is_byte}
 use Rattle.sheets.specs.Text.{digit_value, unhex}
 use Rattle.sheets.proofs.Tests.{and_left, and_right}
-use Rattle.hex.specs.Hex.{gives, given_or, is_digit, value_of, is_hex, bytes_of}
-use Rattle.hex.proofs.DigitLaws.{value_below}
+use Rattle.hexadecimal.specs.Hex.{gives, given_or, is_digit, value_of, is_hex, bytes_of}
+use Rattle.hexadecimal.proofs.DigitLaws.{value_below}
 
 -- ── a pair and the text after it
 

@@ -7,7 +7,7 @@ use lib.Dec.{leb, eqb, ltb}
 use borrow.Author.Tests.{le-leb, lt-leb, leb-true, leb-false, ltb-true, ltb-false, eqb-true}
 use Rattle.sheets.specs.Text.{hex_digit}
 use Rattle.sheets.proofs.Tests.{every, at_each, meets, and_left, and_right}
-use Rattle.hex.specs.Hex.{is_digit, value_of}
+use Rattle.hexadecimal.specs.Hex.{is_digit, value_of}
 
 and-false : (t : Bool) → t && false ≡ false
 and-false true = refl

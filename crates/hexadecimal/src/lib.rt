@@ -5,7 +5,7 @@ pub mod put;
 
 ghost use Rattle.std.specs.Prelude.{◌≡◌, true, ◌<◌, get_or};
 ghost use Rattle.sheets.specs.Bytes.{same};
-ghost use Rattle.hex.specs.Hex.{is_digit, value_of, is_hex, bytes_of, HasPair};
+ghost use Rattle.hexadecimal.specs.Hex.{is_digit, value_of, is_hex, bytes_of, HasPair};
 
 fn is_digit(b: u8) -> bool
     ensures { result ≡ is_digit b }

@@ -11,9 +11,9 @@ use Rattle.sheets.specs.Bytes.{Bytes, all, is_byte}
 use Rattle.sheets.specs.Text.{hex_digit, hex}
 use Rattle.sheets.proofs.BytesLaws.{all_append}
 use Rattle.sheets.proofs.TextLaws.{unhex_hex}
-use Rattle.hex.specs.Hex.{gives, given_or, is_digit, value_of, is_hex, bytes_of}
-use Rattle.hex.proofs.DigitLaws.{value_below, digit_of_value}
-use Rattle.hex.proofs.HexLaws.{bytes_pair, first_digit, second_digit, hex_after, hex_one, bytes_below}
+use Rattle.hexadecimal.specs.Hex.{gives, given_or, is_digit, value_of, is_hex, bytes_of}
+use Rattle.hexadecimal.proofs.DigitLaws.{value_below, digit_of_value}
+use Rattle.hexadecimal.proofs.HexLaws.{bytes_pair, first_digit, second_digit, hex_after, hex_one, bytes_below}
 
 -- ── there and back
 
