@@ -4,6 +4,6 @@ use Rattle.words.proofs.put_word4.Goals as goal
 
 pub returns : goal.returns
 returns c =
-    put_both 2 2 c.args.at c.args.w c.args.out.now c.put_word2.new.0 _
+    put_both 2 2 c.args.at c.args.w c.args.out.now c.put_word2.new.out _
     c.put_word2.ensures
     c.put_word2-2.ensures

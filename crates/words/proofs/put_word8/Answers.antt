@@ -4,6 +4,6 @@ use Rattle.words.proofs.put_word8.Goals as goal
 
 pub returns : goal.returns
 returns c =
-    put_both 4 4 c.args.at c.args.w c.args.out.now c.put_word4.new.0 _
+    put_both 4 4 c.args.at c.args.w c.args.out.now c.put_word4.new.out _
     c.put_word4.ensures
     c.put_word4-2.ensures

@@ -1,22 +1,16 @@
 -- `text::known_pairs_end` meets its contract. The loop's invariant: from `i` on pairs are left up to the text's end, and so no byte before the end is
 -- the space. The measure is what is left of the text. Assumes nothing.
 use mathlib.Core.Path.{◌∙◌}
-use Prim.Native.Nat.{◌+◌, ◌-◌}
+use Prim.Native.Nat.{◌-◌}
 use native.Mathlib.Omega.{arith}
-use Rattle.columns.proofs.KnownTextLaws.{PairsLeft, end_within, left_first, left_within, left_none, left_less, left_more, left_on}
+use Rattle.columns.proofs.KnownTextLaws.{end_within, left_first, left_within, left_none, left_less, left_more, left_on}
 use Rattle.columns.proofs.text.known_pairs_end.Goals as goal
 
--- HELPER (inline)
-first : (c : tie.Start invariant-loop decreases-loop) → PairsLeft c.args.s.now c.args.at (c.args.at + 2)
-first c = left_first c.requires.0 c.requires.1
-
--- HELPERS ['first']
 pub overflow_add-i : goal.overflow_add-i
-overflow_add-i c = omega (arith, c.ranges, left_within c.requires.0 (first c))
+overflow_add-i c = omega (arith, c.ranges, left_within c.requires.0 (left_first c.requires.0 c.requires.1))
 
--- HELPERS ['first']
 pub loop-i-init : goal.loop-i-init
-loop-i-init c = first c
+loop-i-init c = (left_first c.requires.0 c.requires.1)
 
 pub overflow_sub-i : goal.overflow_sub-i
 overflow_sub-i c = c.loop-i.invariant.low
