@@ -11,7 +11,7 @@ ghost use Rattle.field_columns.specs.FieldColumns.{is_nothing, is_some_text, is_
 use columns::{Place, ascii_pairs};
 
 // What a column must hold.
-#[derive(Drop)]
+#[derive(Clone, Copy)]
 pub enum Content {
     // `~`
     Nothing,

@@ -142,7 +142,7 @@ fn type_at(i: usize) -> NameRead
 }
 
 // A format's digits as numbers: the first eight, and those after them.
-#[derive(Drop)]
+#[derive(Clone, Copy)]
 pub struct Digits {
     pub low: u64,
     pub high: u64,

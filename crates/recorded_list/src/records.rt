@@ -7,7 +7,7 @@ ghost use Rattle.recorded_list.specs.Answers.{first_line_option, header_option, 
 use crate::text::TextRead;
 
 // How many records there are, and how many bytes the longest input and the longest output have.
-#[derive(Drop)]
+#[derive(Clone, Copy)]
 pub struct FirstLine {
     pub records: u64,
     pub input: u64,
@@ -15,7 +15,7 @@ pub struct FirstLine {
 }
 
 // The numbers of a record's first line.
-#[derive(Drop)]
+#[derive(Clone, Copy)]
 pub struct Header {
     pub call: u64,
     pub argument: u64,
