@@ -29,18 +29,16 @@ pub returns-then-not-fits : goal.returns-then-not-fits
 returns-then-not-fits c =
     let w = c.refill-w in
     let a = c.args in
-    let l = c.line-1.given in
     let text = take w.result.end w.new.text in
-    let line = subst (λ (r : FirstLineRead). Reads IsFirstLine first_line_text text w.result.at (first_line_option r)) l.1 c.read_first_line.ensures in
-    let there : Option (FirstLine × ℕ) = some (l.0.0, l.0.1.0) in
-    record { from = w.result; refilled = w.ensures; there = there; reads = line; told = front_failed (fitting a.input a.output) w.result l.0.0 l.0.1.0 (sym c.fits2.ensures ∙ c.if-not-fits.true) }
+    let line = subst (λ (r : FirstLineRead). Reads IsFirstLine first_line_text text w.result.at (first_line_option r)) c.in-Read.is c.read_first_line.ensures in
+    let there : Option (FirstLine × ℕ) = some (c.in-Read.line, c.in-Read.next) in
+    record { from = w.result; refilled = w.ensures; there = there; reads = line; told = front_failed (fitting a.input a.output) w.result c.in-Read.line c.in-Read.next (sym c.fits.ensures ∙ c.if-not-fits.true) }
 
 pub returns : goal.returns
 returns c =
     let w = c.refill-w in
     let a = c.args in
-    let l = c.line-1.given in
     let text = take w.result.end w.new.text in
-    let line = subst (λ (r : FirstLineRead). Reads IsFirstLine first_line_text text w.result.at (first_line_option r)) l.1 c.read_first_line.ensures in
-    let there : Option (FirstLine × ℕ) = some (l.0.0, l.0.1.0) in
-    record { from = w.result; refilled = w.ensures; there = there; reads = line; told = front_passed (fitting a.input a.output) w.result l.0.0 l.0.1.0 (sym c.fits2.ensures ∙ c.if-not-fits.false) }
+    let line = subst (λ (r : FirstLineRead). Reads IsFirstLine first_line_text text w.result.at (first_line_option r)) c.in-Read.is c.read_first_line.ensures in
+    let there : Option (FirstLine × ℕ) = some (c.in-Read.line, c.in-Read.next) in
+    record { from = w.result; refilled = w.ensures; there = there; reads = line; told = front_passed (fitting a.input a.output) w.result c.in-Read.line c.in-Read.next (sym c.fits.ensures ∙ c.if-not-fits.false) }

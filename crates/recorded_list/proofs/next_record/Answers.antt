@@ -30,7 +30,6 @@ returns c =
     let read = c.read_record in
     let ins = read.new.input in
     let outs = read.new.output in
-    let h = c.h-1.given in
-    let there : Option (Record × ℕ) = some (record_in ins outs h.0.0, h.0.1.0) in
-    let reads = subst (λ (r : RecordRead). Reads (IsRecord (length ins) (length outs)) record_text (take w.result.end w.new.text) w.result.at (record_option ins outs r)) h.1 read.ensures in
+    let there : Option (Record × ℕ) = some (record_in ins outs c.in-Read.h, c.in-Read.next) in
+    let reads = subst (λ (r : RecordRead). Reads (IsRecord (length ins) (length outs)) record_text (take w.result.end w.new.text) w.result.at (record_option ins outs r)) c.in-Read.is read.ensures in
     record { from = w.result; refilled = w.ensures; there = there; reads = reads; told = refl }

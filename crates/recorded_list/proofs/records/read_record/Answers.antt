@@ -19,32 +19,27 @@ returns-in_default c =
 pub returns-in_default-read_part : goal.returns-in_default-read_part
 returns-in_default-read_part c =
     let a = c.args in
-    let h = c.h-1.given in
     let ins = c.read_part.new.out in
-    let header = subst (λ (r : RecordRead). Reads IsHeader header_text a.s.now a.at (header_option r)) h.1 c.read_header.ensures in
-    let input = subst (λ (r : TextRead). Reads (IsPart h.0.0.input (length ins)) part_text a.s.now h.0.1.0 (text_option (take h.0.0.input ins) r)) c.in_default-read_part.is c.read_part.ensures in
+    let header = subst (λ (r : RecordRead). Reads IsHeader header_text a.s.now a.at (header_option r)) c.in-Read.is c.read_header.ensures in
+    let input = subst (λ (r : TextRead). Reads (IsPart c.in-Read.h.input (length ins)) part_text a.s.now c.in-Read.body (text_option (take c.in-Read.h.input ins) r)) c.in_default-read_part.is c.read_part.ensures in
     no_input a.s.now a.at (length ins) _ _ _ header input
 
 pub returns-in_default-read_part-2 : goal.returns-in_default-read_part-2
 returns-in_default-read_part-2 c =
     let a = c.args in
-    let h = c.h-1.given in
-    let middle = c.middle-1.given in
     let ins = c.read_part.new.out in
     let outs = c.read_part-2.new.out in
-    let header = subst (λ (r : RecordRead). Reads IsHeader header_text a.s.now a.at (header_option r)) h.1 c.read_header.ensures in
-    let input = subst (λ (r : TextRead). Reads (IsPart h.0.0.input (length ins)) part_text a.s.now h.0.1.0 (text_option (take h.0.0.input ins) r)) middle.1 c.read_part.ensures in
-    let output = subst (λ (r : TextRead). Reads (IsPart h.0.0.output (length outs)) part_text a.s.now middle.0.0 (text_option (take h.0.0.output outs) r)) c.in_default-read_part-2.is c.read_part-2.ensures in
+    let header = subst (λ (r : RecordRead). Reads IsHeader header_text a.s.now a.at (header_option r)) c.in-Read.is c.read_header.ensures in
+    let input = subst (λ (r : TextRead). Reads (IsPart c.in-Read.h.input (length ins)) part_text a.s.now c.in-Read.body (text_option (take c.in-Read.h.input ins) r)) c.in-To.is c.read_part.ensures in
+    let output = subst (λ (r : TextRead). Reads (IsPart c.in-Read.h.output (length outs)) part_text a.s.now c.in-To.middle (text_option (take c.in-Read.h.output outs) r)) c.in_default-read_part-2.is c.read_part-2.ensures in
     no_output a.s.now a.at (length ins) (length outs) _ _ header _ _ input output
 
 pub returns : goal.returns
 returns c =
     let a = c.args in
-    let h = c.h-1.given in
-    let middle = c.middle-1.given in
     let ins = c.read_part.new.out in
     let outs = c.read_part-2.new.out in
-    let header = subst (λ (r : RecordRead). Reads IsHeader header_text a.s.now a.at (header_option r)) h.1 c.read_header.ensures in
-    let input = subst (λ (r : TextRead). Reads (IsPart h.0.0.input (length ins)) part_text a.s.now h.0.1.0 (text_option (take h.0.0.input ins) r)) middle.1 c.read_part.ensures in
-    let output = subst (λ (r : TextRead). Reads (IsPart h.0.0.output (length outs)) part_text a.s.now middle.0.0 (text_option (take h.0.0.output outs) r)) c.in-To-read_part.is c.read_part-2.ensures in
+    let header = subst (λ (r : RecordRead). Reads IsHeader header_text a.s.now a.at (header_option r)) c.in-Read.is c.read_header.ensures in
+    let input = subst (λ (r : TextRead). Reads (IsPart c.in-Read.h.input (length ins)) part_text a.s.now c.in-Read.body (text_option (take c.in-Read.h.input ins) r)) c.in-To.is c.read_part.ensures in
+    let output = subst (λ (r : TextRead). Reads (IsPart c.in-Read.h.output (length outs)) part_text a.s.now c.in-To.middle (text_option (take c.in-Read.h.output outs) r)) c.in-To-read_part.is c.read_part-2.ensures in
     whole_record a.s.now a.at (length ins) (length outs) _ _ header _ _ input _ _ output
