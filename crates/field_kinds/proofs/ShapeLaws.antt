@@ -263,6 +263,7 @@ module _ (p q : ℕ) (t m : Bytes) where
   by_kind k (later (later (later (later (later (later (later (later (later (later (later (here e)))))))))))) = at_kind k Kind.Decimal256 e (λ f. made (of_scalar (decimal_type bits256 p q)) (f.p_fit, f.q_fit) (numbers_made Kind.Decimal256 p q refl refl f.text_fit f.more_fit))
   by_kind k (later (later (later (later (later (later (later (later (later (later (later (later (here e))))))))))))) = at_kind k Kind.Extension e extended
   by_kind k (later (later (later (later (later (later (later (later (later (later (later (later (later (here e)))))))))))))) = at_kind k Kind.Union e united
+  by_kind k (later (later (later (later (later (later (later (later (later (later (later (later (later (later x)))))))))))))) = elim x [ ]
 
 pub fits_shape : (c : Columns) → Fits c → Shaped c
 fits_shape c f = pick (is_leaf c.kind) refl

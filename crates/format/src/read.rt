@@ -15,7 +15,7 @@ use parse::Size;
 use refusal::Refusal;
 
 // A type that needs no text.
-#[derive(Drop)]
+#[derive(Clone, Copy)]
 pub enum Textless {
     // kind and unit
     Leaf(u64, u64),

@@ -41,7 +41,7 @@ returns c =
     let put = c.put_at in
     let shared = c.shared_by-shared in
     let sorted = c.sort_into in
-    let front = length_front c.args.entries.now sorted.new.to c.args.n sorted.auto.to in (
-      (omega (arith, sorted.ensures.within, len), take-append-le sorted.result sorted.new.to _ (omega (arith, sorted.ensures.within, sorted.auto.to)) ∙ sorted.ensures.entries ∙ ordered_rests c.args.text.now (take c.args.n c.args.entries.now) shared.result shared.ensures),
-      (front, length_front put.new.out sorted.new.from c.args.n sorted.auto.from ∙ put.auto.out),
-    )
+    let front = length_front c.args.entries.now sorted.new.to c.args.n sorted.auto.to in record {
+      upper_bound = (omega (arith, sorted.ensures.within, len), take-append-le sorted.result sorted.new.to _ (omega (arith, sorted.ensures.within, sorted.auto.to)) ∙ sorted.ensures.entries ∙ ordered_rests c.args.text.now (take c.args.n c.args.entries.now) shared.result shared.ensures);
+      entries_len_unchanged = (front, length_front put.new.out sorted.new.from c.args.n sorted.auto.from ∙ put.auto.out);
+    }
