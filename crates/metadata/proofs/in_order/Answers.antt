@@ -8,7 +8,7 @@ returns c =
     λ big h.
     let a = c.args in
     let s = c.sort_keys-count in
-    let few = s.ensures.0 in (
+    let few = s.ensures.upper_bound in (
       order_means big a.m.now h.is_text a.entries.now a.f h.standing s.result s.new.entries few.1 h.free,
-      order_stands big a.m.now h.is_text a.entries.now a.f h.standing s.result s.new.entries few.1 (omega (arith, few.0, s.ensures.1.0, h.standing.entries.count)),
+      order_stands big a.m.now h.is_text a.entries.now a.f h.standing s.result s.new.entries few.1 (omega (arith, few.0, s.ensures.entries_len_unchanged.0, h.standing.entries.count)),
     )

@@ -8,7 +8,7 @@ use Rattle.metadata.proofs.SizeLaws.{can_order}
 use Rattle.metadata.proofs.metadata_from_bytes.Goals as goal
 
 pub returns-then-m-lt8 : goal.returns-then-m-lt8
-returns-then-m-lt8 c = (cut_off c.args.big c.args.m.now c.requires.block.is_text c.if-m-lt8.true, tt)
+returns-then-m-lt8 c = record { result_after = cut_off c.args.big c.args.m.now c.requires.block.is_text c.if-m-lt8.true; metadata_stands = tt }
 
 pub in_order-requires : goal.in_order-requires
 in_order-requires c =
@@ -16,23 +16,23 @@ in_order-requires c =
     let h = c.requires in
     let n = c.count_of.result in
     let es = c.walk.new.entries in
-    let kept = ap (kept_answer a.big (bytes_of a.m.now) es) (sym c.in-Found.is) ∙ c.walk.ensures.0 in
-    let standing = subst (MetadataStands a.big (bytes_of a.m.now) es) c.in-Found.is c.walk.ensures.1 in
+    let kept = ap (kept_answer a.big (bytes_of a.m.now) es) (sym c.in-Found.is) ∙ c.walk.ensures.result_after in
+    let standing = subst (MetadataStands a.big (bytes_of a.m.now) es) c.in-Found.is c.walk.ensures.metadata_stands in
     (a.big, can_order a.big a.m.now h.block.is_text n es _ kept a.spare.now h.spare standing)
 
 pub returns-in-Refused : goal.returns-in-Refused
 returns-in-Refused c =
     let a = c.args in
     let es = c.walk.new.entries in
-    let kept = ap (kept_answer a.big (bytes_of a.m.now) es) (sym c.in-Refused.is) ∙ c.walk.ensures.0 in
-    (block_means a.big a.m.now c.requires.block.is_text c.if-m-lt8.false _ c.count_of.ensures _ kept, tt)
+    let kept = ap (kept_answer a.big (bytes_of a.m.now) es) (sym c.in-Refused.is) ∙ c.walk.ensures.result_after in
+    record { result_after = block_means a.big a.m.now c.requires.block.is_text c.if-m-lt8.false _ c.count_of.ensures _ kept; metadata_stands = tt }
 
 pub returns-in-Found : goal.returns-in-Found
 returns-in-Found c =
     let a = c.args in
     let es = c.walk.new.entries in
     let h = c.requires in
-    let kept = ap (kept_answer a.big (bytes_of a.m.now) es) (sym c.in-Found.is) ∙ c.walk.ensures.0 in
-    let standing = subst (MetadataStands a.big (bytes_of a.m.now) es) c.in-Found.is c.walk.ensures.1 in
+    let kept = ap (kept_answer a.big (bytes_of a.m.now) es) (sym c.in-Found.is) ∙ c.walk.ensures.result_after in
+    let standing = subst (MetadataStands a.big (bytes_of a.m.now) es) c.in-Found.is c.walk.ensures.metadata_stands in
     let told = c.in_order.ensures a.big (can_order a.big a.m.now h.block.is_text c.count_of.result es _ kept a.spare.now h.spare standing) in
-    (ap given told.0 ∙ block_means a.big a.m.now c.requires.block.is_text c.if-m-lt8.false _ c.count_of.ensures _ kept, told.1)
+    record { result_after = ap given told.0 ∙ block_means a.big a.m.now c.requires.block.is_text c.if-m-lt8.false _ c.count_of.ensures _ kept; metadata_stands = told.1 }

@@ -21,7 +21,7 @@ pub returns-in-Refused : goal.returns-in-Refused
 returns-in-Refused c =
     let l = c.loop-i in
     let a = c.args in
-    (walk_refused a.big a.m.now a.n _ l.entries l.f l.k l.i l.invariant c.loop-i-test.true _ (sym c.read_pair.ensures ∙ ap pair_answer c.in-Refused.is), tt)
+    record { result_after = walk_refused a.big a.m.now a.n _ l.entries l.f l.k l.i l.invariant c.loop-i-test.true _ (sym c.read_pair.ensures ∙ ap pair_answer c.in-Refused.is); metadata_stands = tt }
 
 pub overflow_add-k : goal.overflow_add-k
 overflow_add-k c = omega (arith, c.loop-i.invariant.place, c.requires.0.short)
@@ -66,4 +66,4 @@ pub returns : goal.returns
 returns c =
     let l = c.loop-i in
     let a = c.args in
-    (walk_end a.big a.m.now a.n _ l.entries l.f l.k l.i l.invariant c.loop-i-test.false, l.invariant.standing)
+    record { result_after = walk_end a.big a.m.now a.n _ l.entries l.f l.k l.i l.invariant c.loop-i-test.false; metadata_stands = l.invariant.standing }
