@@ -17,7 +17,7 @@ const BLOCK: usize = 32;
 const NEAR: usize = 16;
 
 // The bytes of a sheet from `start` up to `end`.
-#[derive(Drop)]
+#[derive(Clone, Copy)]
 pub struct Part {
     pub start: usize,
     pub end: usize,

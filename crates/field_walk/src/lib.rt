@@ -11,7 +11,7 @@ use outcome::Size;
 use walks::{LeafPut, LineBegun, Pending, Step, Subtree, Subtrees};
 
 // Which lines are written. Export takes the order of the metadata, big-endian or not, and whether the sheet was read strictly, which changes no line.
-#[derive(Drop)]
+#[derive(Clone, Copy)]
 pub enum Call {
     Export { big: bool, strict: bool },
     Plain,

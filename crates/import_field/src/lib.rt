@@ -20,7 +20,7 @@ use schema_line::read::LineRead;
 use schema_sheet::trees::TreeRead;
 
 // A schema of at most `levels` levels that stands at `at`; the first line of its field is bare or not, and its metadata is big-endian or not.
-#[derive(Drop)]
+#[derive(Clone, Copy)]
 pub struct Tree {
     pub at: usize,
     pub levels: usize,
@@ -29,7 +29,7 @@ pub struct Tree {
 }
 
 // `count` such schemas, one after the other.
-#[derive(Drop)]
+#[derive(Clone, Copy)]
 pub struct Trees {
     pub at: usize,
     pub count: u64,

@@ -17,7 +17,7 @@ use format::read::FormatRead;
 use refusal::Refusal;
 
 // Which subtrees a type visits: none, the first child, all children, the dictionary's values.
-#[derive(Drop)]
+#[derive(Clone, Copy)]
 pub enum Below {
     Nothing,
     First,

@@ -17,14 +17,14 @@ use recorded_list::records::Header;
 pub const FILLER: u8 = 165;
 
 // What a record has of an answer besides a sheet: the number, the length or the first value, and the second value.
-#[derive(Drop)]
+#[derive(Clone, Copy)]
 pub struct Numbers {
     pub number: u64,
     pub first: u64,
     pub second: u64,
 }
 
-#[derive(Drop)]
+#[derive(Clone, Copy)]
 pub enum Replayed {
     Agrees,
     // what came

@@ -1,5 +1,5 @@
 // The mappings and conversions by name.
-#[derive(Drop)]
+#[derive(Clone, Copy)]
 pub enum Call {
     ToPhysicalType,
     UnderlyingPhysicalType,

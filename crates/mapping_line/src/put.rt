@@ -8,7 +8,7 @@ use columns::Part;
 use read_field_line::FieldLine;
 
 // The columns `name nullable pairs` with the space after them, as they stand in the sheet; or those of a bare line.
-#[derive(Drop)]
+#[derive(Clone, Copy)]
 pub enum FieldColumns {
     Of(Part),
     Bare,

@@ -5,7 +5,7 @@ use read_field_line::FieldLine;
 use walks::Subtree;
 
 // Which type is answered.
-#[derive(Drop)]
+#[derive(Clone, Copy)]
 pub enum Choice {
     Storage,
     Inner,

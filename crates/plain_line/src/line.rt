@@ -10,7 +10,7 @@ use datatypes::kind;
 use read_field_line::FieldLine;
 
 // What becomes of the column `text`: it is kept, becomes `~`, or becomes the ids 0, 1, ..
-#[derive(Drop)]
+#[derive(Clone, Copy)]
 enum TextChange {
     Kept,
     Absent,

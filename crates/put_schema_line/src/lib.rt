@@ -15,7 +15,7 @@ use schema_line::SchemaLine;
 
 // The numbers of a line: `kind`, `p`, `q` of the field line, and `flags`, `children`, `dictionary` of the schema line; and whether its metadata is written
 // big-endian.
-#[derive(Drop)]
+#[derive(Clone, Copy)]
 pub struct LineNumbers {
     pub kind: u64,
     pub p: u64,

@@ -14,7 +14,7 @@ use columns::number::NumberColumn;
 use columns::{Part, number};
 
 // `kind p q text more name nullable pairs children`; a bare line has no name, and `nullable` is false there; `end` is the place after the line's byte 10.
-#[derive(Drop)]
+#[derive(Clone, Copy)]
 pub struct FieldLine {
     pub kind: u64,
     pub p: u64,

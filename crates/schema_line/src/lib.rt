@@ -10,7 +10,7 @@ ghost use Rattle.schema_line.specs.Texts.{text_in};
 use columns::Part;
 
 // `format name flags metadata children dictionary`; `end` is the place after the line's byte 10.
-#[derive(Drop)]
+#[derive(Clone, Copy)]
 pub struct SchemaLine {
     pub format: Part,
     pub name: Part,
