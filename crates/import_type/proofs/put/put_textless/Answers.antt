@@ -10,5 +10,5 @@ use Rattle.import_type.proofs.put.put_textless.Goals as goal
 pub returns : goal.returns
 returns c =
     let a = c.args in
-    let n = c.Numbers-of in
+    let n = c.numbers_of-c in
     put_same a.at a.out.now (columns_piece (number_columns n.result)) (columns_piece (columns (shape_of (textless_format a.t)))) (sym (ap columns_piece n.ensures)) c.put_numbers.ensures

@@ -8,13 +8,13 @@ use Rattle.put_format.proofs.LeafLaws.{word_known, two_bytes_put, words_length, 
 use Rattle.put_format.proofs.names.put_row.Goals as goal
 
 pub put_word4-requires : goal.put_word4-requires
-put_word4-requires c = (word_known _ _ _ (sym c.is_IsWord.ensures ∙ c.if-is_word.true)).1
+put_word4-requires c = (word_known _ _ _ (sym c.is_word.ensures ∙ c.if-is_word.true)).1
 
 pub overflow_add-result : goal.overflow_add-result
 overflow_add-result c = omega (arith, c.requires.low)
 
 pub returns-then-is_word : goal.returns-then-is_word
-returns-then-is_word c = two_bytes_put c.args.i c.requires.known _ c.args.at c.args.out.now _ (word_known (length c.args.out.now) c.args.at c.args.i (sym c.is_IsWord.ensures ∙ c.if-is_word.true)).0 c.low_digits.ensures c.put_word4.ensures
+returns-then-is_word c = two_bytes_put c.args.i c.requires.known _ c.args.at c.args.out.now _ (word_known (length c.args.out.now) c.args.at c.args.i (sym c.is_word.ensures ∙ c.if-is_word.true)).0 c.low_digits.ensures c.put_word4.ensures
 
 pub overflow_mul-len : goal.overflow_mul-len
 overflow_mul-len c = omega (arith, c.name_length-len.ensures, name_short c.args.i c.requires.known)

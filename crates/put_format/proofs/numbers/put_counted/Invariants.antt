@@ -6,7 +6,7 @@ use Rattle.put_format.proofs.CountedLaws.{Counting}
 use Rattle.put_format.proofs.numbers.put_counted.Given as goal
 
 abbrev pub invariant-loop-i : goal.invariant-loop-i
-invariant-loop-i l = (length l.end ≡ length l.initial.out) × Counting l.count l.initial.end l.initial.out l.i i l.end
+invariant-loop-i l = (length l.out ≡ length l.initial.out) × Counting l.count l.initial.end l.initial.out l.end l.i l.out
 
 abbrev pub decreases-loop-i : goal.decreases-loop-i
-decreases-loop-i l = l.count - i
+decreases-loop-i l = l.count - l.i

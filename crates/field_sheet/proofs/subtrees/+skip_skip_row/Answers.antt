@@ -1,0 +1,83 @@
+-- The proof of the cycle of calls {skip, skip_row}. The measure is four times the number of levels that are left, two more outside an extension, and one
+-- more in `skip_row`. In the loop of `skip_row`: the trees that are left stand here, and none that was passed has too many levels. Assumes nothing.
+use mathlib.Core.Path.{refl, sym, ap, ◌∙◌}
+use mathlib.Core.Bool.{false}
+use native.Mathlib.Omega.{arith}
+use Rattle.sheets.proofs.FieldTrees.{fields_lawful}
+use Rattle.sheets.proofs.TreeWalks.{going_none, going_tree, going_all}
+use Rattle.field_sheet.proofs.LevelLaws.{cost_low, levels_fall, no_level}
+use Rattle.field_leaf.specs.FieldLeaves.{leaf_option, FieldLeafAt}
+use Rattle.field_leaf.proofs.LeafLaws.{leaf_told}
+use Rattle.field_sheet.proofs.ReadLaws.{leaf_to_lem}
+use Rattle.field_sheet.proofs.SkipLaws.{line_row, tree_skipped, going_next, going_more, going_deep}
+use Prim.Native.Nat.{ℕ}
+use Rattle.field_sheet.proofs.subtrees.+skip_skip_row.Goals as goal
+
+-- HELPER (inline)
+the_leaf : (t : ℕ) (c : tie.After-known-told (skip_calls t) (skip_at t) skip.Post)
+    → let g = c.before.e.given.0 in FieldLeafAt c.before.before.before.before.before.before.args.s.now c.before.before.before.before.before.before.args.at g.0 g.1.0 g.1.1.0 g.1.1.1.0
+the_leaf t c =
+    let a = c.before.before.before.before.before.before.args in
+    leaf_told a.s.now a.at (sym c.before.before.before.leaf-at.ensures ∙ ap leaf_option c.before.e.given.1)
+
+pub skip-returns-then-most-eq0 : goal.skip-returns-then-most-eq0
+skip-returns-then-most-eq0 t c =
+    let a = c.args in (refl, no_level a.s.now a.at a.inside a.most c.if-most-eq0.true)
+
+-- HELPERS ['the_leaf']
+pub skip-overflow_add-result : goal.skip-overflow_add-result
+skip-overflow_add-result t c = omega (arith, (the_leaf t c).high)
+
+-- HELPERS ['the_leaf']
+pub skip-returns-in-Line : goal.skip-returns-in-Line
+skip-returns-in-Line t c =
+    let a = c.args in
+    leaf_to_lem (the_leaf t c) a.inside a.most (omega arith)
+
+pub skip-field_line_at-l-requires : goal.skip-field_line_at-l-requires
+skip-field_line_at-l-requires t c = c.requires
+
+pub skip-overflow_sub-most : goal.skip-overflow_sub-most
+skip-overflow_sub-most t c = omega (arith, c.line_cost-cost.ensures, cost_low c.args.inside c.is_extension-extension.result)
+
+pub skip-skip_row-requires : goal.skip-skip_row-requires
+skip-skip_row-requires t c =
+    let a = c.args in
+    (omega (arith, c.decreases, c.line_cost-cost.ensures, levels_fall a.inside c.is_extension-extension.result a.most (omega arith)), line_row _ c.field_line_at-l.ensures c.requires)
+
+pub skip-returns : goal.skip-returns
+skip-returns t c =
+    let a = c.args in
+    tree_skipped _ c.field_line_at-l.ensures a.inside a.most (omega arith) c.is_extension-extension.ensures c.line_cost-cost.ensures c.skip_row.result c.skip_row.ensures
+
+pub skip_row-loop-left-init : goal.skip_row-loop-left-init
+skip_row-loop-left-init t c = (omega arith, c.requires.4, λ us ts w n. going_none fields_lawful _ _ _ _ _ us ts w n)
+
+pub skip_row-skip-requires : goal.skip_row-skip-requires
+skip_row-skip-requires t c =
+    let p = c.requires in
+    (omega (arith, p.0), going_tree fields_lawful (c.loop-left.invariant.2 p.1.0 p.1.1 p.1.2 p.1.3) c.loop-left-test.true)
+
+pub skip_row-returns-in_default : goal.skip_row-returns-in_default
+skip_row-returns-in_default t c = (refl, λ us ts w n. going_deep (c.loop-left.invariant.2 us ts w n) c.loop-left-test.true _ c.skip.ensures c.in_default.is)
+
+pub skip_row-overflow_sub-left : goal.skip_row-overflow_sub-left
+skip_row-overflow_sub-left t c = omega arith
+
+pub skip_row-loop-left-smaller : goal.skip_row-loop-left-smaller
+skip_row-loop-left-smaller t c = omega arith
+
+pub skip_row-loop-left-preserved : goal.skip_row-loop-left-preserved
+skip_row-loop-left-preserved t c =
+    let p = c.requires in
+    let i = c.loop-left.invariant in
+    let l = c.loop-left-test.true in
+    let n = going_next (i.2 p.0 p.1 p.2 p.3) l _ c.skip.ensures _ c.in-To.is in
+    (omega (arith, n.0, i.0), n.1, λ us ts w m. going_more (i.2 us ts w m) l _ c.skip.ensures _ c.in-To.is)
+
+pub skip_row-returns : goal.skip_row-returns
+skip_row-returns t c =
+    λ us ts w n.
+    let i = c.loop-left.invariant in
+    let k = going_all fields_lawful (i.2 us ts w n) c.loop-left-test.false in
+    (k.0, k.1, i.0, i.1)
