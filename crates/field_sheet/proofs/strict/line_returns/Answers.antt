@@ -21,8 +21,7 @@ slice_bounds-has_reserved-end c =
     let k = c.requires.line_shown.1.pairs in k.within
 
 pub has_reserved-reserved-requires : goal.has_reserved-reserved-requires
-has_reserved-reserved-requires c =
-    let p = c.requires in shown_column p.1.0 p.1.1 p.1.2 p.0
+has_reserved-reserved-requires c = shown_column c.requires.line_shown.0 c.requires.line_shown.1 c.requires.line_shown.2 c.requires.s_len_bound
 
 pub returns-then-reserved : goal.returns-then-reserved
 returns-then-reserved c = λ h k own. (c.if-not-strict.false, line_reserved h k own k.pairs.is (sym c.has_reserved-reserved.ensures ∙ c.if-reserved.true))

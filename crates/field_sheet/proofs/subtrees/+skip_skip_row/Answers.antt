@@ -6,33 +6,26 @@ use native.Mathlib.Omega.{arith}
 use Rattle.sheets.proofs.FieldTrees.{fields_lawful}
 use Rattle.sheets.proofs.TreeWalks.{going_none, going_tree, going_all}
 use Rattle.field_sheet.proofs.LevelLaws.{cost_low, levels_fall, no_level}
-use Rattle.field_leaf.specs.FieldLeaves.{leaf_option, FieldLeafAt}
+use Rattle.field_leaf.specs.FieldLeaves.{leaf_option}
 use Rattle.field_leaf.proofs.LeafLaws.{leaf_told}
 use Rattle.field_sheet.proofs.ReadLaws.{leaf_to_lem}
 use Rattle.field_sheet.proofs.SkipLaws.{line_row, tree_skipped, going_next, going_more, going_deep}
-use Prim.Native.Nat.{ℕ}
 use Rattle.field_sheet.proofs.subtrees.+skip_skip_row.Goals as goal
-
--- HELPER (inline)
-the_leaf : (t : ℕ) (c : tie.After-known-told (skip_calls t) (skip_at t) skip.Post)
-    → let g = c.before.e.given.0 in FieldLeafAt c.before.before.before.before.before.before.args.s.now c.before.before.before.before.before.before.args.at g.0 g.1.0 g.1.1.0 g.1.1.1.0
-the_leaf t c =
-    let a = c.before.before.before.before.before.before.args in
-    leaf_told a.s.now a.at (sym c.before.before.before.leaf-at.ensures ∙ ap leaf_option c.before.e.given.1)
 
 pub skip-returns-then-most-eq0 : goal.skip-returns-then-most-eq0
 skip-returns-then-most-eq0 t c =
     let a = c.args in (refl, no_level a.s.now a.at a.inside a.most c.if-most-eq0.true)
 
--- HELPERS ['the_leaf']
 pub skip-overflow_add-result : goal.skip-overflow_add-result
-skip-overflow_add-result t c = omega (arith, (the_leaf t c).high)
+skip-overflow_add-result t c =
+    omega (arith, (let a = c.args in
+    leaf_told a.s.now a.at (sym c.leaf_at.ensures ∙ ap leaf_option c.in-Line.is)).high)
 
--- HELPERS ['the_leaf']
 pub skip-returns-in-Line : goal.skip-returns-in-Line
 skip-returns-in-Line t c =
     let a = c.args in
-    leaf_to_lem (the_leaf t c) a.inside a.most (omega arith)
+    leaf_to_lem (let a = c.args in
+    leaf_told a.s.now a.at (sym c.leaf_at.ensures ∙ ap leaf_option c.in-Line.is)) a.inside a.most (omega arith)
 
 pub skip-field_line_at-l-requires : goal.skip-field_line_at-l-requires
 skip-field_line_at-l-requires t c = c.requires
@@ -54,9 +47,7 @@ pub skip_row-loop-left-init : goal.skip_row-loop-left-init
 skip_row-loop-left-init t c = (omega arith, c.requires.4, λ us ts w n. going_none fields_lawful _ _ _ _ _ us ts w n)
 
 pub skip_row-skip-requires : goal.skip_row-skip-requires
-skip_row-skip-requires t c =
-    let p = c.requires in
-    (omega (arith, p.0), going_tree fields_lawful (c.loop-left.invariant.2 p.1.0 p.1.1 p.1.2 p.1.3) c.loop-left-test.true)
+skip_row-skip-requires t c = (omega (arith, c.decreases), going_tree fields_lawful (c.loop-left.invariant.2 c.requires.0 c.requires.1 c.requires.2 c.requires.3) c.loop-left-test.true)
 
 pub skip_row-returns-in_default : goal.skip_row-returns-in_default
 skip_row-returns-in_default t c = (refl, λ us ts w n. going_deep (c.loop-left.invariant.2 us ts w n) c.loop-left-test.true _ c.skip.ensures c.in_default.is)

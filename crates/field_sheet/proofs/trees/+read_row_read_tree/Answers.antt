@@ -2,22 +2,21 @@
 -- and one more in `read_row`. In the loop of `read_row`: the row is read as far as the trees that are due (`Reading`). Assumes nothing.
 use mathlib.Core.Path.{sym, ap, subst, ◌∙◌}
 use native.Mathlib.Omega.{arith}
-use Rattle.read_field_line.specs.FieldLines.{FieldLineAt, line_answer, ReadsLine}
+use Rattle.read_field_line.specs.FieldLines.{line_answer, ReadsLine}
 use Rattle.read_field_line.specs.declared.LineRead.{LineRead}
-use Rattle.field_leaf.specs.FieldLeaves.{leaf_option, FieldLeafAt}
+use Rattle.field_leaf.specs.FieldLeaves.{leaf_option}
 use Rattle.field_leaf.proofs.LeafLaws.{leaf_told}
 use Rattle.field_sheet.specs.Strict.{Tested}
 use Rattle.field_sheet.specs.declared.strict.LineReturns.{LineReturns}
 use Rattle.field_sheet.proofs.LevelLaws.{cost_low, levels_fall, line_alone}
 use Rattle.field_sheet.proofs.ReadLaws.{leaf_read, tree_deep, tree_none, line_other, line_held, tree_many, tree_read, reading_none, reading_deep, reading_bad, reading_held, reading_more, reading_all}
-use Prim.Native.Nat.{ℕ}
 use Rattle.field_sheet.proofs.trees.+read_row_read_tree.Goals as goal
 
 pub read_row-loop-due-init : goal.read_row-loop-due-init
-read_row-loop-due-init t c = reading_none _ _ _ _ _ _ _ c.requires.at_in_bounds.0 c.requires.at_in_bounds.1
+read_row-loop-due-init t c = reading_none _ _ _ _ _ _ _ c.requires.at_in_bounds c.requires.alone
 
 pub read_row-read_tree-requires : goal.read_row-read_tree-requires
-read_row-read_tree-requires t c = (omega (arith, c.decreases), c.decreases)
+read_row-read_tree-requires t c = (omega (arith, c.decreases), c.requires.s_len_bound)
 
 pub read_row-returns-in-Deep : goal.read_row-returns-in-Deep
 read_row-returns-in-Deep t c = reading_deep c.loop-due.invariant (omega arith) _ c.read_tree.ensures c.in-Deep.is
@@ -40,76 +39,59 @@ read_row-loop-due-preserved t c = reading_more c.loop-due.invariant (omega arith
 pub read_row-returns : goal.read_row-returns
 read_row-returns t c = reading_all c.loop-due.invariant (omega arith)
 
--- HELPER (inline)
-the_line : (t : ℕ) (c : tie.After-struct-known (read_tree_calls t) (read_tree_at t) read_tree.Post) → FieldLineAt c.before.before.before.before.before.before.before.before.args.s.now c.before.before.before.before.before.before.before.before.args.at c.before.before.l.given.0.0
-the_line t c = subst (λ (q : LineRead). ReadsLine c.before.before.before.before.before.before.before.before.args.s.now c.before.before.before.before.before.before.before.before.args.at (line_answer q)) c.before.before.l.given.1 c.before.before.before.before.read-field-line.ensures
-
--- HELPER (inline)
-the_leaf : (t : ℕ) (c : tie.After-known-told (read_tree_calls t) (read_tree_at t) read_tree.Post)
-    → let g = c.before.e.given.0 in FieldLeafAt c.before.before.before.before.before.before.before.args.s.now c.before.before.before.before.before.before.before.args.at g.0 g.1.0 g.1.1.0 g.1.1.1.0
-the_leaf t c =
-    let a = c.before.before.before.before.before.before.before.args in
-    leaf_told a.s.now a.at (sym c.before.before.before.leaf-at.ensures ∙ ap leaf_option c.before.e.given.1)
-
 pub read_tree-returns-then-levels-eq0 : goal.read_tree-returns-then-levels-eq0
 read_tree-returns-then-levels-eq0 t c =
     let a = c.args in tree_deep a.s.now a.at a.bare a.inside a.levels a.strict c.if-levels-eq0.true
 
--- HELPERS ['the_leaf']
 pub read_tree-overflow_add-result : goal.read_tree-overflow_add-result
-read_tree-overflow_add-result t c = omega (arith, (the_leaf t c).high)
+read_tree-overflow_add-result t c =
+    omega (arith, (let a = c.args in
+    leaf_told a.s.now a.at (sym c.leaf_at.ensures ∙ ap leaf_option c.in-Line.is)).high)
 
--- HELPERS ['the_leaf']
 pub read_tree-returns-in-Line : goal.read_tree-returns-in-Line
 read_tree-returns-in-Line t c =
     let a = c.args in
-    leaf_read (the_leaf t c) a.bare (c.if-not-bare.true) a.inside a.levels a.strict (omega arith)
+    leaf_read (let a = c.args in
+    leaf_told a.s.now a.at (sym c.leaf_at.ensures ∙ ap leaf_option c.in-Line.is)) a.bare (c.if-not-bare.true) a.inside a.levels a.strict (omega arith)
 
 pub read_tree-returns-in_default-read_field_line : goal.read_tree-returns-in_default-read_field_line
 read_tree-returns-in_default-read_field_line t c =
     let a = c.args in tree_none a.s.now a.at a.bare a.inside a.levels a.strict (subst (λ (q : LineRead). ReadsLine a.s.now a.at (line_answer q)) c.in_default-read_field_line.is c.read_field_line.ensures)
 
--- HELPERS ['the_line']
 pub read_tree-returns-then-l-bare : goal.read_tree-returns-then-l-bare
 read_tree-returns-then-l-bare t c =
-    let a = c.args in line_other _ (the_line t c) a.bare c.if-l-bare.true
+    let a = c.args in line_other _ (subst (λ (q : LineRead). ReadsLine c.args.s.now c.args.at (line_answer q)) c.in-Line-read_field_line.is c.read_field_line.ensures) a.bare c.if-l-bare.true
 
--- HELPERS ['the_line']
 pub read_tree-overflow_sub-s : goal.read_tree-overflow_sub-s
-read_tree-overflow_sub-s t c = (the_line t c).there.high
+read_tree-overflow_sub-s t c = (subst (λ (q : LineRead). ReadsLine c.args.s.now c.args.at (line_answer q)) c.in-Line-read_field_line.is c.read_field_line.ensures).there.high
 
--- HELPERS ['the_line']
 pub read_tree-returns-then-s-l : goal.read_tree-returns-then-s-l
 read_tree-returns-then-s-l t c =
-    let a = c.args in tree_many _ (the_line t c) a.bare c.if-l-bare.false (omega arith)
+    let a = c.args in tree_many _ (subst (λ (q : LineRead). ReadsLine c.args.s.now c.args.at (line_answer q)) c.in-Line-read_field_line.is c.read_field_line.ensures) a.bare c.if-l-bare.false (omega arith)
 
--- HELPERS ['the_line']
 pub read_tree-line_returns-requires : goal.read_tree-line_returns-requires
 read_tree-line_returns-requires t c =
-    let k = the_line t c in (c.requires, (k.line, k.shows, k.there.own))
+    let k = (subst (λ (q : LineRead). ReadsLine c.args.s.now c.args.at (line_answer q)) c.in-Line-read_field_line.is c.read_field_line.ensures) in record { s_len_bound = c.requires; line_shown = (k.line, k.shows, k.there.own) }
 
 pub read_tree-overflow_sub-left : goal.read_tree-overflow_sub-left
 read_tree-overflow_sub-left t c =
     let a = c.args in omega (arith, c.line_cost.ensures, cost_low a.inside c.is_extension-extension.result)
 
--- HELPERS ['the_line']
 pub read_tree-read_row-requires : goal.read_tree-read_row-requires
 read_tree-read_row-requires t c =
     let a = c.args in
-    let k = the_line t c in
+    let k = (subst (λ (q : LineRead). ReadsLine c.args.s.now c.args.at (line_answer q)) c.in-Line-read_field_line.is c.read_field_line.ensures) in
     (omega (arith, c.decreases, c.line_cost.ensures, levels_fall a.inside c.is_extension-extension.result a.levels (omega arith)), (c.requires, (k.there.high, line_alone _ k c.is_bare_below-below.ensures)))
 
--- HELPERS ['the_line']
 pub read_tree-returns-in-No : goal.read_tree-returns-in-No
 read_tree-returns-in-No t c =
     let a = c.args in
-    let k = the_line t c in
+    let k = (subst (λ (q : LineRead). ReadsLine c.args.s.now c.args.at (line_answer q)) c.in-Line-read_field_line.is c.read_field_line.ensures) in
     line_held _ k a.bare a.inside a.levels c.in-No.r (subst (λ (x : LineReturns). Tested a.strict k.line x) c.in-No.is (c.line_returns.ensures k.line k.shows k.there.own))
 
--- HELPERS ['the_line']
 pub read_tree-returns-in-Yes : goal.read_tree-returns-in-Yes
 read_tree-returns-in-Yes t c =
     let a = c.args in
-    let k = the_line t c in
+    let k = (subst (λ (q : LineRead). ReadsLine c.args.s.now c.args.at (line_answer q)) c.in-Line-read_field_line.is c.read_field_line.ensures) in
     let clear = subst (λ (x : LineReturns). Tested a.strict k.line x) c.in-Yes.is (c.line_returns.ensures k.line k.shows k.there.own) in
     tree_read _ k a.bare c.if-l-bare.false a.inside a.levels (omega arith) c.is_extension-extension.ensures c.line_cost.ensures c.is_bare_below-below.ensures a.strict clear c.read_row.result c.read_row.ensures

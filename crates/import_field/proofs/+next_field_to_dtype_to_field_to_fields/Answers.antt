@@ -1,0 +1,270 @@
+-- The proof of the cycle of calls {next_field, to_dtype, to_field, to_fields}. `to_field` calls `to_dtype` at one level less, which calls `to_fields`, that
+-- `next_field`, and that `to_field` at the same number of levels: four times the levels for `to_field`, one more for `next_field`, two more for `to_fields`,
+-- three more for `to_dtype`. The laws are in `FieldLaws`, `TypeLaws`, `FieldsLaws` and `LeafLaws`. Assumes nothing.
+use mathlib.Core.Path.{refl, ◌∙◌}
+use mathlib.Core.List.{List, ◌++◌}
+use Prim.Native.Nat.{ℕ, ◌+◌, ◌-◌}
+use native.Mathlib.Omega.{arith}
+use lib.ListN.{length, take, drop}
+use borrow.Author.Rules.{rules}
+use Rattle.sheets.specs.Schema.{Schemas, Schema}
+use Rattle.buffer.proofs.OverLaws.{length_lent}
+use Rattle.refusal.specs.declared.Refusal.TheVariants.{TooDeep}
+use Rattle.import_field.specs.Recursion.{FieldsAt}
+use Rattle.import_field.proofs.OwnLaws.{room_kept, no_level}
+use Rattle.import_field.proofs.FieldLaws.{field_refused, below_within, below_refused, field_next, field_long, field_each, field_told}
+use Rattle.import_field.proofs.TypeLaws.{type_refused, rows_within, type_told}
+use Rattle.import_field.proofs.FieldsLaws.{row_none, row_more, row_within, row_all, row_past, Going, going_none, going_more, going_refused, going_all}
+use Rattle.import_field.proofs.LeafLaws.{leaf_done, leaf_other}
+use Rattle.import_field.proofs.+next_field_to_dtype_to_field_to_fields.Goals as goal
+
+pub next_field-returns-then-tree-eq0 : goal.next_field-returns-then-tree-eq0
+next_field-returns-then-tree-eq0 t c =
+    let a = c.args in (tt, no_level a.s.now a.tree c.if-tree-eq0.true a.out.now a.out.now TooDeep)
+
+pub next_field-to_field-requires : goal.next_field-to_field-requires
+next_field-to_field-requires t c = (omega (arith, c.decreases), (omega arith, c.requires))
+
+pub next_field-shape_of-out-in-Put : goal.next_field-shape_of-out-in-Put
+next_field-shape_of-out-in-Put t c = c.put_leaf.auto.out
+
+pub next_field-returns-in-Put : goal.next_field-returns-in-Put
+next_field-returns-in-Put t c =
+    let a = c.args in
+    let r = c.put_leaf in
+    leaf_done a.s.now a.tree a.out.now r.new.out r.result r.ensures _ _ c.in-Put.is (omega arith)
+
+pub next_field-shape_of-out-in-Other : goal.next_field-shape_of-out-in-Other
+next_field-shape_of-out-in-Other t c = c.to_field.auto.out ∙ c.put_leaf.auto.out
+
+pub next_field-shape_of-entries : goal.next_field-shape_of-entries
+next_field-shape_of-entries t c = c.to_field.auto.entries
+
+pub next_field-shape_of-spare : goal.next_field-shape_of-spare
+next_field-shape_of-spare t c = c.to_field.auto.spare
+
+pub next_field-returns-in-Other : goal.next_field-returns-in-Other
+next_field-returns-in-Other t c =
+    let a = c.args in
+    let r = c.put_leaf in
+    let f = c.to_field in
+    leaf_other a.s.now a.tree a.out.now r.new.out r.result r.ensures c.in-Other.is f.new.out f.result f.ensures
+
+pub to_dtype-to_fields-requires : goal.to_dtype-to_fields-requires
+to_dtype-to_fields-requires t c = (omega (arith, c.decreases), c.requires)
+
+pub to_dtype-end_type-requires : goal.to_dtype-end_type-requires
+to_dtype-end_type-requires t c =
+    let a = c.args in
+    let r = c.to_fields in
+    rows_within a.s.now a.row a.last a.out.now r.new.out r.result r.ensures _ _ c.in-Done.is
+
+pub to_dtype-shape_of-out-in-Refused : goal.to_dtype-shape_of-out-in-Refused
+to_dtype-shape_of-out-in-Refused t c = c.to_fields.auto.out
+
+pub to_dtype-shape_of-entries-in-Refused : goal.to_dtype-shape_of-entries-in-Refused
+to_dtype-shape_of-entries-in-Refused t c = c.to_fields.auto.entries
+
+pub to_dtype-shape_of-spare-in-Refused : goal.to_dtype-shape_of-spare-in-Refused
+to_dtype-shape_of-spare-in-Refused t c = c.to_fields.auto.spare
+
+pub to_dtype-returns-in-Refused : goal.to_dtype-returns-in-Refused
+to_dtype-returns-in-Refused t c =
+    let a = c.args in
+    let r = c.to_fields in
+    type_refused a.s.now a.row a.last a.out.now r.new.out r.result r.ensures _ c.in-Refused.is
+
+pub to_dtype-shape_of-out-in-Done : goal.to_dtype-shape_of-out-in-Done
+to_dtype-shape_of-out-in-Done t c = c.to_fields.auto.out
+
+pub to_dtype-shape_of-entries-in-Done : goal.to_dtype-shape_of-entries-in-Done
+to_dtype-shape_of-entries-in-Done t c = c.to_fields.auto.entries
+
+pub to_dtype-shape_of-spare-in-Done : goal.to_dtype-shape_of-spare-in-Done
+to_dtype-shape_of-spare-in-Done t c = c.to_fields.auto.spare
+
+pub to_dtype-returns-in-Done : goal.to_dtype-returns-in-Done
+to_dtype-returns-in-Done t c =
+    let a = c.args in
+    let r = c.to_fields in
+    type_told a.s.now a.row a.last a.out.now r.new.out r.result r.ensures _ _ c.in-Done.is c.end_type.result c.end_type.ensures
+
+pub to_field-begin_node-requires : goal.to_field-begin_node-requires
+to_field-begin_node-requires t c = c.requires
+
+pub to_field-overflow_sub-row : goal.to_field-overflow_sub-row
+to_field-overflow_sub-row t c = omega (arith, c.requires.le_levels)
+
+pub to_field-slice_bounds-to_dtype-count : goal.to_field-slice_bounds-to_dtype-count
+to_field-slice_bounds-to_dtype-count t c = omega arith
+
+pub to_field-slice_bounds-to_dtype-start : goal.to_field-slice_bounds-to_dtype-start
+to_field-slice_bounds-to_dtype-start t c = omega arith
+
+pub to_field-slice_bounds-to_dtype-end : goal.to_field-slice_bounds-to_dtype-end
+to_field-slice_bounds-to_dtype-end t c = omega arith
+
+pub to_field-to_dtype-requires : goal.to_field-to_dtype-requires
+to_field-to_dtype-requires t c =
+    let a = c.args in
+    let b = c.begin_node in
+    let p = c.requires in
+    (omega (arith, c.decreases, p.0), (p.1.0, (below_within a.s.now a.tree a.out.now b.new.out b.result b.ensures _ _ _ _ c.in-Row.is, room_kept p.1.1 b.auto.entries b.auto.spare)))
+
+pub to_field-overflow_add-size : goal.to_field-overflow_add-size
+to_field-overflow_add-size t c =
+    let a = c.args in
+    let b = c.begin_node in
+    let r = c.to_dtype in
+    omega (arith, c.requires.s_len_bound, field_long a.s.now a.tree a.out.now b.new.out b.result b.ensures _ _ _ _ c.in-Row.is _ r.new.out r.result r.ensures _ _ c.in-Done.is, field_next a.s.now a.tree a.out.now b.new.out b.result b.ensures _ _ _ _ c.in-Row.is _ r.new.out r.result r.ensures _ _ c.in-Done.is)
+
+pub to_field-overflow_add-size-in-Done : goal.to_field-overflow_add-size-in-Done
+to_field-overflow_add-size-in-Done t c =
+    let a = c.args in
+    let b = c.begin_node in
+    let r = c.to_dtype in
+    omega (arith, c.requires.s_len_bound, field_each a.s.now a.tree a.out.now b.new.out b.result b.ensures _ _ _ _ c.in-Row.is _ r.new.out r.result r.ensures _ _ c.in-Done.is, field_next a.s.now a.tree a.out.now b.new.out b.result b.ensures _ _ _ _ c.in-Row.is _ r.new.out r.result r.ensures _ _ c.in-Done.is)
+
+pub to_field-shape_of-out-in-Refused : goal.to_field-shape_of-out-in-Refused
+to_field-shape_of-out-in-Refused t c = c.begin_node.auto.out
+
+pub to_field-shape_of-entries-in-Refused : goal.to_field-shape_of-entries-in-Refused
+to_field-shape_of-entries-in-Refused t c = c.begin_node.auto.entries
+
+pub to_field-shape_of-spare-in-Refused : goal.to_field-shape_of-spare-in-Refused
+to_field-shape_of-spare-in-Refused t c = c.begin_node.auto.spare
+
+pub to_field-returns-in-Refused : goal.to_field-returns-in-Refused
+to_field-returns-in-Refused t c =
+    let a = c.args in
+    let b = c.begin_node in
+    field_refused a.s.now a.tree a.out.now b.new.out b.result b.ensures _ c.in-Refused.is
+
+pub to_field-shape_of-out-in-Refused-to_dtype : goal.to_field-shape_of-out-in-Refused-to_dtype
+to_field-shape_of-out-in-Refused-to_dtype t c =
+    let b = c.begin_node in
+    let r = c.to_dtype in
+    length_lent c.within-w.result b.new.out r.new.out r.auto.out ∙ b.auto.out
+
+pub to_field-shape_of-entries-in-Refused-to_dtype : goal.to_field-shape_of-entries-in-Refused-to_dtype
+to_field-shape_of-entries-in-Refused-to_dtype t c = c.to_dtype.auto.entries ∙ c.begin_node.auto.entries
+
+pub to_field-shape_of-spare-in-Refused-to_dtype : goal.to_field-shape_of-spare-in-Refused-to_dtype
+to_field-shape_of-spare-in-Refused-to_dtype t c = c.to_dtype.auto.spare ∙ c.begin_node.auto.spare
+
+pub to_field-returns-in-Refused-to_dtype : goal.to_field-returns-in-Refused-to_dtype
+to_field-returns-in-Refused-to_dtype t c =
+    let a = c.args in
+    let b = c.begin_node in
+    let r = c.to_dtype in
+    below_refused a.s.now a.tree a.out.now b.new.out b.result b.ensures _ _ _ _ c.in-Row.is _ r.new.out r.result r.ensures _ c.in-Refused-to_dtype.is
+
+pub to_field-shape_of-out-in-Done : goal.to_field-shape_of-out-in-Done
+to_field-shape_of-out-in-Done t c =
+    let b = c.begin_node in
+    let r = c.to_dtype in
+    length_lent c.within-w.result b.new.out r.new.out r.auto.out ∙ b.auto.out
+
+pub to_field-shape_of-entries-in-Done : goal.to_field-shape_of-entries-in-Done
+to_field-shape_of-entries-in-Done t c = c.to_dtype.auto.entries ∙ c.begin_node.auto.entries
+
+pub to_field-shape_of-spare-in-Done : goal.to_field-shape_of-spare-in-Done
+to_field-shape_of-spare-in-Done t c = c.to_dtype.auto.spare ∙ c.begin_node.auto.spare
+
+pub to_field-returns-in-Done : goal.to_field-returns-in-Done
+to_field-returns-in-Done t c =
+    let a = c.args in
+    let b = c.begin_node in
+    let r = c.to_dtype in
+    let w = c.within-w in
+    field_told a.s.now a.tree a.out.now b.new.out b.result b.ensures _ _ _ _ c.in-Row.is _ r.new.out r.result r.ensures _ _ c.in-Done.is (omega (arith, c.requires.le_levels)) w.result w.ensures refl c.end_field.result c.end_field.ensures
+
+-- HELPER (inline)
+gone : (t : ℕ) (c : tie.After-known-told2 (to_fields_calls t) (to_fields_at t) to_Fields.Post to_fields_inv_loop to_fields_μ_loop)
+    → let a = c.before.before.before.before.before.before.before.before.before.before.before.before.before.before.before.before.before.before.before.before.before.args in
+    let l = c.before.before.before.before.before.before.before.before.before.before.before.before.before.before.before.before.loop in
+    let w = c.before.before.before.before.before.before.before.before.before.before.before.before.before.within.result in
+    let r = c.before.before.before.before.before.before.before.before.before.next_field in
+    let u = c.before.next.given.0 in
+    (us : Schemas) (ts : List Schema) → FieldsAt a.s.now a.row.at a.row.count a.row.levels us ts
+    → Going a.s.now a.row.at a.row.count a.row.levels a.row.bare a.row.big a.out.now
+    (take w l.out ++ (r.new.1.1.0 ++ drop (length l.out - w) (drop w l.out))) u.0 (l.sum + u.1.0.len) (l.lines + u.1.0.lines) (l.i + 1) us ts
+gone t c us ts h =
+    let w = c.before.before.before.before.before.before.before.before.before.before.before.before.before.within in
+    let r = c.before.before.before.before.before.before.before.before.before.next_field in
+    going_more _ _ _ _ _ _ _ _ _ _ _ _ _ _ (c.before.before.before.before.before.before.before.before.before.before.before.before.before.before.before.before.loop.invariant.5 us ts h) c.before.before.before.before.before.before.before.before.before.before.before.before.before.before.if1.true
+    w.result w.ensures r.new.1.1.0 _ _ _ c.before.next.given.1 r.ensures.1
+
+pub to_fields-loop-i-init : goal.to_fields-loop-i-init
+to_fields-loop-i-init t c = (search rules, refl, refl, refl, row_none _ _ _ _ c.requires.at_in_bounds, λ us ts h. going_none _ _ _ _ _ _ _ _ _ h)
+
+pub to_fields-slice_bounds-next_field-count : goal.to_fields-slice_bounds-next_field-count
+to_fields-slice_bounds-next_field-count t c = omega arith
+
+pub to_fields-slice_bounds-next_field-start : goal.to_fields-slice_bounds-next_field-start
+to_fields-slice_bounds-next_field-start t c = omega arith
+
+pub to_fields-slice_bounds-next_field-end : goal.to_fields-slice_bounds-next_field-end
+to_fields-slice_bounds-next_field-end t c = omega arith
+
+pub to_fields-next_field-requires : goal.to_fields-next_field-requires
+to_fields-next_field-requires t c =
+    let inv = c.loop-i.invariant in
+    (omega (arith, c.decreases), (c.requires.s_len_bound, room_kept c.requires.has_entries inv.2 inv.3))
+
+pub to_fields-shape_of-out-in-Refused : goal.to_fields-shape_of-out-in-Refused
+to_fields-shape_of-out-in-Refused t c =
+    let l = c.loop-i in
+    let r = c.next_field in
+    length_lent c.within-w.result l.out r.new.out r.auto.out ∙ l.invariant.1
+
+pub to_fields-shape_of-entries-in-Refused : goal.to_fields-shape_of-entries-in-Refused
+to_fields-shape_of-entries-in-Refused t c = c.next_field.auto.entries ∙ c.loop-i.invariant.2
+
+pub to_fields-shape_of-spare-in-Refused : goal.to_fields-shape_of-spare-in-Refused
+to_fields-shape_of-spare-in-Refused t c = c.next_field.auto.spare ∙ c.loop-i.invariant.3
+
+pub to_fields-returns-in-Refused : goal.to_fields-returns-in-Refused
+to_fields-returns-in-Refused t c =
+    let r = c.next_field in
+    (tt, tt, λ us ts h. going_refused _ _ _ _ _ _ _ _ _ _ _ _ _ _ (c.loop-i.invariant.5 us ts h) c.loop-i-test.true _ r.new.out _ _ c.in-Refused.is r.ensures.1)
+
+pub to_fields-overflow_add-sum : goal.to_fields-overflow_add-sum
+to_fields-overflow_add-sum t c =
+    let g = (row_more c.loop-i.invariant.4 c.loop-i-test.true _ _ _ c.in-Done.is c.next_field.ensures.0) in omega (arith, g.long, row_within g, c.requires.s_len_bound)
+
+pub to_fields-overflow_add-lines : goal.to_fields-overflow_add-lines
+to_fields-overflow_add-lines t c =
+    let g = (row_more c.loop-i.invariant.4 c.loop-i-test.true _ _ _ c.in-Done.is c.next_field.ensures.0) in omega (arith, g.each, row_within g, c.requires.s_len_bound)
+
+pub to_fields-overflow_add-i : goal.to_fields-overflow_add-i
+to_fields-overflow_add-i t c = omega arith
+
+pub to_fields-loop-i-smaller : goal.to_fields-loop-i-smaller
+to_fields-loop-i-smaller t c = omega arith
+
+-- HELPERS ['gone']
+pub to_fields-loop-i-preserved : goal.to_fields-loop-i-preserved
+to_fields-loop-i-preserved t c =
+    let l = c.loop-i in
+    let r = c.next_field in (
+      omega arith,
+      length_lent c.within-w.result l.out r.new.out r.auto.out ∙ l.invariant.1,
+      r.auto.entries ∙ l.invariant.2,
+      r.auto.spare ∙ l.invariant.3,
+      (row_more c.loop-i.invariant.4 c.loop-i-test.true _ _ _ c.in-Done.is c.next_field.ensures.0),
+      gone t c,
+    )
+
+pub to_fields-shape_of-out : goal.to_fields-shape_of-out
+to_fields-shape_of-out t c = c.loop-i.invariant.1
+
+pub to_fields-shape_of-entries : goal.to_fields-shape_of-entries
+to_fields-shape_of-entries t c = c.loop-i.invariant.2
+
+pub to_fields-shape_of-spare : goal.to_fields-shape_of-spare
+to_fields-shape_of-spare t c = c.loop-i.invariant.3
+
+pub to_fields-returns : goal.to_fields-returns
+to_fields-returns t c =
+    let g = c.loop-i.invariant in (row_all g.4 c.loop-i-test.false, row_past g.4 c.loop-i-test.false, λ us ts h. going_all _ _ _ _ _ _ _ _ _ _ _ _ _ _ (g.5 us ts h) c.loop-i-test.false)
