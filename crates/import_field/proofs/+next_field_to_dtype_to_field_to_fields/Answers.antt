@@ -23,7 +23,7 @@ next_field-returns-then-tree-eq0 t c =
     let a = c.args in (tt, no_level a.s.now a.tree c.if-tree-eq0.true a.out.now a.out.now TooDeep)
 
 pub next_field-to_field-requires : goal.next_field-to_field-requires
-next_field-to_field-requires t c = (omega (arith, c.decreases), (omega arith, c.requires))
+next_field-to_field-requires t c = (omega (arith, c.decreases), (omega arith, (c.requires.s_len_bound, c.requires.has_entries)))
 
 pub next_field-shape_of-out-in-Put : goal.next_field-shape_of-out-in-Put
 next_field-shape_of-out-in-Put t c = c.put_leaf.auto.out
@@ -51,7 +51,7 @@ next_field-returns-in-Other t c =
     leaf_other a.s.now a.tree a.out.now r.new.out r.result r.ensures c.in-Other.is f.new.out f.result f.ensures
 
 pub to_dtype-to_fields-requires : goal.to_dtype-to_fields-requires
-to_dtype-to_fields-requires t c = (omega (arith, c.decreases), c.requires)
+to_dtype-to_fields-requires t c = (omega (arith, c.decreases), (c.requires.s_len_bound, (c.requires.at_in_bounds, c.requires.has_entries)))
 
 pub to_dtype-end_type-requires : goal.to_dtype-end_type-requires
 to_dtype-end_type-requires t c =
@@ -108,8 +108,7 @@ pub to_field-to_dtype-requires : goal.to_field-to_dtype-requires
 to_field-to_dtype-requires t c =
     let a = c.args in
     let b = c.begin_node in
-    let p = c.requires in
-    (omega (arith, c.decreases, p.0), (p.1.0, (below_within a.s.now a.tree a.out.now b.new.out b.result b.ensures _ _ _ _ c.in-Row.is, room_kept p.1.1 b.auto.entries b.auto.spare)))
+    (omega (arith, c.decreases, c.requires.le_levels), (c.requires.s_len_bound, (below_within a.s.now a.tree a.out.now b.new.out b.result b.ensures _ _ _ _ c.in-Row.is, room_kept c.requires.has_entries b.auto.entries b.auto.spare)))
 
 pub to_field-overflow_add-size : goal.to_field-overflow_add-size
 to_field-overflow_add-size t c =
@@ -179,22 +178,6 @@ to_field-returns-in-Done t c =
     let w = c.within-w in
     field_told a.s.now a.tree a.out.now b.new.out b.result b.ensures _ _ _ _ c.in-Row.is _ r.new.out r.result r.ensures _ _ c.in-Done.is (omega (arith, c.requires.le_levels)) w.result w.ensures refl c.end_field.result c.end_field.ensures
 
--- HELPER (inline)
-gone : (t : ℕ) (c : tie.After-known-told2 (to_fields_calls t) (to_fields_at t) to_Fields.Post to_fields_inv_loop to_fields_μ_loop)
-    → let a = c.before.before.before.before.before.before.before.before.before.before.before.before.before.before.before.before.before.before.before.before.before.args in
-    let l = c.before.before.before.before.before.before.before.before.before.before.before.before.before.before.before.before.loop in
-    let w = c.before.before.before.before.before.before.before.before.before.before.before.before.before.within.result in
-    let r = c.before.before.before.before.before.before.before.before.before.next_field in
-    let u = c.before.next.given.0 in
-    (us : Schemas) (ts : List Schema) → FieldsAt a.s.now a.row.at a.row.count a.row.levels us ts
-    → Going a.s.now a.row.at a.row.count a.row.levels a.row.bare a.row.big a.out.now
-    (take w l.out ++ (r.new.1.1.0 ++ drop (length l.out - w) (drop w l.out))) u.0 (l.sum + u.1.0.len) (l.lines + u.1.0.lines) (l.i + 1) us ts
-gone t c us ts h =
-    let w = c.before.before.before.before.before.before.before.before.before.before.before.before.before.within in
-    let r = c.before.before.before.before.before.before.before.before.before.next_field in
-    going_more _ _ _ _ _ _ _ _ _ _ _ _ _ _ (c.before.before.before.before.before.before.before.before.before.before.before.before.before.before.before.before.loop.invariant.5 us ts h) c.before.before.before.before.before.before.before.before.before.before.before.before.before.before.if1.true
-    w.result w.ensures r.new.1.1.0 _ _ _ c.before.next.given.1 r.ensures.1
-
 pub to_fields-loop-i-init : goal.to_fields-loop-i-init
 to_fields-loop-i-init t c = (search rules, refl, refl, refl, row_none _ _ _ _ c.requires.at_in_bounds, λ us ts h. going_none _ _ _ _ _ _ _ _ _ h)
 
@@ -243,7 +226,6 @@ to_fields-overflow_add-i t c = omega arith
 pub to_fields-loop-i-smaller : goal.to_fields-loop-i-smaller
 to_fields-loop-i-smaller t c = omega arith
 
--- HELPERS ['gone']
 pub to_fields-loop-i-preserved : goal.to_fields-loop-i-preserved
 to_fields-loop-i-preserved t c =
     let l = c.loop-i in
@@ -253,7 +235,7 @@ to_fields-loop-i-preserved t c =
       r.auto.entries ∙ l.invariant.2,
       r.auto.spare ∙ l.invariant.3,
       (row_more c.loop-i.invariant.4 c.loop-i-test.true _ _ _ c.in-Done.is c.next_field.ensures.0),
-      gone t c,
+      λ us ts h. going_more _ _ _ _ _ _ _ _ _ _ _ _ _ _ (l.invariant.5 us ts h) c.loop-i-test.true c.within-w.result c.within-w.ensures r.new.out _ _ _ c.in-Done.is r.ensures.1,
     )
 
 pub to_fields-shape_of-out : goal.to_fields-shape_of-out

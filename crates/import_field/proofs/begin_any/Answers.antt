@@ -14,11 +14,11 @@ use Rattle.import_field.proofs.begin_any.Goals as goal
 pub returns-in_default : goal.returns-in_default
 returns-in_default c =
     let a = c.args in
-    let fits : length a.s.now < 2 ^ 64 = omega (arith, c.requires.s_len_bound.0) in
+    let fits : length a.s.now < 2 ^ 64 = omega (arith, c.requires.s_len_bound) in
     no_line a.s.now a.tree (sym c.read_line.ensures ∙ ap line_answer c.in_default.is) fits a.out.now a.out.now BadLines
 
 pub begin_field-begun-requires : goal.begin_field-begun-requires
-begin_field-begun-requires c = (node_there (let a = c.args in line_told a.s.now a.tree.at (sym c.read_line.ensures ∙ ap line_answer c.in-Line.is)) c.requires.s_len_bound.0, c.requires.s_len_bound.1)
+begin_field-begun-requires c = (node_there (let a = c.args in line_told a.s.now a.tree.at (sym c.read_line.ensures ∙ ap line_answer c.in-Line.is)) c.requires.s_len_bound, c.requires.has_entries)
 
 pub overflow_sub-tree : goal.overflow_sub-tree
 overflow_sub-tree c = omega (arith, c.requires.le_levels)
@@ -36,14 +36,14 @@ pub begin_type-requires : goal.begin_type-requires
 begin_type-requires c =
     let a = c.args in
     let b = c.begin_field-begun in
-    line_there a.s.now a.tree c.in-Line.line (let a = c.args in line_told a.s.now a.tree.at (sym c.read_line.ensures ∙ ap line_answer c.in-Line.is)) b.new.entries a.out.now b.new.out b.result b.ensures c.requires.s_len_bound.0
+    line_there a.s.now a.tree c.in-Line.line (let a = c.args in line_told a.s.now a.tree.at (sym c.read_line.ensures ∙ ap line_answer c.in-Line.is)) b.new.entries a.out.now b.new.out b.result b.ensures c.requires.s_len_bound
 
 pub overflow_add-result : goal.overflow_add-result
 overflow_add-result c =
     let a = c.args in
     let b = c.begin_field-begun in
     let y = c.begin_type in
-    omega (arith, node_long a.s.now a.tree c.in-Line.line (let a = c.args in line_told a.s.now a.tree.at (sym c.read_line.ensures ∙ ap line_answer c.in-Line.is)) b.new.entries a.out.now b.new.out b.result b.ensures _ _ c.in-Row.visit (subst (BegunTold a.s.now c.in-Line.line b.result.shown (a.tree.levels - 1) b.new.entries _ y.new.out) c.in-Row.is y.ensures).0 c.requires.s_len_bound.0)
+    omega (arith, node_long a.s.now a.tree c.in-Line.line (let a = c.args in line_told a.s.now a.tree.at (sym c.read_line.ensures ∙ ap line_answer c.in-Line.is)) b.new.entries a.out.now b.new.out b.result b.ensures _ _ c.in-Row.visit (subst (BegunTold a.s.now c.in-Line.line b.result.shown (a.tree.levels - 1) b.new.entries _ y.new.out) c.in-Row.is y.ensures).0 c.requires.s_len_bound)
 
 pub shape_of-out-in-Refused : goal.shape_of-out-in-Refused
 shape_of-out-in-Refused c =
