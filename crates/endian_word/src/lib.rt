@@ -4,7 +4,9 @@
 ghost use Rattle.std.specs.Prelude.{◌≡◌};
 ghost use Rattle.endian_word.specs.Words.{order_named};
 
-use libc::STDERR_FILENO;
+use std::env::Env;
+use std::io;
+use std::io::Write;
 
 // Whether the order is big-endian; or nothing.
 #[derive(Drop)]
@@ -26,26 +28,25 @@ fn named(word: &[u8]) -> Asked
 }
 
 // What the argument at a place asks, behind which there may be no other; the program's own name is at place 0.
-pub fn order_at(place: usize) -> Asked {
-    let count = os::arg_count();
-    if count <= place {
+pub fn order_at<E: Env>(env: &E, place: usize) -> Asked {
+    if !streams::has_argument(env, place) {
         return Asked::Order(false);
     }
-    if 1 < count - place {
+    if streams::has_argument(env, place.saturating_add(1)) {
         return Asked::Nothing;
     }
-    let mut word = io::buffer();
-    let n = os::arg(place, &mut word);
+    let mut word = [0u8; streams::LONGEST_WORD];
+    let n = streams::argument(env, place, &mut word);
     named(&word[..n])
 }
 
-// What the arguments of this program ask, which takes no other; if nothing, a line is written to standard error.
-pub fn asked_order(program: &[u8]) -> Asked {
-    let asked = order_at(1);
+// What the arguments of this program ask, which takes no other; if nothing, a line is written to err.
+pub fn asked_order<E: Env, W: Write>(env: &E, err: &mut W, program: &[u8]) -> io::Result<Asked> {
+    let asked = order_at(env, 1);
     if let Asked::Nothing = asked {
-        io::write_all(STDERR_FILENO, b"usage: ");
-        io::write_all(STDERR_FILENO, program);
-        io::write_all(STDERR_FILENO, b" [little|big]\n");
+        err.write_all(b"usage: ")?;
+        err.write_all(program)?;
+        err.write_all(b" [little|big]\n")?;
     }
-    asked
+    Ok(asked)
 }

@@ -3,43 +3,47 @@
 #![tactic(auto)]
 
 use endian_word::Asked;
-use libc::{STDERR_FILENO, STDIN_FILENO};
+use std::env::Env;
+use std::io;
+use std::io::Write;
 
 // More than any answer has: 315,276 bytes of export at most (crates/rooms).
 const ROOM: usize = 524288;
 
 // By the first argument.
-fn asked_strict() -> bool {
-    let mut word = io::buffer();
-    let n = os::arg(1, &mut word);
+fn asked_strict<E: Env>(env: &E) -> bool {
+    let mut word = [0u8; streams::LONGEST_WORD];
+    let n = streams::argument(env, 1, &mut word);
     buffer::same(&word[..n], b"--strict")
 }
 
 // The order stands behind that word, if it is there.
-fn asked_order(strict: bool) -> Asked {
+fn asked_order<E: Env>(env: &E, strict: bool) -> Asked {
     if strict {
-        return endian_word::order_at(2);
+        return endian_word::order_at(env, 2);
     }
-    endian_word::order_at(1)
+    endian_word::order_at(env, 1)
 }
 
-fn print_export(strict: bool, big: bool) {
+fn print_export(rt: &HostRuntime, strict: bool, big: bool) -> io::Result<()> {
     // One byte more than a sheet may have, so that a longer input is known as such, however long it is.
-    let mut sheet = io::large_buffer();
-    let n = io::read_full(STDIN_FILENO, &mut sheet);
+    let mut sheet = [0u8; streams::SHEET_ROOM];
+    let n = streams::read_full(&mut rt.stdin(), &mut sheet)?;
     let mut out = [0u8; ROOM];
     let answer = field_calls::export_as(&sheet[..n], strict, big, &mut out);
-    print_answer::print_answer(&out, answer);
+    print_answer::print_answer(&mut rt.stdout(), &mut rt.stderr(), &out, answer)?;
+    Ok(())
 }
 
-fn complain() {
-    io::write_all(STDERR_FILENO, b"usage: export [--strict] [little|big]\n");
+fn complain(rt: &HostRuntime) -> io::Result<()> {
+    rt.stderr()
+        .write_all(b"usage: export [--strict] [little|big]\n")
 }
 
-fn main() {
-    let strict = asked_strict();
-    match asked_order(strict) {
-        Asked::Order(big) => print_export(strict, big),
-        Asked::Nothing => complain(),
+fn main(rt: HostRuntime) -> io::Result<()> {
+    let strict = asked_strict(&rt);
+    match asked_order(&rt, strict) {
+        Asked::Order(big) => print_export(&rt, strict, big),
+        Asked::Nothing => complain(&rt),
     }
 }

@@ -2,14 +2,16 @@
 #![tactic(auto)]
 
 use endian_word::Asked;
-use libc::STDIN_FILENO;
+use std::io;
 
-fn main() {
-    let Asked::Order(big) = endian_word::asked_order(b"import") else {
-        return;
+fn main(rt: HostRuntime) -> io::Result<()> {
+    let mut err = rt.stderr();
+    let Asked::Order(big) = endian_word::asked_order(&rt, &mut err, b"import")? else {
+        return Ok(());
     };
     // One byte more than a sheet may have, so that a longer input is known as such, however long it is.
-    let mut sheet = io::large_buffer();
-    let n = io::read_full(STDIN_FILENO, &mut sheet);
-    print_import::print_import(&sheet[..n], big);
+    let mut sheet = [0u8; streams::SHEET_ROOM];
+    let n = streams::read_full(&mut rt.stdin(), &mut sheet)?;
+    print_import::print_import(&mut rt.stdout(), &mut err, &sheet[..n], big)?;
+    Ok(())
 }

@@ -1,6 +1,6 @@
 -- A buffer compared with bytes and a filler behind them, and an answer with the recorded one, a sheet or numbers: a difference is told exactly if they
 -- are not the same. Assumes nothing.
-use Rattle.std.proofs.Common.{◌≡◌, ℕ, zero, suc, pred, ◌-◌, ◌<◌, ◌≤◌, Bool, true, false, cond, ◌&&◌, ◌||◌, eqb, [], ◌∷◌, ◌++◌, length, take, drop, replicate, sym, refl, ap, ◌∙◌, arith, length-append, length-drop, take-append-drop, length-take-le, take_all, eq-eqb, ne_eqb, eqb-true}
+use Rattle.std.proofs.Common.{◌≡◌, ℕ, zero, suc, pred, ◌-◌, ◌<◌, ◌≤◌, Bool, true, false, cond, ◌&&◌, eqb, [], ◌∷◌, ◌++◌, length, take, drop, replicate, sym, refl, ap, ◌∙◌, arith, length-append, length-drop, take-append-drop, length-take-le, take_all, eq-eqb, ne_eqb, eqb-true}
 use mathlib.Core.Bool.{and_assoc}
 use mathlib.Core.Option.{Option, none, some}
 use Rattle.sheets.specs.Bytes.{Bytes, same}
@@ -10,9 +10,8 @@ use Rattle.sheets.proofs.BytesLaws.{same_refl, same_eq}
 use Rattle.sheets.proofs.SameLaws.{lengths_differ}
 use Rattle.recorded_list.specs.declared.records.Header.{Header}
 use Rattle.outcome.specs.Answers.{outcome_of}
-use Rattle.recorded_list.specs.Codes.{to_physical_type_call, is_nested_call, contains_dictionary_call}
 use Rattle.judge.specs.declared.Numbers.{Numbers}
-use Rattle.judge.specs.Judging.{filled, buffer_after, recorded, same_outcome, difference, answers_numbers, recorded_numbers, same_numbers, numbers_difference}
+use Rattle.judge.specs.Judging.{filled, buffer_after, recorded, same_outcome, difference, recorded_numbers, same_numbers, numbers_difference}
 
 -- what is told of an answer that is a sheet
 abbrev pub came_as : ℕ → ℕ → Numbers

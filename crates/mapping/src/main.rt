@@ -8,38 +8,37 @@ mod words;
 
 use crate::call::Call;
 use crate::words::Asked;
-use libc::{STDIN_FILENO, STDOUT_FILENO};
 use mapping_calls::YesNo;
 use mapping_calls::physical::PhysicalPlaces;
 use outcome::Answered;
+use std::io;
+use std::io::Write;
 
 // As much as a sheet that is handed in can have: no answer of a mapping is longer than its sheet, and a conversion's has at most 69 bytes.
 const ROOM: usize = 65536;
 
-fn put(text: &[u8]) {
-    io::write_all(STDOUT_FILENO, text);
-}
-
-fn print_places(p: PhysicalPlaces) {
+fn print_places(rt: &HostRuntime, p: PhysicalPlaces) -> io::Result<()> {
+    let mut out = rt.stdout();
     if p.number != 0 {
-        print_answer::print_refused(p.number);
-        return;
+        print_answer::print_refused(&mut out, &mut rt.stderr(), p.number)?;
+        return Ok(());
     }
-    io::print_decimal(STDOUT_FILENO, p.place);
-    put(b" ");
-    io::print_decimal(STDOUT_FILENO, p.inner);
-    put(b"\n");
+    streams::print_decimal(&mut out, p.place)?;
+    out.write_all(b" ")?;
+    streams::print_decimal(&mut out, p.inner)?;
+    out.write_all(b"\n")
 }
 
-fn print_yes_no(y: YesNo) {
+fn print_yes_no(rt: &HostRuntime, y: YesNo) -> io::Result<()> {
+    let mut out = rt.stdout();
     if y.number != 0 {
-        print_answer::print_refused(y.number);
-        return;
+        print_answer::print_refused(&mut out, &mut rt.stderr(), y.number)?;
+        return Ok(());
     }
     if y.answer {
-        put(b"yes\n");
+        out.write_all(b"yes\n")
     } else {
-        put(b"no\n");
+        out.write_all(b"no\n")
     }
 }
 
@@ -56,37 +55,38 @@ fn ask(call: Call, index: u64, s: &[u8], out: &mut [u8]) -> Answered {
     }
 }
 
-fn print_sheet(call: Call, index: u64, s: &[u8]) {
+fn print_sheet(rt: &HostRuntime, call: Call, index: u64, s: &[u8]) -> io::Result<()> {
     let mut out = [0u8; ROOM];
     let answer = ask(call, index, s, &mut out);
-    print_answer::print_answer(&out, answer);
+    print_answer::print_answer(&mut rt.stdout(), &mut rt.stderr(), &out, answer)?;
+    Ok(())
 }
 
-fn print_mapped(call: Call, index: u64, s: &[u8]) {
+fn print_mapped(rt: &HostRuntime, call: Call, index: u64, s: &[u8]) -> io::Result<()> {
     match call {
         Call::ToPhysicalType => {
-            print_places(mapping_calls::physical::to_physical_type(s).places());
+            print_places(rt, mapping_calls::physical::to_physical_type(s).places())
         }
-        Call::IsNested => print_yes_no(mapping_calls::is_nested(s)),
-        Call::ContainsDictionary => print_yes_no(mapping_calls::contains_dictionary(s)),
-        _ => print_sheet(call, index, s),
+        Call::IsNested => print_yes_no(rt, mapping_calls::is_nested(s)),
+        Call::ContainsDictionary => print_yes_no(rt, mapping_calls::contains_dictionary(s)),
+        _ => print_sheet(rt, call, index, s),
     }
 }
 
-fn print_read(call: Call, index: u64) {
+fn print_read(rt: &HostRuntime, call: Call, index: u64) -> io::Result<()> {
     // One byte more than a sheet may have, so that a longer input is known as such, however long it is.
-    let mut sheet = io::large_buffer();
-    let n = io::read_full(STDIN_FILENO, &mut sheet);
-    print_mapped(call, index, &sheet[..n]);
+    let mut sheet = [0u8; streams::SHEET_ROOM];
+    let n = streams::read_full(&mut rt.stdin(), &mut sheet)?;
+    print_mapped(rt, call, index, &sheet[..n])
 }
 
-fn main() {
-    let Asked::Is(call, index) = words::ask_words() else {
-        return;
+fn main(rt: HostRuntime) -> io::Result<()> {
+    let Asked::Is(call, index) = words::ask_words(&rt, &mut rt.stderr())? else {
+        return Ok(());
     };
     if call::reads_sheet(call) {
-        print_read(call, index);
+        print_read(&rt, call, index)
     } else {
-        print_mapped(call, index, b"");
+        print_mapped(&rt, call, index, b"")
     }
 }

@@ -1,7 +1,9 @@
 // The program's arguments: the call's name, then its index or place, if it takes one.
 use crate::call::{Call, Named};
 use decimal::Unsigned64;
-use libc::STDERR_FILENO;
+use std::env::Env;
+use std::io;
+use std::io::Write;
 
 // A number of 64 bits has no more digits.
 const DIGITS: usize = 20;
@@ -13,65 +15,71 @@ pub enum Asked {
     Nothing,
 }
 
-fn put(text: &[u8]) {
-    io::write_all(STDERR_FILENO, text);
-}
-
-fn complain(name: &[u8], what: &[u8]) -> Asked {
-    put(b"mapping: ");
-    put(name);
-    put(what);
-    put(b"\n");
-    Asked::Nothing
+fn complain<W: Write>(err: &mut W, name: &[u8], what: &[u8]) -> io::Result<Asked> {
+    err.write_all(b"mapping: ")?;
+    err.write_all(name)?;
+    err.write_all(what)?;
+    err.write_all(b"\n")?;
+    Ok(Asked::Nothing)
 }
 
 // The second argument as a number; one that is longer than a number can be is none.
-fn index_word() -> Unsigned64 {
+fn index_word<E: Env>(env: &E) -> Unsigned64 {
     let mut word = [0u8; DIGITS];
-    let n = os::arg(2, &mut word);
+    let n = streams::argument(env, 2, &mut word);
     decimal::read_u64(&word[..n])
 }
 
-fn with_index(call: Call, name: &[u8], count: usize) -> Asked {
-    if count < 3 {
-        return complain(name, b" needs an index or a place");
+fn with_index<E: Env, W: Write>(
+    env: &E,
+    err: &mut W,
+    call: Call,
+    name: &[u8],
+) -> io::Result<Asked> {
+    if !streams::has_argument(env, 2) {
+        return complain(err, name, b" needs an index or a place");
     }
-    match index_word() {
-        Unsigned64::Value(index) => Asked::Is(call, index),
+    match index_word(env) {
+        Unsigned64::Value(index) => Ok(Asked::Is(call, index)),
         Unsigned64::Bad => complain(
+            err,
             name,
             b": the index is no number from 0 to 18446744073709551615",
         ),
     }
 }
 
-fn without_index(call: Call, name: &[u8], count: usize) -> Asked {
-    if 2 < count {
-        return complain(name, b" takes no index");
+fn without_index<E: Env, W: Write>(
+    env: &E,
+    err: &mut W,
+    call: Call,
+    name: &[u8],
+) -> io::Result<Asked> {
+    if streams::has_argument(env, 2) {
+        return complain(err, name, b" takes no index");
     }
-    Asked::Is(call, 0)
+    Ok(Asked::Is(call, 0))
 }
 
-fn asked_by(name: &[u8], count: usize) -> Asked {
+fn asked_by<E: Env, W: Write>(env: &E, err: &mut W, name: &[u8]) -> io::Result<Asked> {
     let Named::Is(call) = crate::call::call_named(name) else {
-        return complain(name, b" is no mapping and no conversion");
+        return complain(err, name, b" is no mapping and no conversion");
     };
     if crate::call::takes_index(call) {
-        return with_index(call, name, count);
+        return with_index(env, err, call, name);
     }
-    without_index(call, name, count)
+    without_index(env, err, call, name)
 }
 
-// What the arguments ask. The program's own name is among the count.
-pub fn ask_words() -> Asked {
-    let count = os::arg_count();
-    let mut word = io::buffer();
-    let n = os::arg(1, &mut word);
-    if count < 2 {
-        return complain(b"usage", b": mapping CALL [INDEX]");
+// What the arguments ask. The program's own name is at place 0.
+pub fn ask_words<E: Env, W: Write>(env: &E, err: &mut W) -> io::Result<Asked> {
+    let mut word = [0u8; streams::LONGEST_WORD];
+    let n = streams::argument(env, 1, &mut word);
+    if !streams::has_argument(env, 1) {
+        return complain(err, b"usage", b": mapping CALL [INDEX]");
     }
-    if 3 < count {
-        return complain(b"usage", b": mapping CALL [INDEX]");
+    if streams::has_argument(env, 3) {
+        return complain(err, b"usage", b": mapping CALL [INDEX]");
     }
-    asked_by(&word[..n], count)
+    asked_by(env, err, &word[..n])
 }

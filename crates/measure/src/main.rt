@@ -3,8 +3,10 @@
 #![tactic(auto)]
 
 use endian_word::Asked;
-use libc::{STDERR_FILENO, STDIN_FILENO, STDOUT_FILENO};
 use outcome::Measured;
+use std::env::Env;
+use std::io;
+use std::io::Write;
 
 // The conversion that is measured; or nothing.
 #[derive(Drop)]
@@ -25,54 +27,48 @@ fn named(word: &[u8]) -> Conversion {
 }
 
 // By the first argument.
-fn asked_conversion() -> Conversion {
-    let mut word = io::buffer();
-    let n = os::arg(1, &mut word);
+fn asked_conversion<E: Env>(env: &E) -> Conversion {
+    let mut word = [0u8; streams::LONGEST_WORD];
+    let n = streams::argument(env, 1, &mut word);
     named(&word[..n])
 }
 
-fn put(text: &[u8]) {
-    io::write_all(STDOUT_FILENO, text);
-}
-
-fn print_measured(m: Measured) {
+fn print_measured(rt: &HostRuntime, m: Measured) -> io::Result<()> {
+    let mut out = rt.stdout();
     if m.number != 0 {
-        print_answer::print_refused(m.number);
-        return;
+        print_answer::print_refused(&mut out, &mut rt.stderr(), m.number)?;
+        return Ok(());
     }
-    put(b"length ");
-    io::print_decimal(STDOUT_FILENO, m.size.len as u64);
-    put(b", lines ");
-    io::print_decimal(STDOUT_FILENO, m.size.lines as u64);
-    put(b"\n");
+    out.write_all(b"length ")?;
+    streams::print_decimal(&mut out, m.size.len as u64)?;
+    out.write_all(b", lines ")?;
+    streams::print_decimal(&mut out, m.size.lines as u64)?;
+    out.write_all(b"\n")
 }
 
-fn measure(is_import: bool, big: bool) {
+fn measure(rt: &HostRuntime, is_import: bool, big: bool) -> io::Result<()> {
     // One byte more than a sheet may have, so that a longer input is known as such, however long it is.
-    let mut sheet = io::large_buffer();
-    let n = io::read_full(STDIN_FILENO, &mut sheet);
+    let mut sheet = [0u8; streams::SHEET_ROOM];
+    let n = streams::read_full(&mut rt.stdin(), &mut sheet)?;
     if is_import {
-        print_measured(import_sheet::measure_import(&sheet[..n], big));
+        print_measured(rt, import_sheet::measure_import(&sheet[..n], big))
     } else {
-        print_measured(field_calls::measure_export(&sheet[..n], big));
+        print_measured(rt, field_calls::measure_export(&sheet[..n], big))
     }
 }
 
-fn complain() {
-    io::write_all(
-        STDERR_FILENO,
-        b"usage: measure import|export [little|big]\n",
-    );
+fn complain(rt: &HostRuntime) -> io::Result<()> {
+    rt.stderr()
+        .write_all(b"usage: measure import|export [little|big]\n")
 }
 
-fn main() {
-    let Asked::Order(big) = endian_word::order_at(2) else {
-        complain();
-        return;
+fn main(rt: HostRuntime) -> io::Result<()> {
+    let Asked::Order(big) = endian_word::order_at(&rt, 2) else {
+        return complain(&rt);
     };
-    match asked_conversion() {
-        Conversion::Import => measure(true, big),
-        Conversion::Export => measure(false, big),
-        Conversion::Nothing => complain(),
+    match asked_conversion(&rt) {
+        Conversion::Import => measure(&rt, true, big),
+        Conversion::Export => measure(&rt, false, big),
+        Conversion::Nothing => complain(&rt),
     }
 }

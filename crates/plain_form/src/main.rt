@@ -1,16 +1,17 @@
 // Reads a field sheet on standard input and prints its plain form, a field sheet, or `refused N`.
 #![tactic(auto)]
 
-use libc::STDIN_FILENO;
+use std::io;
 
 // More than any answer has: 83,739 bytes at most (crates/rooms).
 const ROOM: usize = 524288;
 
-fn main() {
+fn main(rt: HostRuntime) -> io::Result<()> {
     // One byte more than a sheet may have, so that a longer input is known as such, however long it is.
-    let mut sheet = io::large_buffer();
-    let n = io::read_full(STDIN_FILENO, &mut sheet);
+    let mut sheet = [0u8; streams::SHEET_ROOM];
+    let n = streams::read_full(&mut rt.stdin(), &mut sheet)?;
     let mut out = [0u8; ROOM];
     let answer = field_calls::plain_form(&sheet[..n], &mut out);
-    print_answer::print_answer(&out, answer);
+    print_answer::print_answer(&mut rt.stdout(), &mut rt.stderr(), &out, answer)?;
+    Ok(())
 }

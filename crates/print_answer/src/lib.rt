@@ -3,35 +3,47 @@
 
 mod sentence;
 
-ghost use Rattle.std.specs.Prelude.{◌≡◌};
+ghost use Rattle.std.specs.Prelude.{◌≡◌, take, IfOk, OnOk};
+ghost use Rattle.std.specs.Io.KnownBytes.{Appends};
+ghost use Rattle.print_answer.specs.Printed.{refused_line, printed};
 
-use libc::STDOUT_FILENO;
 use outcome::Answered;
+use std::io;
+use std::io::Write;
 
-fn print_sheet(out: &[u8], length: usize) {
+fn print_sheet<W: Write>(to: &mut W, out: &[u8], length: usize) -> io::Result<()>
+    ensures { OnOk result (Appends (W.contents to.old) (W.contents to.new) (take length out.now)) }
+{
     let n = buffer::within(length, out.len());
-    io::write_all(STDOUT_FILENO, &out[..n]);
+    to.write_all(&out[..n])
 }
 
-// A refusal's number and the line's end; and its sentence on standard error.
-pub fn print_refused(number: u8) -> u8
-    ensures { result ≡ number }
+// A refusal's number and the line's end; and its sentence to err.
+pub fn print_refused<W: Write, E: Write>(to: &mut W, err: &mut E, number: u8) -> io::Result<u8>
+    ensures number { IfOk result (λ n. n ≡ number) }
+    ensures printed { OnOk result (Appends (W.contents to.old) (W.contents to.new) (refused_line number)) }
 {
-    io::write_all(STDOUT_FILENO, b"refused ");
-    io::print_decimal(STDOUT_FILENO, number as u64);
-    io::write_all(STDOUT_FILENO, b"\n");
-    sentence::say(number);
-    number
+    to.write_all(b"refused ")?;
+    streams::print_decimal(to, number as u64)?;
+    to.write_all(b"\n")?;
+    sentence::say(err, number)?;
+    Ok(number)
 }
 
 // Prints the answer whose sheet stands in out; its number.
-pub fn print_answer(out: &[u8], answer: Answered) -> u8
-    ensures { result ≡ answer.number }
+pub fn print_answer<W: Write, E: Write>(
+    to: &mut W,
+    err: &mut E,
+    out: &[u8],
+    answer: Answered,
+) -> io::Result<u8>
+    ensures number { IfOk result (λ n. n ≡ answer.number) }
+    ensures printed { OnOk result (Appends (W.contents to.old) (W.contents to.new) (printed out.now answer)) }
 {
     let number = answer.number;
     if number != 0 {
-        return print_refused(number);
+        return print_refused(to, err, number);
     }
-    print_sheet(out, answer.length);
-    number
+    print_sheet(to, out, answer.length)?;
+    Ok(number)
 }

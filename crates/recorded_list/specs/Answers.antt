@@ -15,9 +15,7 @@ use Rattle.recorded_list.specs.declared.records.RecordRead.{RecordRead}
 use Rattle.recorded_list.specs.declared.records.RecordRead.TheVariants as Read
 use Rattle.recorded_list.specs.declared.window.Window.{Window}
 use Rattle.recorded_list.specs.declared.Start.{Start}
-use Rattle.recorded_list.specs.declared.Start.TheVariants as Start
 use Rattle.recorded_list.specs.declared.Next.{Next}
-use Rattle.recorded_list.specs.declared.Next.TheVariants as Next
 
 -- ── at a place of the text
 

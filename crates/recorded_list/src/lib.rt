@@ -7,13 +7,15 @@ pub mod records;
 pub mod text;
 pub mod window;
 
-ghost use Rattle.std.specs.Prelude.{◌≡◌, length};
+ghost use Rattle.std.specs.Prelude.{◌≡◌, length, IfOk, OnErr};
 ghost use Rattle.recorded_list.specs.Answers.{start_option, next_option};
 ghost use Rattle.recorded_list.specs.Moving.{Within};
 ghost use Rattle.recorded_list.specs.Reading.{fitting, ReadsStart, ReadsNext, ReadsEnd};
 
 use crate::records::{FirstLine, FirstLineRead, Header, RecordRead};
 use crate::window::Window;
+use std::io;
+use std::io::Read;
 
 // The first line and what is still to be read after it.
 #[derive(Drop)]
@@ -42,61 +44,76 @@ fn fits(line: FirstLine, input: usize, output: usize) -> bool
     line.output as usize <= output
 }
 
-// Reads the first line, for buffers of so many bytes.
-pub fn first_line(text: &mut [u8], input: usize, output: usize) -> Start
-    ensures { ReadsStart input output text.old text.new (start_option result) }
+// Reads the first line, for buffers of so many bytes. Only a read fails, and the text then has its length.
+pub fn first_line<R: Read>(
+    source: &mut R,
+    text: &mut [u8],
+    input: usize,
+    output: usize,
+) -> io::Result<Start>
+    ensures ok { IfOk result (λ r. ReadsStart input output text.old text.new (start_option r)) }
+    ensures err { OnErr result (length text.new ≡ length text.old) }
 {
     let w = crate::window::refill(
+        source,
         text,
         Window {
             at: 0,
             end: 0,
             ended: false,
         },
-    );
+    )?;
     let end = w.end;
     let FirstLineRead::Read(line, next) = crate::records::read_first_line(&text[..end], w.at) else {
-        return Start::Bad;
+        return Ok(Start::Bad);
     };
     if !fits(line, input, output) {
-        return Start::Bad;
+        return Ok(Start::Bad);
     }
-    Start::Read(
+    Ok(Start::Read(
         line,
         Window {
             at: next,
             end,
             ended: w.ended,
         },
-    )
+    ))
 }
 
-// Reads the next record, its parts into the first bytes of input and output.
-pub fn next_record(text: &mut [u8], before: Window, input: &mut [u8], output: &mut [u8]) -> Next
+// Reads the next record, its parts into the first bytes of input and output. Only a read fails; the text then has its length, and the two are unchanged.
+pub fn next_record<R: Read>(
+    source: &mut R,
+    text: &mut [u8],
+    before: Window,
+    input: &mut [u8],
+    output: &mut [u8],
+) -> io::Result<Next>
     requires { Within before (length text.old) }
-    ensures { ReadsNext (length input.new) (length output.new) text.old before text.new (next_option input.new output.new result) }
+    ensures ok { IfOk result (λ r. ReadsNext (length input.new) (length output.new) text.old before text.new (next_option input.new output.new r)) }
+    ensures err { OnErr result ((length text.new ≡ length text.old) × (input.new ≡ input.old) × (output.new ≡ output.old)) }
 {
-    let w = crate::window::refill(text, before);
+    let w = crate::window::refill(source, text, before)?;
     let end = w.end;
     let RecordRead::Read(h, next) = crate::records::read_record(&text[..end], w.at, input, output)
     else {
-        return Next::Bad;
+        return Ok(Next::Bad);
     };
-    Next::Read(
+    Ok(Next::Read(
         h,
         Window {
             at: next,
             end,
             ended: w.ended,
         },
-    )
+    ))
 }
 
-// Whether nothing is left of the list.
-pub fn is_read(text: &mut [u8], before: Window) -> bool
+// Whether nothing is left of the list. Only a read fails, and the text then has its length.
+pub fn is_read<R: Read>(source: &mut R, text: &mut [u8], before: Window) -> io::Result<bool>
     requires { Within before (length text.old) }
-    ensures { ReadsEnd text.old before text.new result }
+    ensures ok { IfOk result (λ r. ReadsEnd text.old before text.new r) }
+    ensures err { OnErr result (length text.new ≡ length text.old) }
 {
-    let w = crate::window::refill(text, before);
-    w.at == w.end
+    let w = crate::window::refill(source, text, before)?;
+    Ok(w.at == w.end)
 }

@@ -1,8 +1,9 @@
-// A window on standard input, which moves along it: always a whole record's text, as long as there is one.
-ghost use Rattle.std.specs.Prelude.{◌≡◌, ◌+◌, ◌≤◌, length, take, drop};
+// A window on an input, which moves along it: always a whole record's text, as long as there is one.
+ghost use Rattle.std.specs.Prelude.{◌≡◌, ◌+◌, ◌≤◌, length, take, drop, IfOk, OnErr};
 ghost use Rattle.recorded_list.specs.Moving.{Within, Refilled};
 
-use libc::STDIN_FILENO;
+use std::io;
+use std::io::Read;
 
 // A number of 64 bits has at most so many digits, and a part of a record at most so many bytes, with three bytes of text for each.
 const DIGITS: usize = 20;
@@ -30,24 +31,25 @@ fn move_down(text: &mut [u8], at: usize, n: usize)
     }
 }
 
-// Reads on if less than the longest record is left.
-pub fn refill(text: &mut [u8], w: Window) -> Window
+// Reads on if less than the longest record is left. After a read that failed the text has its length; what was still to be read is not promised.
+pub fn refill<R: Read>(source: &mut R, text: &mut [u8], w: Window) -> io::Result<Window>
     requires { Within w (length text.old) }
-    ensures { Refilled text.old w text.new result }
+    ensures ok { IfOk result (λ r. Refilled text.old w text.new r) }
+    ensures err { OnErr result (length text.new ≡ length text.old) }
 {
     if w.ended {
-        return w;
+        return Ok(w);
     }
     let at = w.at;
     let left = w.end - at;
     if LONGEST_RECORD <= left {
-        return w;
+        return Ok(w);
     }
     move_down(text, at, left);
-    let end = left + io::read_full(STDIN_FILENO, &mut text[left..]);
-    Window {
+    let end = left + streams::read_full(source, &mut text[left..])?;
+    Ok(Window {
         at: 0,
         end,
         ended: end < text.len(),
-    }
+    })
 }

@@ -3,46 +3,49 @@
 #![tactic(auto)]
 
 use endian_word::Asked;
-use libc::{STDIN_FILENO, STDOUT_FILENO};
 use round_trips::RoundTrip;
+use std::io;
+use std::io::Write;
 
 // More than any answer of a step has: 315,276 bytes of export at most (crates/rooms).
 const ROOM: usize = 524288;
 
-fn put(text: &[u8]) {
-    io::write_all(STDOUT_FILENO, text);
+fn print_refused(rt: &HostRuntime, step: &[u8], number: u8) -> io::Result<()> {
+    let mut out = rt.stdout();
+    out.write_all(step)?;
+    out.write_all(b" ")?;
+    print_answer::print_refused(&mut out, &mut rt.stderr(), number)?;
+    Ok(())
 }
 
-fn print_refused(step: &[u8], number: u8) {
-    put(step);
-    put(b" ");
-    print_answer::print_refused(number);
-}
-
-fn print_trip(trip: RoundTrip) {
+fn print_trip(rt: &HostRuntime, trip: RoundTrip) -> io::Result<()> {
     match trip {
-        RoundTrip::AllSame => put(b"the same\n"),
-        RoundTrip::ExportRefused(number) => print_refused(b"export", number),
-        RoundTrip::ImportRefused(number) => print_refused(b"import", number),
-        RoundTrip::PlainRefused(number) => print_refused(b"plain form", number),
-        RoundTrip::AgainRefused(number) => print_refused(b"second export", number),
-        RoundTrip::ImportDiffers => put(b"import differs from the plain form\n"),
-        RoundTrip::AgainDiffers => put(b"second export differs from the export\n"),
+        RoundTrip::AllSame => rt.stdout().write_all(b"the same\n"),
+        RoundTrip::ExportRefused(number) => print_refused(rt, b"export", number),
+        RoundTrip::ImportRefused(number) => print_refused(rt, b"import", number),
+        RoundTrip::PlainRefused(number) => print_refused(rt, b"plain form", number),
+        RoundTrip::AgainRefused(number) => print_refused(rt, b"second export", number),
+        RoundTrip::ImportDiffers => rt
+            .stdout()
+            .write_all(b"import differs from the plain form\n"),
+        RoundTrip::AgainDiffers => rt
+            .stdout()
+            .write_all(b"second export differs from the export\n"),
     }
 }
 
-fn main() {
-    let Asked::Order(big) = endian_word::asked_order(b"round_trip") else {
-        return;
+fn main(rt: HostRuntime) -> io::Result<()> {
+    let Asked::Order(big) = endian_word::asked_order(&rt, &mut rt.stderr(), b"round_trip")? else {
+        return Ok(());
     };
     // One byte more than a sheet may have, so that a longer input is known as such, however long it is.
-    let mut sheet = io::large_buffer();
-    let n = io::read_full(STDIN_FILENO, &mut sheet);
+    let mut sheet = [0u8; streams::SHEET_ROOM];
+    let n = streams::read_full(&mut rt.stdin(), &mut sheet)?;
     let mut exported = [0u8; ROOM];
     let mut imported = [0u8; ROOM];
     let mut plain = [0u8; ROOM];
     let mut again = [0u8; ROOM];
-    print_trip(round_trips::round_trip(
+    let trip = round_trips::round_trip(
         &sheet[..n],
         false,
         big,
@@ -50,5 +53,6 @@ fn main() {
         &mut imported,
         &mut plain,
         &mut again,
-    ));
+    );
+    print_trip(&rt, trip)
 }

@@ -1,5 +1,5 @@
 -- `all_are` meets its contract. The loop's invariant: the whole is the same if what follows place i is. Assumes nothing.
-use Rattle.std.proofs.Common.{◌≡◌, ◌-◌, length, get_or, replicate, sym, refl, ◌∙◌, arith, rules}
+use Rattle.std.proofs.Common.{◌≡◌, length, get_or, replicate, sym, refl, ◌∙◌, arith, rules}
 use lib.ListN.{length-replicate, get_or-replicate}
 use Rattle.sheets.proofs.SameLaws.{same_end, same_more, differ_at}
 use Rattle.judge.proofs.all_are.Goals as goal

@@ -1,5 +1,5 @@
 -- `fill` meets its contract. The loop's invariant: the first i bytes are filled and the others are as they were. Assumes nothing.
-use Rattle.std.proofs.Common.{◌≡◌, ◌-◌, length, refl, ◌∙◌, append-nil, le_refl, arith, drop_of_length-le, rules}
+use Rattle.std.proofs.Common.{◌≡◌, length, refl, ◌∙◌, append-nil, le_refl, arith, drop_of_length-le, rules}
 use borrow.Author.Fill.{fill_more}
 use Rattle.judge.proofs.fill.Goals as goal
 

@@ -4,7 +4,7 @@ use Rattle.judge.proofs.tally.count.Goals as goal
 
 pub returns-then-call : goal.returns-then-call
 returns-then-call c =
-    let a = c.args in counted_call a.from a.call a.kept.now _ c.if-call.true c.wrapping_add_u64.ensures
+    let a = c.args in counted_call a.from a.call a.kept.now _ c.if-call.true c.wrapping_add_u64.ensures.value
 
 pub returns-else-call : goal.returns-else-call
 returns-else-call c =

@@ -1,7 +1,6 @@
 -- `text::read_part` meets its contract. The loop's invariant: the first k bytes are read, and the text goes on at i; the measure is what is left
 -- of the bytes. A part that stood there would go on as the text does (`PartLaws`). Assumes nothing.
 use mathlib.Core.Path.{refl, subst}
-use Prim.Native.Nat.{◌-◌}
 use native.Mathlib.Omega.{arith}
 use borrow.Author.Rules.{rules}
 use Rattle.recorded_list.specs.ListText.{byte_text}

@@ -1,7 +1,7 @@
 -- `window::move_down` meets its contract. The loop's invariant: the first i bytes were moved, and from i on all stands as before. Assumes
 -- nothing.
 use mathlib.Core.Path.{◌≡◌, refl, subst}
-use Prim.Native.Nat.{ℕ, ◌-◌}
+use Prim.Native.Nat.{ℕ}
 use native.Mathlib.Omega.{arith}
 use lib.ListN.{take, drop}
 use borrow.Author.Rules.{rules}
