@@ -2,7 +2,6 @@
 // where that is past the buffer's end.
 #![tactic(auto)]
 
-
 ghost use Rattle.std.specs.Prelude.{◌≡◌, ◌+◌, length};
 ghost use Rattle.sheets.specs.Number.{decimal};
 ghost use Rattle.sheets.specs.Sheet.{heading_line};

@@ -1,6 +1,5 @@
 -- `head_mode` meets its contract: by the laws of heads of three bytes. Assumes nothing.
 use Rattle.format_names.proofs.head_mode.Goals as goal
-
 -- `head_mode` meets its contract: by the laws of heads of three bytes. Assumes nothing.
 use Rattle.format_names.proofs.HeadLaws.{mode_length, mode_other, mode_lettered, no_mode}
 use Rattle.hexadecimal.proofs.PartLaws.{hex_take, bytes_take}

@@ -1,6 +1,5 @@
 -- `head_unit` meets its contract: by the laws of heads of three bytes. Assumes nothing.
 use Rattle.format_names.proofs.head_unit.Goals as goal
-
 -- `head_unit` meets its contract: by the laws of heads of three bytes. Assumes nothing.
 use Rattle.format_names.proofs.HeadLaws.{unit_length, unit_other, unit_lettered, no_unit_lem}
 use Rattle.hexadecimal.proofs.PartLaws.{hex_take, bytes_take}

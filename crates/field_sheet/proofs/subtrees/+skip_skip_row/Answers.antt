@@ -18,8 +18,11 @@ skip-returns-then-most-eq0 t c =
 
 pub skip-overflow_add-result : goal.skip-overflow_add-result
 skip-overflow_add-result t c =
-    omega (arith, (let a = c.args in
-    leaf_told a.s.now a.at (sym c.leaf_at.ensures ∙ ap leaf_option c.in-Line.is)).high)
+    omega (
+      arith,
+      (let a = c.args in
+          leaf_told a.s.now a.at (sym c.leaf_at.ensures ∙ ap leaf_option c.in-Line.is)).high,
+    )
 
 pub skip-returns-in-Line : goal.skip-returns-in-Line
 skip-returns-in-Line t c =

@@ -45,8 +45,11 @@ read_tree-returns-then-levels-eq0 t c =
 
 pub read_tree-overflow_add-result : goal.read_tree-overflow_add-result
 read_tree-overflow_add-result t c =
-    omega (arith, (let a = c.args in
-    leaf_told a.s.now a.at (sym c.leaf_at.ensures ∙ ap leaf_option c.in-Line.is)).high)
+    omega (
+      arith,
+      (let a = c.args in
+          leaf_told a.s.now a.at (sym c.leaf_at.ensures ∙ ap leaf_option c.in-Line.is)).high,
+    )
 
 pub read_tree-returns-in-Line : goal.read_tree-returns-in-Line
 read_tree-returns-in-Line t c =

@@ -37,8 +37,11 @@ search_row-returns t c = λ us es h. searching_all (c.loop-left.invariant us es 
 
 pub search_type-overflow_add-result : goal.search_type-overflow_add-result
 search_type-overflow_add-result t c =
-    omega (arith, (let a = c.args in
-    leaf_told a.s.now a.tree.at (sym c.leaf_at.ensures ∙ ap leaf_option c.in-Line.is)).high)
+    omega (
+      arith,
+      (let a = c.args in
+          leaf_told a.s.now a.tree.at (sym c.leaf_at.ensures ∙ ap leaf_option c.in-Line.is)).high,
+    )
 
 pub search_type-returns-in-Line : goal.search_type-returns-in-Line
 search_type-returns-in-Line t c =

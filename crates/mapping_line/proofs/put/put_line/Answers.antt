@@ -18,11 +18,10 @@ pub put_columns-children-requires : goal.put_columns-children-requires
 put_columns-children-requires c = record { columns = c.requires.columns; few = omega (arith, c.requires.short, c.copy-first.ensures.0, part_short c.args.s.now c.between.result.start c.between.result.end) }
 
 pub copy-requires : goal.copy-requires
-copy-requires c =
-    (
-      subst (HasPart c.args.s.now) (sym c.between-2.ensures) (last_there c.requires.line),
-      omega (arith, c.requires.short, c.put_columns-children.ensures.0, columns_short c.args.s.now c.args.own, c.copy-first.ensures.0, part_short c.args.s.now c.between.result.start c.between.result.end),
-    )
+copy-requires c = (
+  subst (HasPart c.args.s.now) (sym c.between-2.ensures) (last_there c.requires.line),
+  omega (arith, c.requires.short, c.put_columns-children.ensures.0, columns_short c.args.s.now c.args.own, c.copy-first.ensures.0, part_short c.args.s.now c.between.result.start c.between.result.end),
+)
 
 pub returns : goal.returns
 returns c =
