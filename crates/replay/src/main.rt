@@ -2,7 +2,7 @@
 // replayed and how many differ, and in full the first that does; or at which record the list is malformed. Records are counted from 0.
 #![tactic(auto)]
 
-ghost use Rattle.std.specs.Prelude.{◌≡◌, length};
+ghost use Rattle.std.specs.Prelude.{◌≡◌, length, IfOk};
 ghost use Rattle.outcome.specs.Answers.{outcome_of, measure_of};
 ghost use Rattle.mapping_calls.specs.Answers.{places_of, yes_no_of};
 ghost use Rattle.recorded_list.specs.Answers.{record_in};
@@ -18,6 +18,8 @@ use outcome::{Answered, Measured};
 use recorded_list::records::Header;
 use recorded_list::window::{LONGEST_PART, Window};
 use recorded_list::{Next, Start, call};
+use std::io;
+use std::io::{Read, Write};
 
 // The longest buffer that a record lends. It is longer than the text of any record, so a window of so many bytes holds one.
 const LONGEST_BUFFER: usize = 1048576;
@@ -128,9 +130,16 @@ fn replay(h: Header, input: &[u8], output: &[u8], lent: &mut [u8]) -> Replayed
 }
 
 // Replays a record whose parts stand in the first bytes of input and output; a difference is printed unless one was told before.
-fn replay_record(place: u64, told: bool, h: Header, input: &[u8], output: &[u8]) -> Replayed
+fn replay_record<W: Write>(
+    out: &mut W,
+    place: u64,
+    told: bool,
+    h: Header,
+    input: &[u8],
+    output: &[u8],
+) -> io::Result<Replayed>
     requires { Lendable h (length input.now) (length output.now) }
-    ensures { replayed_option result ≡ replayed h.room (record_in input.now output.now h) }
+    ensures { IfOk result (λ r. replayed_option r ≡ replayed h.room (record_in input.now output.now h)) }
 {
     let mut lent = long_buffer();
     let i = h.input as usize;
@@ -138,9 +147,9 @@ fn replay_record(place: u64, told: bool, h: Header, input: &[u8], output: &[u8])
     let room = h.room as usize;
     let r = replay(h, &input[..i], &output[..o], &mut lent[..room]);
     if !told {
-        judge::print::difference(place, h, &output[..o], r, &lent[..room]);
+        judge::print::difference(out, place, h, &output[..o], r, &lent[..room])?;
     }
-    r
+    Ok(r)
 }
 
 // Whether there is such a call, and no longer buffer is lent than there may be.
@@ -154,29 +163,40 @@ fn is_proper(h: Header) -> bool
 }
 
 // Reads and replays the next record of the list.
-fn replay_next(
+fn replay_next<R: Read, W: Write>(
+    source: &mut R,
+    out: &mut W,
     place: u64,
     told: bool,
     before: Window,
     text: &mut [u8],
     input: &mut [u8],
     output: &mut [u8],
-) -> Turn
+) -> io::Result<Turn>
     requires { Within before (length text.old) }
-    ensures { ReplaysNext (length input.new) (length output.new) text.old before text.new (turn_option result) }
+    ensures { IfOk result (λ t. ReplaysNext (length input.new) (length output.new) text.old before text.new (turn_option t)) }
 {
-    let Next::Read(h, rest) = recorded_list::next_record(text, before, input, output) else {
-        return Turn::Bad;
+    let Next::Read(h, rest) = recorded_list::next_record(source, text, before, input, output)?
+    else {
+        return Ok(Turn::Bad);
     };
     if !is_proper(h) {
-        return Turn::Bad;
+        return Ok(Turn::Bad);
     }
-    let r = replay_record(place, told, h, input, output);
-    Turn::Done(rest, h.call, r)
+    let r = replay_record(out, place, told, h, input, output)?;
+    Ok(Turn::Done(rest, h.call, r))
 }
 
 // Replays so many records, after which nothing may follow, and prints what is told of them.
-fn replay_records(records: u64, from: Window, text: &mut [u8], input: &mut [u8], output: &mut [u8])
+fn replay_records<R: Read, W: Write>(
+    source: &mut R,
+    out: &mut W,
+    records: u64,
+    from: Window,
+    text: &mut [u8],
+    input: &mut [u8],
+    output: &mut [u8],
+) -> io::Result<()>
     requires { Within from (length text.old) }
 {
     let mut counts = [0u64; COUNTS];
@@ -184,11 +204,8 @@ fn replay_records(records: u64, from: Window, text: &mut [u8], input: &mut [u8],
     let mut w = from;
     let mut place = 0;
     while place < records {
-        match replay_next(place, told, w, text, input, output) {
-            Turn::Bad => {
-                judge::print::bad_list(place);
-                return;
-            }
+        match replay_next(source, out, place, told, w, text, input, output)? {
+            Turn::Bad => return judge::print::bad_list(out, place),
             Turn::Done(next, call, r) => {
                 w = next;
                 told = told | judge::tally::tally(r, call, &mut counts);
@@ -196,30 +213,37 @@ fn replay_records(records: u64, from: Window, text: &mut [u8], input: &mut [u8],
         }
         place += 1;
     }
-    if !recorded_list::is_read(text, w) {
-        judge::print::bad_list(place);
-        return;
+    if !recorded_list::is_read(source, text, w)? {
+        return judge::print::bad_list(out, place);
     }
-    judge::print::counts(&counts);
+    judge::print::counts(out, &counts)
 }
 
 // Reads the first line, which says how many records there are, and replays them.
-fn main() {
+fn main(rt: HostRuntime) -> io::Result<()> {
+    let mut source = rt.stdin();
+    let mut out = rt.stdout();
     let mut text = long_buffer();
     let mut input = part_buffer();
     let mut output = part_buffer();
-    let Start::Read(line, from) = recorded_list::first_line(&mut text, LONGEST_PART, LONGEST_PART)
+    let Start::Read(line, from) = recorded_list::first_line(
+        &mut source,
+        &mut text,
+        LONGEST_PART,
+        LONGEST_PART,
+    )?
     else {
-        judge::print::bad_list(0);
-        return;
+        return judge::print::bad_list(&mut out, 0);
     };
     let i = line.input as usize;
     let o = line.output as usize;
     replay_records(
+        &mut source,
+        &mut out,
         line.records,
         from,
         &mut text,
         &mut input[..i],
         &mut output[..o],
-    );
+    )
 }
