@@ -187,7 +187,7 @@ fn plains(one: &[u8], other: &[u8], third: &mut [u8], fourth: &mut [u8]) -> TwoS
 }
 
 // The exports of two field sheets and their plain forms, each in its buffer, compared.
-pub fn same_exports_lem(
+pub fn same_exports(
     one: &[u8],
     other: &[u8],
     big: bool,
@@ -217,9 +217,9 @@ pub fn same_exports_lem(
                 SameExports::OtherPlainRefused(number)
             }
             TwoSteps::Written(p, z) => {
-                let same_exports_lem = same_within(first, x, second, y);
+                let same_exports = same_within(first, x, second, y);
                 let same_plains = same_within(third, p, fourth, z);
-                SameExports::Compared(same_exports_lem, same_plains)
+                SameExports::Compared(same_exports, same_plains)
             }
         },
     }

@@ -1,0 +1,16 @@
+-- `answer` meets its contract: each way out has its law in `AnswerLaws`. Assumes nothing.
+use Rattle.field_calls.proofs.AnswerLaws.{answer_refused, answer_done}
+use Rattle.field_calls.proofs.answer.Goals as goal
+
+pub returns-in-Refused : goal.returns-in-Refused
+returns-in-Refused c =
+    let a = c.args in
+    let p = c.convert in
+    answer_refused a.call a.s.now a.out.now p.new.out p.result p.ensures _ c.in-Refused.is p.auto.out _ c.refuse.ensures
+
+pub returns-in-Done : goal.returns-in-Done
+returns-in-Done c =
+    let a = c.args in
+    let p = c.convert in
+    let w = c.written in
+    answer_done a.call a.s.now a.out.now p.new.out p.result p.ensures _ _ c.in-Done.is w.result w.new.out w.ensures
