@@ -1,8 +1,9 @@
 // The last argument of the programs that read or write metadata: `little` or `big`, the order of its count and lengths. Without it they are little-endian.
 #![tactic(auto)]
 
-ghost use Rattle.std.specs.Prelude.{◌≡◌};
-ghost use Rattle.endian_word.specs.Words.{order_named};
+ghost use Rattle.std.specs.Prelude.{◌≡◌, IfOk};
+ghost use Rattle.std.specs.Io.KnownBytes.{Appends};
+ghost use Rattle.endian_word.specs.Words.{order_named, usage_line};
 
 use std::env::Env;
 use std::io;
@@ -41,7 +42,9 @@ pub fn order_at<E: Env>(env: &E, place: usize) -> Asked {
 }
 
 // What the arguments of this program ask, which takes no other; if nothing, a line is written to err.
-pub fn asked_order<E: Env, W: Write>(env: &E, err: &mut W, program: &[u8]) -> io::Result<Asked> {
+pub fn asked_order<E: Env, W: Write>(env: &E, err: &mut W, program: &[u8]) -> io::Result<Asked>
+    ensures { IfOk result (λ a. Appends (W.contents err.old) (W.contents err.new) (usage_line a program.now)) }
+{
     let asked = order_at(env, 1);
     if let Asked::Nothing = asked {
         err.write_all(b"usage: ")?;

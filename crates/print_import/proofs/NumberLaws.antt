@@ -1,29 +1,13 @@
--- An outcome's number goes by the length of the lent buffer alone. Assumes nothing.
-use mathlib.Core.Path.{◌≡◌, refl, sym, ap, ◌∙◌}
-use mathlib.Core.Bool.{Bool, true, false, cond}
+-- What is known of a number or a text that was printed goes over to an equal one. Assumes nothing.
+use mathlib.Core.Path.{subst, ◌≡◌, ◌∙◌}
 use Prim.Native.Nat.{ℕ}
-use lib.Dec.{leb}
-use lib.ListN.{length, replicate, length-replicate}
-use Rattle.sheets.specs.Refusal.{no_room}
+use Rattle.std.specs.Prelude.{Result, Ok, Err, IfOk, OnOk, Option, List}
+use Rattle.std.specs.Io.KnownBytes.{Appends}
 use Rattle.sheets.specs.Bytes.{Bytes}
-use Rattle.sheets.specs.Answer.{Answer, refused, given}
-use Rattle.sheets.specs.Outcome.{Outcome, outcome, success, refusal, import_outcome_in}
-use Rattle.outcome.specs.Answers.{outcome_of}
-use Rattle.outcome.specs.declared.Answered.{Answered}
-use Rattle.print_import.specs.Printed.{buffer_size, printed_number}
 
-by_size : (a : Answer Bytes) (out lent : Bytes) → length out ≡ length lent → (outcome a out).number ≡ (outcome a lent).number
-unfolding outcome
-by_size (refused r) out lent e = refl
-by_size (given x) out lent e = pick (leb (length x) (length out)) ∙ ap (λ (n : ℕ). (cond (leb (length x) n) (success x lent) (refusal no_room lent)).number) e
-  where
-    pick : (t : Bool) → (cond t (success x out) (refusal no_room out)).number ≡ (cond t (success x lent) (refusal no_room lent)).number
-    pick true = refl
-    pick false = refl
+pub number_known : {E : Type 0} (r : Result ℕ E) (a b : ℕ) → a ≡ b → IfOk r (λ n. n ≡ a) → IfOk r (λ n. n ≡ b)
+number_known (Ok n) a b e p = p ∙ e
+number_known (Err x) a b e p = p
 
-zeros : (big : Bool) (s out : Bytes) (n : ℕ) → n ≡ length out → (import_outcome_in big s out).number ≡ (import_outcome_in big s (replicate n 0)).number
-zeros big s out n e = by_size _ out (replicate n 0) (sym e ∙ sym (length-replicate {A = ℕ} n 0))
-
-pub printed : (big : Bool) (s out after : Bytes) (r : Answered) → buffer_size ≡ length out → outcome_of r.number r.length after ≡ import_outcome_in big s out → r.number ≡ printed_number big s
-unfolding printed_number
-printed big s out after r e h = ap (λ (o : Outcome). o.number) h ∙ zeros big s out buffer_size e
+pub text_known : {T E : Type 0} (r : Result T E) (x y : Option (List ℕ)) (a b : Bytes) → a ≡ b → OnOk r (Appends x y a) → OnOk r (Appends x y b)
+text_known r x y a b e p = subst (λ (l : Bytes). OnOk r (Appends x y l)) e p

@@ -1,5 +1,6 @@
 -- The window that moves along a text: where it may stand, and what refilling it keeps and leaves. Assumes nothing.
-use Rattle.std.specs.Prelude.{◌≡◌, false, ℕ, ◌+◌, ◌-◌, ◌*◌, ◌≤◌, min, length, take, drop}
+use Rattle.std.specs.Prelude.{◌≡◌, false, ℕ, List, Option, ◌++◌, ◌+◌, ◌-◌, ◌*◌, ◌≤◌, min, length, take, drop}
+use Rattle.std.specs.Io.KnownBytes.{Consumes}
 use Rattle.sheets.specs.Bytes.{Bytes}
 use Rattle.recorded_list.specs.declared.window.Window.{Window}
 
@@ -23,3 +24,13 @@ pub record Refilled (before : Bytes) (w : Window) (after : Bytes) (r : Window) :
   pub most : w.end - w.at ≤ r.end - r.at
   pub kept : take (w.end - w.at) (drop r.at after) ≡ take (w.end - w.at) (drop w.at before)
   pub enough : r.ended ≡ false → min longest_record (length after) ≤ r.end - r.at
+
+-- what is still to be read in the window
+abbrev pub still : Window → Bytes → Bytes
+still w text = take (w.end - w.at) (drop w.at text)
+
+-- what an input gave, where that is known, stands behind what was still to be read
+pub record ReadsBehind (given left : Option (List ℕ)) (before after : Bytes) : Type 0 where
+  pub more : Bytes
+  pub behind : after ≡ before ++ more
+  pub taken : Consumes given left more

@@ -1,6 +1,7 @@
 // A window on an input, which moves along it: always a whole record's text, as long as there is one.
-ghost use Rattle.std.specs.Prelude.{◌≡◌, ◌+◌, ◌≤◌, length, take, drop, IfOk, OnErr};
-ghost use Rattle.recorded_list.specs.Moving.{Within, Refilled};
+ghost use Rattle.std.specs.Prelude.{◌≡◌, ◌+◌, ◌≤◌, true, false, length, take, drop, IfOk, OnErr};
+ghost use Rattle.std.specs.Io.KnownBytes.{IsAtEnd};
+ghost use Rattle.recorded_list.specs.Moving.{still, ReadsBehind, Within, Refilled};
 
 use std::io;
 use std::io::Read;
@@ -31,10 +32,12 @@ fn move_down(text: &mut [u8], at: usize, n: usize)
     }
 }
 
-// Reads on if less than the longest record is left. After a read that failed the text has its length; what was still to be read is not promised.
+// Reads on if less than the longest record is left: what the input gave stands behind what was still to be read. After a read that failed the text has its length; what was still to be read is not promised.
 pub fn refill<R: Read>(source: &mut R, text: &mut [u8], w: Window) -> io::Result<Window>
     requires { Within w (length text.old) }
     ensures ok { IfOk result (λ r. Refilled text.old w text.new r) }
+    ensures read { IfOk result (λ r. ReadsBehind (R.remaining source.old) (R.remaining source.new) (still w text.old) (still r text.new)) }
+    ensures last { IfOk result (λ r. r.ended ≡ true → w.ended ≡ false → IsAtEnd (R.remaining source.new)) }
     ensures err { OnErr result (length text.new ≡ length text.old) }
 {
     if w.ended {

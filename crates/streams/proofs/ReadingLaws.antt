@@ -1,5 +1,5 @@
 -- What two reads took from an input, one after the other, and where the second one put it. Assumes nothing.
-use Rattle.std.proofs.Common.{◌≡◌, ℕ, ◌+◌, ◌-◌, ◌≤◌, List, ◌++◌, None, Some, arith, length, take, slice_range, sym, ap, ◌∙◌, subst, le_refl, drop_at, length-take-le, append_assoc}
+use Rattle.std.proofs.Common.{◌≡◌, ℕ, ◌+◌, ◌-◌, ◌≤◌, List, [], ◌++◌, None, Some, arith, length, take, slice_range, refl, sym, ap, ◌∙◌, subst, le_refl, drop_at, length-take-le, append_assoc}
 use Rattle.std.proofs.lemmas.Slice.{take-put_mid_below}
 use Rattle.std.specs.Io.KnownBytes.{Consumes}
 use Rattle.std.specs.Prelude.{Option}
@@ -23,8 +23,17 @@ part a k n xs ys within fits =
     let after = post_of a k xs in
     ap (take ((a + n) - a)) (drop_at (take a xs) (ys ++ after) a (length-take-le a xs within)) ∙ ap (λ m. take m (ys ++ after)) same ∙ take-append-le n ys after fits
 
+pub nothing : (a : Option (List ℕ)) → Consumes a a []
+nothing None = tt
+nothing (Some x) = refl
+
+-- the front of the text, and behind it what was read
+pub behind : (from k n : ℕ) (xs ys : List ℕ) → from ≤ length xs → n ≤ length ys → take (from + n) (put_mid from k xs ys) ≡ take from xs ++ take n ys
+behind from k n xs ys within fits =
+    let joined = split from (from + n) xs (put_mid from k xs ys) (omega arith) (take-put_mid_below _ _ _ _ _ (le_refl _) within) in
+    sym (ap (λ l. take from xs ++ l) (sym (part from k n xs ys within fits)) ∙ joined)
+
 -- the front of the text grows by what was read behind it
 pub read_on : (a b c : Option (List ℕ)) (from k n : ℕ) (xs ys : List ℕ) → from ≤ length xs → n ≤ length ys → Consumes a b (take from xs) → Consumes b c (take n ys) → Consumes a c (take (from + n) (put_mid from k xs ys))
 read_on a b c from k n xs ys within fits before now =
-    let joined = split from (from + n) xs (put_mid from k xs ys) (omega arith) (take-put_mid_below _ _ _ _ _ (le_refl _) within) in
-    subst (Consumes a c) (ap (λ l. take from xs ++ l) (sym (part from k n xs ys within fits)) ∙ joined) (both a b c _ _ before now)
+    subst (Consumes a c) (sym (behind from k n xs ys within fits)) (both a b c _ _ before now)
