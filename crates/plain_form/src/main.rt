@@ -6,7 +6,7 @@ use std::io;
 // More than any answer has: 83,739 bytes at most (crates/rooms).
 const ROOM: usize = 524288;
 
-fn main(rt: HostRuntime) -> io::Result<()> {
+fn print_plain_form(rt: &HostRuntime) -> io::Result<()> {
     // One byte more than a sheet may have, so that a longer input is known as such, however long it is.
     let mut sheet = [0u8; streams::SHEET_ROOM];
     let n = streams::read_full(&mut rt.stdin(), &mut sheet)?;
@@ -14,4 +14,8 @@ fn main(rt: HostRuntime) -> io::Result<()> {
     let answer = field_calls::plain_form(&sheet[..n], &mut out);
     print_answer::print_answer(&mut rt.stdout(), &mut rt.stderr(), &out, answer)?;
     Ok(())
+}
+
+fn main(rt: HostRuntime) -> io::Result<()> {
+    print_plain_form(&rt)
 }
