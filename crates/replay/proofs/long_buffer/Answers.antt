@@ -1,6 +1,5 @@
--- `long_buffer` has so many zeros. Assumes nothing.
-use mathlib.Core.Path.{sym}
-use Prim.Native.Nat.{ℕ}
+-- `long_buffer` meets its contract: as many zeros as its length says. Assumes nothing.
+use Rattle.std.proofs.Common.{sym, ℕ}
 use lib.ListN.{length-replicate}
 use Rattle.replay.specs.Turns.{longest_buffer}
 use Rattle.replay.proofs.long_buffer.Goals as goal
