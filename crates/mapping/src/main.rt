@@ -1,6 +1,6 @@
 // Maps the type of a field: `mapping CALL [INDEX]`. CALL is a mapping or a conversion by its name in the Rust, INDEX the place of `get_child`'s child or
 // that of a conversion. A mapping reads a field sheet on standard input, a conversion reads nothing. Prints the sheet, the two places of a physical type,
-// `yes` or `no`, or `refused N`. Arguments that ask nothing get one line on standard error; a program of the kit has no status of its own.
+// `yes` or `no`, or `refused N`. Arguments that ask nothing get one line on standard error; the status tells only of a read or a write that failed.
 #![tactic(auto)]
 
 mod call;
