@@ -10,6 +10,11 @@ use std::io::Write;
 // More than any answer of a step has: 315,276 bytes of export at most (crates/rooms).
 const ROOM: usize = 524288;
 
+// A buffer for the answer of a step. Its length is all that is told of it: its bytes are written before they are read.
+fn answer_buffer() -> [u8; ROOM] {
+    [0; ROOM]
+}
+
 fn print_refused(rt: &HostRuntime, step: &[u8], number: u8) -> io::Result<()> {
     let mut out = rt.stdout();
     out.write_all(step)?;
@@ -41,10 +46,10 @@ fn main(rt: HostRuntime) -> io::Result<()> {
     // One byte more than a sheet may have, so that a longer input is known as such, however long it is.
     let mut sheet = [0u8; streams::SHEET_ROOM];
     let n = streams::read_full(&mut rt.stdin(), &mut sheet)?;
-    let mut exported = [0u8; ROOM];
-    let mut imported = [0u8; ROOM];
-    let mut plain = [0u8; ROOM];
-    let mut again = [0u8; ROOM];
+    let mut exported = answer_buffer();
+    let mut imported = answer_buffer();
+    let mut plain = answer_buffer();
+    let mut again = answer_buffer();
     let trip = round_trips::round_trip(
         &sheet[..n],
         false,
