@@ -10,6 +10,11 @@ use std::io::Write;
 // More than any answer has: 315,276 bytes of export at most (crates/rooms).
 const ROOM: usize = 524288;
 
+// A buffer for the answer. Its length is all that is told of it: its bytes are written before they are read.
+fn answer_buffer() -> [u8; ROOM] {
+    [0; ROOM]
+}
+
 // By the first argument.
 fn asked_strict<E: Env>(env: &E) -> bool {
     let mut word = [0u8; streams::LONGEST_WORD];
@@ -29,7 +34,7 @@ fn print_export(rt: &HostRuntime, strict: bool, big: bool) -> io::Result<()> {
     // One byte more than a sheet may have, so that a longer input is known as such, however long it is.
     let mut sheet = [0u8; streams::SHEET_ROOM];
     let n = streams::read_full(&mut rt.stdin(), &mut sheet)?;
-    let mut out = [0u8; ROOM];
+    let mut out = answer_buffer();
     let answer = field_calls::export_as(&sheet[..n], strict, big, &mut out);
     print_answer::print_answer(&mut rt.stdout(), &mut rt.stderr(), &out, answer)?;
     Ok(())
