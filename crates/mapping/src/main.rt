@@ -3,11 +3,11 @@
 // `yes` or `no`, or `refused N`. Arguments that ask nothing get one line on standard error; the status tells only of a read or a write that failed.
 #![tactic(auto)]
 
+mod arguments;
 mod call;
-mod words;
 
+use crate::arguments::Asked;
 use crate::call::Call;
-use crate::words::Asked;
 use mapping_calls::YesNo;
 use mapping_calls::physical::PhysicalPlaces;
 use outcome::Answered;
@@ -81,7 +81,7 @@ fn print_read(rt: &HostRuntime, call: Call, index: u64) -> io::Result<()> {
 }
 
 fn main(rt: HostRuntime) -> io::Result<()> {
-    let Asked::Is(call, index) = words::ask_words(&rt, &mut rt.stderr())? else {
+    let Asked::Is(call, index) = arguments::ask_words(&rt, &mut rt.stderr())? else {
         return Ok(());
     };
     if call::reads_sheet(call) {
