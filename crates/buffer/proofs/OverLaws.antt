@@ -62,6 +62,13 @@ over_min [] out = rw zero-min
 over_min (b ∷ s) [] = rw min-zero
 over_min (b ∷ s) (o ∷ out) = rw suc-min-suc (ap (λ (l : Bytes). b ∷ l) (over_min s out))
 
+-- what fits, then what the buffer held
+pub over_parts : (s out : Bytes) → take (min (length s) (length out)) s ++ drop (min (length s) (length out)) out ≡ over s out
+unfolding over
+over_parts [] out = rw zero-min
+over_parts (b ∷ s) [] = rw min-zero
+over_parts (b ∷ s) (o ∷ out) = rw suc-min-suc (ap (λ (l : Bytes). b ∷ l) (over_parts s out))
+
 -- a text over a longer one: what stands after it is left
 over_over : (s t out : Bytes) → length s ≤ length t → over s (over t out) ≡ over (s ++ drop (length s) t) out
 unfolding over

@@ -24,9 +24,7 @@ pub fn put(out: &mut [u8], s: &[u8])
     ensures { out.new ≡ over s.now out.old }
 {
     let n = within(s.len(), out.len());
-    for i in 0..n {
-        out[i] = s[i];
-    }
+    out[..n].copy_from_slice(&s[..n]);
 }
 
 // Writes s from place at on, as much as fits; the place after it.
@@ -57,22 +55,12 @@ pub fn put_byte(out: &mut [u8], at: usize, b: u8) -> usize
 pub fn clear(out: &mut [u8])
     ensures { out.new ≡ replicate (length out.old) 0 }
 {
-    for i in 0..out.len() {
-        out[i] = 0;
-    }
+    out.fill(0);
 }
 
 // Whether a and b are the same bytes.
 pub fn same(a: &[u8], b: &[u8]) -> bool
     ensures { result ≡ same a.now b.now }
 {
-    if a.len() != b.len() {
-        return false;
-    }
-    for i in 0..a.len() {
-        if a[i] != b[i] {
-            return false;
-        }
-    }
-    true
+    a == b
 }

@@ -1,20 +1,23 @@
 -- The comparison of two byte strings at a place that they agree up to: the bytes there decide, one at a time or, read as one number in
 -- big-endian order, four at a time. Assumes nothing.
-use mathlib.Core.Path.{◌≡◌, refl, sym, ap, ◌∙◌}
-use mathlib.Core.Bool.{Bool, true, false}
+use mathlib.Core.Path.{◌≡◌, refl, sym, ap, ap₂, ◌∙◌}
+use mathlib.Core.Bool.{Bool, true, false, cond, ◌&&◌, ◌||◌}
 use mathlib.Core.List.{[], ◌∷◌}
 use mathlib.Core.Logic.{◌⊎◌, inl, inr, ⊎_elim}
-use Prim.Native.Nat.{ℕ, zero, suc, ◌+◌, ◌*◌, ◌≤◌, ◌<◌}
+use Prim.Native.Nat.{ℕ, zero, suc, ◌+◌, ◌-◌, ◌*◌, ◌≤◌, ◌<◌}
 use native.Mathlib.Omega.{arith}
 use native.Mathlib.Numerals.{add-one}
-use lib.Dec.{ltb}
-use lib.ListN.{length, get_or, take, drop, drop_of_length-le}
-use lib.Seq.{drop-cons}
-use borrow.Author.Tests.{lt-ltb, le-ltb, ltb-true, ltb-false, eq-eqb, ne_eqb}
+use lib.Dec.{ltb, eqb}
+use lib.ListN.{length, get_or, take, drop, length-drop}
+use native.Mathlib.Nat.{le_of_eq}
+use lib.Seq.{drop-cons, take_all}
+use borrow.Author.Tests.{lt-ltb, le-ltb, ltb-true, ltb-false, eq-eqb, ne_eqb, eqb-true}
+use Rattle.std.specs.Ordering.{is_lt, nat_cmp, ordering_then}
+use Rattle.std.specs.Cmp.Lexicographic.{slice_cmp}
 use Rattle.sheets.specs.Bytes.{Bytes, same}
 use Rattle.sheets.specs.Field.{before}
-use Rattle.byte_order.specs.declared.Ordering.{Ordering}
-use Rattle.byte_order.specs.declared.Ordering.TheVariants.{Less, Equal, Greater}
+use Rattle.std.specs.declared.cmp.Ordering.{Ordering}
+use Rattle.std.specs.declared.cmp.Ordering.TheVariants.{Less, Equal, Greater}
 use Rattle.byte_order.specs.Compare.{ordering, ordering_answer, Word}
 use Rattle.sheets.proofs.OrderLaws.{connected}
 
@@ -25,18 +28,24 @@ module _ (a b : Bytes) (r : Ordering) (e : ordering_answer r ≡ ordering a b) w
   unfolding ordering
   stand o h = sym e ∙ ap ordering_answer h
 
-  -- what a case says of the first
-  pub comes_before : (o : Ordering) → r ≡ o → before a b ≡ (ordering_answer o).0
-  comes_before o h = ap (λ (p : Bool × Bool). p.0) (stand o h)
-
   pub is_less : r ≡ Less → before a b ≡ true
-  is_less h = comes_before Less h
+  is_less h = ap (λ (p : Bool × Bool). p.0) (stand Less h)
 
   pub is_equal : r ≡ Equal → same a b ≡ true
   is_equal h = ap (λ (p : Bool × Bool). p.1) (stand Equal h)
 
   pub is_greater : r ≡ Greater → before b a ≡ true
-  is_greater h = connected a b (comes_before Greater h) (ap (λ (p : Bool × Bool). p.1) (stand Greater h))
+  is_greater h = connected a b (ap (λ (p : Bool × Bool). p.0) (stand Greater h)) (ap (λ (p : Bool × Bool). p.1) (stand Greater h))
+
+less_first : (r : Ordering) → (ordering_answer r).0 ≡ is_lt r
+less_first Less = refl
+less_first Equal = refl
+less_first Greater = refl
+
+-- what the case Less says of the first
+pub comes_before : (a b : Bytes) (r : Ordering) → ordering_answer r ≡ ordering a b → before a b ≡ is_lt r
+unfolding ordering
+comes_before a b r e = ap (λ (p : Bool × Bool). p.0) (sym e) ∙ less_first r
 
 -- ── by first bytes
 
@@ -61,30 +70,30 @@ after_same (suc n) [] (y ∷ b) e = absurd (omega (arith, ap length e))
 after_same (suc n) (x ∷ a) [] e = absurd (omega (arith, ap length e))
 after_same (suc n) (x ∷ a) (y ∷ b) e = cons_same x y a b (ap (λ (l : Bytes). get_or l 0 0) e) ∙ after_same n a b (ap (drop 1) e)
 
--- ── at a place, byte by byte
+-- ── as std compares
 
-module _ (a b : Bytes) (i : ℕ) where
-  pub no_more_b : i < length a → length b ≤ i → ordering (drop i a) (drop i b) ≡ ordering_answer Greater
-  unfolding ordering
-  no_more_b h k = rw (drop-cons a i 0 h, drop_of_length-le b k)
+std_step : (x y : ℕ) (o : Ordering) → ordering_answer (ordering_then (nat_cmp x y) o) ≡ (ltb x y || (eqb x y && (ordering_answer o).0), eqb x y && (ordering_answer o).1)
+std_step x y o = go (ltb x y) (eqb x y) refl refl
+  where
+    go : (t u : Bool) → ltb x y ≡ t → eqb x y ≡ u → ordering_answer (ordering_then (cond t Less (cond u Equal Greater)) o) ≡ (t || (u && (ordering_answer o).0), u && (ordering_answer o).1)
+    go true true e f = absurd (omega (arith, ltb-true x y e, eqb-true x y f))
+    go true false e f = refl
+    go false true e f = refl
+    go false false e f = refl
 
-  pub no_more_a : length a ≤ i → i < length b → ordering (drop i a) (drop i b) ≡ ordering_answer Less
-  unfolding ordering
-  no_more_a h k = rw (drop_of_length-le a h, drop-cons b i 0 k)
+pub as_std : (a b : Bytes) → ordering_answer (slice_cmp nat_cmp a b) ≡ ordering a b
+unfolding ordering
+as_std [] [] = refl
+as_std [] (y ∷ b) = refl
+as_std (x ∷ a) [] = refl
+as_std (x ∷ a) (y ∷ b) = std_step x y (slice_cmp nat_cmp a b) ∙ ap (λ (p : Bool × Bool). (ltb x y || (eqb x y && p.0), eqb x y && p.1)) (as_std a b)
 
-  pub no_more : length a ≤ i → length b ≤ i → ordering (drop i a) (drop i b) ≡ ordering_answer Equal
-  unfolding ordering
-  no_more h k = rw (drop_of_length-le a h, drop_of_length-le b k)
-
-  module _ (h : i < length a) (k : i < length b) where
-    pub smaller : get_or a i 0 < get_or b i 0 → ordering (drop i a) (drop i b) ≡ ordering_answer Less
-    smaller l = rw (drop-cons a i 0 h, drop-cons b i 0 k) (cons_less (get_or a i 0) (get_or b i 0) (drop (suc i) a) (drop (suc i) b) l)
-
-    pub greater : get_or b i 0 < get_or a i 0 → ordering (drop i a) (drop i b) ≡ ordering_answer Greater
-    greater l = rw (drop-cons a i 0 h, drop-cons b i 0 k) (cons_greater (get_or a i 0) (get_or b i 0) (drop (suc i) a) (drop (suc i) b) l)
-
-    pub next : get_or a i 0 ≤ get_or b i 0 → get_or b i 0 ≤ get_or a i 0 → ordering (drop i a) (drop i b) ≡ ordering (drop (i + 1) a) (drop (i + 1) b)
-    next l m = rw (add-one, drop-cons a i 0 h, drop-cons b i 0 k) (cons_same (get_or a i 0) (get_or b i 0) (drop (suc i) a) (drop (suc i) b) (omega arith))
+-- what is lent from a place on
+pub rests : (a b : Bytes) (i : ℕ) → ordering (take (length a - i) (drop i a)) (take (length b - i) (drop i b)) ≡ ordering (drop i a) (drop i b)
+rests a b i = ap₂ ordering (all a) (all b)
+  where
+    all : (s : Bytes) → take (length s - i) (drop i s) ≡ drop i s
+    all s = take_all (length s - i) (drop i s) (le_of_eq (length-drop i s))
 
 -- ── four bytes at a time
 
@@ -138,7 +147,7 @@ four s i h =
     one j k e l = rw (← e, add-one) (drop-cons s j 0 l)
 
 module _ (a b : Bytes) (i v w : ℕ) (h : i + 4 ≤ length a) (k : i + 4 ≤ length b) (p : Word a i v) (q : Word b i w) where
-  pub words_less : v < w → ordering (drop i a) (drop i b) ≡ ordering_answer Less
+  words_less : v < w → ordering (drop i a) (drop i b) ≡ ordering_answer Less
   words_less l =
       let e = p.value in
       let f = q.value in
@@ -146,7 +155,7 @@ module _ (a b : Bytes) (i v w : ℕ) (h : i + 4 ≤ length a) (k : i + 4 ≤ len
       (four_less (get_or a i 0) (get_or a (i + 1) 0) (get_or a (i + 2) 0) (get_or a (i + 3) 0) (get_or b i 0) (get_or b (i + 1) 0) (get_or b (i + 2) 0) (get_or b (i + 3) 0) (drop (i + 4) a) (drop (i + 4) b)
       p.second p.third p.fourth q.second q.third q.fourth (omega arith))
 
-  pub words_greater : w < v → ordering (drop i a) (drop i b) ≡ ordering_answer Greater
+  words_greater : w < v → ordering (drop i a) (drop i b) ≡ ordering_answer Greater
   words_greater l =
       let e = p.value in
       let f = q.value in
@@ -154,8 +163,16 @@ module _ (a b : Bytes) (i v w : ℕ) (h : i + 4 ≤ length a) (k : i + 4 ≤ len
       (four_greater (get_or a i 0) (get_or a (i + 1) 0) (get_or a (i + 2) 0) (get_or a (i + 3) 0) (get_or b i 0) (get_or b (i + 1) 0) (get_or b (i + 2) 0) (get_or b (i + 3) 0) (drop (i + 4) a) (drop (i + 4) b)
       p.second p.third p.fourth q.second q.third q.fourth (omega arith))
 
-  pub words_same : v ≤ w → w ≤ v → ordering (drop i a) (drop i b) ≡ ordering (drop (i + 4) a) (drop (i + 4) b)
-  words_same l m =
+  -- two words that differ decide
+  pub words_decide : (v ≡ w → ⊥) → ordering (drop i a) (drop i b) ≡ ordering_answer (nat_cmp v w)
+  words_decide ne = go (ltb v w) refl
+    where
+      go : (t : Bool) → ltb v w ≡ t → ordering (drop i a) (drop i b) ≡ ordering_answer (nat_cmp v w)
+      go true e = let l = ltb-true v w e in rw (lt-ltb v w l) (words_less l)
+      go false e = let l = ltb-false v w e in rw (le-ltb v w l, ne_eqb v w ne) (words_greater (omega arith))
+
+  pub words_same : v ≡ w → ordering (drop i a) (drop i b) ≡ ordering (drop (i + 4) a) (drop (i + 4) b)
+  words_same g =
       let e = p.value in
       let f = q.value in
       rw (four a i h, four b i k)

@@ -1,6 +1,5 @@
 -- A text's column of a field line: "Texts are lowercase hexadecimal pairs; `-` is empty", `~` is None. Assumes nothing.
-use Rattle.std.specs.Prelude.{◌≡◌, Bool, not, ◌<◌, length}
-use Rattle.std.proofs.Math.Option.{Option, none}
+use Rattle.std.specs.Prelude.{◌≡◌, Bool, not, ◌<◌, length, Option, None}
 use Rattle.sheets.specs.Rule.{passes, Meets}
 use Rattle.sheets.specs.Bytes.{Bytes, lacks}
 use Rattle.sheets.specs.Text.{write_text, read_text}
@@ -9,7 +8,7 @@ use Rattle.hexadecimal.specs.Hex.{given_or}
 
 -- what the column says
 unfoldable pub column_text : Bytes → Option Bytes
-column_text column = given_or none (read_text column)
+column_text column = given_or None (read_text column)
 
 -- a column that a field may have; no column is longer than a sheet
 pub record TextColumn (column : Bytes) : Type 0 where

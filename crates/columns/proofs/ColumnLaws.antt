@@ -3,7 +3,7 @@
 use mathlib.Core.Path.{◌≡◌, refl, sym, ap, ap₂, subst, ◌∙◌}
 use mathlib.Core.Bool.{Bool, true, false, ◌&&◌, ◌||◌, not, cond, and-true, and_assoc}
 use mathlib.Core.List.{[], ◌∷◌, ◌++◌}
-use mathlib.Core.Option.{none, some}
+use Rattle.std.specs.Prelude.{None, Some}
 use Prim.Native.Nat.{ℕ, zero, suc, ◌+◌, ◌-◌, ◌≤◌, ◌<◌, min}
 use native.Mathlib.Numerals.{add-one}
 use native.Mathlib.Omega.{arith}
@@ -195,24 +195,24 @@ module _ {s : Bytes} {a e stop : ℕ} (c : ColumnAt s a e stop) where
 -- ── where a column ends
 
 module _ (stop : ℕ) (s : Bytes) (a : ℕ) where
-  pub end_none : length s ≤ stop_from s a → column_end stop s a ≡ none
+  pub end_none : length s ≤ stop_from s a → column_end stop s a ≡ None
   unfolding column_end
   end_none h = rw (le-ltb (stop_from s a) (length s) h)
 
   module _ (h : stop_from s a < length s) where
-    pub end_other : (get_or s (stop_from s a) 0 ≡ stop → ⊥) → column_end stop s a ≡ none
+    pub end_other : (get_or s (stop_from s a) 0 ≡ stop → ⊥) → column_end stop s a ≡ None
     unfolding column_end
     end_other k = rw (lt-ltb (stop_from s a) (length s) h, ne_eqb (get_or s (stop_from s a) 0) stop k)
 
-    pub end_there : get_or s (stop_from s a) 0 ≡ stop → column_end stop s a ≡ some (stop_from s a)
+    pub end_there : get_or s (stop_from s a) 0 ≡ stop → column_end stop s a ≡ Some (stop_from s a)
     unfolding column_end
     end_there k = rw (lt-ltb (stop_from s a) (length s) h, eq-eqb (get_or s (stop_from s a) 0) stop k)
 
-  pub column_there : (e : ℕ) → column_end stop s a ≡ some e → ColumnAt s a e stop
+  pub column_there : (e : ℕ) → column_end stop s a ≡ Some e → ColumnAt s a e stop
   unfolding column_end
   column_there e h = pick (ltb (stop_from s a) (length s)) (eqb (get_or s (stop_from s a) 0) stop) refl refl h
     where
-      pick : (t u : Bool) → ltb (stop_from s a) (length s) ≡ t → eqb (get_or s (stop_from s a) 0) stop ≡ u → cond (t && u) (some (stop_from s a)) none ≡ some e → ColumnAt s a e stop
+      pick : (t u : Bool) → ltb (stop_from s a) (length s) ≡ t → eqb (get_or s (stop_from s a) 0) stop ≡ u → cond (t && u) (Some (stop_from s a)) None ≡ Some e → ColumnAt s a e stop
       pick true true l k q =
           let same : stop_from s a ≡ e = cc in
           subst (λ (i : ℕ). ColumnAt s a i stop) same (column_here s a (stop_from s a) stop refl (ltb-true (stop_from s a) (length s) l) (eqb-true (get_or s (stop_from s a) 0) stop k))
@@ -220,7 +220,7 @@ module _ (stop : ℕ) (s : Bytes) (a : ℕ) where
       pick false u l k q = not_some q
 
 -- there is no other
-pub column_same : {s : Bytes} {a e stop : ℕ} → is_stop stop ≡ true → ColumnAt s a e stop → column_end stop s a ≡ some e
+pub column_same : {s : Bytes} {a e stop : ℕ} → is_stop stop ≡ true → ColumnAt s a e stop → column_end stop s a ≡ Some e
 column_same {s} {a} {e} {stop} is c =
     let n : e ≡ stop_from s a = column_end_lem c is in
-    end_there stop s a (omega (arith, c.high)) (ap (λ (i : ℕ). get_or s i 0) (sym n) ∙ column_stop c) ∙ ap some (sym n)
+    end_there stop s a (omega (arith, c.high)) (ap (λ (i : ℕ). get_or s i 0) (sym n) ∙ column_stop c) ∙ ap Some (sym n)

@@ -2,7 +2,7 @@
 -- there, for callers that compare with one: what is not read at the column's end is read nowhere, since a column has one end. Assumes nothing.
 use mathlib.Core.Path.{◌≡◌, sym, subst, ◌∙◌}
 use mathlib.Core.Bool.{true}
-use mathlib.Core.Option.{none, some}
+use Rattle.std.specs.Prelude.{None, Some}
 use Prim.Native.Nat.{ℕ, ◌^◌, ◌<◌}
 use lib.IntN.{ℤ}
 use lib.Signed.{mag}
@@ -19,15 +19,15 @@ use Rattle.columns.specs.NumberColumns.{number_in, signed_in}
 use Rattle.columns.proofs.ColumnLaws.{column_there, column_same}
 
 module _ (stop : ℕ) (s : Bytes) (a : ℕ) where
-  pub number_none : column_end stop s a ≡ none → number_in stop s a ≡ refused bad_lines
+  pub number_none : column_end stop s a ≡ None → number_in stop s a ≡ refused bad_lines
   unfolding number_in
   number_none h = rw h
 
-  pub signed_none : column_end stop s a ≡ none → signed_in stop s a ≡ refused bad_lines
+  pub signed_none : column_end stop s a ≡ None → signed_in stop s a ≡ refused bad_lines
   unfolding signed_in
   signed_none h = rw h
 
-  module _ (e : ℕ) (h : column_end stop s a ≡ some e) where
+  module _ (e : ℕ) (h : column_end stop s a ≡ Some e) where
     pub number_bad : column_below (2 ^ 64) (part s a e) ≡ refused bad_lines → number_in stop s a ≡ refused bad_lines
     unfolding number_in
     number_bad k = rw h (rw k)

@@ -3,7 +3,7 @@
 use mathlib.Core.Path.{◌≡◌, refl, sym, ap, ap₂, subst, ◌∙◌}
 use mathlib.Core.Bool.{Bool, true, ◌&&◌}
 use mathlib.Core.List.{[], ◌∷◌, ◌++◌}
-use mathlib.Core.Option.{Option, none, some}
+use Rattle.std.specs.Prelude.{Option, None, Some}
 use Prim.Native.Nat.{ℕ, suc, ◌+◌, ◌-◌, ◌≤◌, ◌<◌}
 use native.Mathlib.Numerals.{add-one}
 use native.Mathlib.Omega.{arith}
@@ -38,7 +38,7 @@ space_stops (x ∷ r) = refl
 -- the bytes of a column of pairs
 pub record Ascii (c : Bytes) : Type 0 where
   pub bytes : Bytes
-  pub reads : read_text c ≡ given (some bytes)
+  pub reads : read_text c ≡ given (Some bytes)
   pub utf8 : is_utf8 bytes ≡ true
   pub some : Meets (lacks 0 bytes)
   pub spaces : Meets (lacks 32 c)
@@ -68,8 +68,8 @@ unfolding is_cstring
 ascii_c_string c h = let a = ascii_column c h in rw a.reads (passing (lacks 0 a.bytes) a.some)
 
 -- what holds of every column of pairs holds of this one
-pub pairs_hold : (f : Bytes → Bool) (s : Bytes) (a e : ℕ) → ((c : Bytes) → are_pairs c ≡ true → f c ≡ true) → some e ≡ column_of are_pairs 32 s a → some e ≡ column_of f 32 s a
-pairs_hold f s a e all h = let k = finds are_pairs s a 32 refl (some e) h in sym (column_is f refl k.0 (all (part s a e) k.1))
+pub pairs_hold : (f : Bytes → Bool) (s : Bytes) (a e : ℕ) → ((c : Bytes) → are_pairs c ≡ true → f c ≡ true) → Some e ≡ column_of are_pairs 32 s a → Some e ≡ column_of f 32 s a
+pairs_hold f s a e all h = let k = finds are_pairs s a 32 refl (Some e) h in sym (column_is f refl k.0 (all (part s a e) k.1))
 
 -- ── where they end
 
@@ -81,36 +81,36 @@ module _ (s : Bytes) (a : ℕ) where
     high : e < length s
     stops : get_or s e 0 ≡ 32
 
-  column_pairs : (e : ℕ) → some e ≡ column_of are_pairs 32 s a → Ends e
+  column_pairs : (e : ℕ) → Some e ≡ column_of are_pairs 32 s a → Ends e
   unfolding are_pairs
   column_pairs e h =
-      let f = finds are_pairs s a 32 refl (some e) h in
+      let f = finds are_pairs s a 32 refl (Some e) h in
       let size : 0 < length (part s a e) = ltb-true 0 (length (part s a e)) (and_left (ltb 0 (length (part s a e))) (passes (pairs (part s a e))) f.1) in
       let are : Meets (pairs (part s a e)) = meets (pairs (part s a e)) (and_right (ltb 0 (length (part s a e))) (passes (pairs (part s a e))) f.1) in
       let n : pairs_length (drop a s) ≡ length (part s a e) + 0 = ap pairs_length f.0.is ∙ pairs_on (part s a e) (32 ∷ drop (e + 1) s) are ∙ ap (λ (m : ℕ). length (part s a e) + m) (space_stops (drop (e + 1) s)) in
       record { is = omega (arith, n, column_size f.0, f.0.low); low = omega (arith, size, column_size f.0, f.0.low); high = f.0.high; stops = column_stop f.0 }
 
-  no_column : ((e : ℕ) → Ends e → ⊥) → none ≡ column_of are_pairs 32 s a
+  no_column : ((e : ℕ) → Ends e → ⊥) → None ≡ column_of are_pairs 32 s a
   no_column h = pick (column_of are_pairs 32 s a) refl
     where
-      pick : (o : Option ℕ) → o ≡ column_of are_pairs 32 s a → none ≡ column_of are_pairs 32 s a
-      pick none e = e
-      pick (some e) f = absurd (h e (column_pairs e f))
+      pick : (o : Option ℕ) → o ≡ column_of are_pairs 32 s a → None ≡ column_of are_pairs 32 s a
+      pick None e = e
+      pick (Some e) f = absurd (h e (column_pairs e f))
 
-  pub pairs_past : length s ≤ a → none ≡ column_of are_pairs 32 s a
+  pub pairs_past : length s ≤ a → None ≡ column_of are_pairs 32 s a
   pairs_past h = no_column (λ e k. omega (arith, k.low, k.high))
 
   module _ (e : ℕ) (is : e ≡ pairs_from s a) where
-    pub pairs_last : length s ≤ e → none ≡ column_of are_pairs 32 s a
+    pub pairs_last : length s ≤ e → None ≡ column_of are_pairs 32 s a
     pairs_last h = no_column (λ i k. omega (arith, is, k.is, k.high))
 
-    pub pairs_other : (get_or s e 0 ≡ 32 → ⊥) → none ≡ column_of are_pairs 32 s a
+    pub pairs_other : (get_or s e 0 ≡ 32 → ⊥) → None ≡ column_of are_pairs 32 s a
     pairs_other h = no_column (λ i k. h (ap (λ (j : ℕ). get_or s j 0) (is ∙ sym k.is) ∙ k.stops))
 
-    pub pairs_none : e ≡ a → none ≡ column_of are_pairs 32 s a
+    pub pairs_none : e ≡ a → None ≡ column_of are_pairs 32 s a
     pairs_none h = no_column (λ i k. omega (arith, is, k.is, k.low))
 
-    pub pairs_column_lem : (e ≡ a → ⊥) → e < length s → get_or s e 0 ≡ 32 → some e ≡ column_of are_pairs 32 s a
+    pub pairs_column_lem : (e ≡ a → ⊥) → e < length s → get_or s e 0 ≡ 32 → Some e ≡ column_of are_pairs 32 s a
     unfolding are_pairs
     pairs_column_lem other high stop =
         let low : a < e = omega (arith, is, other) in

@@ -2,7 +2,7 @@
 use mathlib.Core.Path.{◌≡◌, refl, sym, ap, ap₂, ◌∙◌}
 use mathlib.Core.Bool.{Bool, true, false, ◌&&◌, ◌||◌, not, cond, true≢false, and-true, and-false, and_assoc}
 use mathlib.Core.List.{[], ◌∷◌}
-use mathlib.Core.Option.{Option, none, some}
+use Rattle.std.specs.Prelude.{Option, None, Some}
 use Prim.Native.Nat.{ℕ, zero, suc, ◌+◌, ◌-◌, ◌*◌, ◌/◌, ◌≤◌, ◌<◌}
 use native.Mathlib.Numerals.{add-one}
 use native.Mathlib.Omega.{arith}
@@ -39,7 +39,7 @@ text_some (c ∷ s) h = omega arith
 
 -- a column of one byte that is `~`, or is `-`, or is neither
 abbrev marked : Bool → Bool → Answer (Option Bytes)
-marked t u = cond (t && true) (given none) (cond (u && true) (given (some [])) (refused bad_lines))
+marked t u = cond (t && true) (given None) (cond (u && true) (given (Some [])) (refused bad_lines))
 
 marked_gives : (t u : Bool) → gives (marked t u) ≡ (t || u)
 marked_gives true u = refl
@@ -63,17 +63,17 @@ text_one [] h = absurd (omega arith)
 text_one (c ∷ []) h = marked_gives (eqb c 126) (eqb c 45)
 text_one (c ∷ d ∷ s) h = absurd (omega arith)
 
-text_pairs : (s : Bytes) → 2 ≤ length s → read_text s ≡ (unhex s >>= λ bs. given (some bs))
+text_pairs : (s : Bytes) → 2 ≤ length s → read_text s ≡ (unhex s >>= λ bs. given (Some bs))
 text_pairs [] h = absurd (omega arith)
 text_pairs (c ∷ []) h = absurd (omega arith)
 text_pairs (c ∷ d ∷ s) h = simp and-false
 
 -- the hexadecimal of bytes, at least one, is the text that they are
-pub hex_text : (c b : Bytes) → 0 < length c → c ≡ hex b → Meets (all is_byte b) → read_text c ≡ given (some b)
+pub hex_text : (c b : Bytes) → 0 < length c → c ≡ hex b → Meets (all is_byte b) → read_text c ≡ given (Some b)
 hex_text c [] n e h = absurd (omega (arith, ap length e))
-hex_text c (x ∷ b) n e h = ap read_text e ∙ text_pairs (hex (x ∷ b)) (omega arith) ∙ ap (λ (a : Answer Bytes). a >>= λ bs. given (some bs)) (unhex_hex (x ∷ b) h)
+hex_text c (x ∷ b) n e h = ap read_text e ∙ text_pairs (hex (x ∷ b)) (omega arith) ∙ ap (λ (a : Answer Bytes). a >>= λ bs. given (Some bs)) (unhex_hex (x ∷ b) h)
 
-some_gives : (a : Answer Bytes) → gives (a >>= λ bs. given (some bs)) ≡ gives a
+some_gives : (a : Answer Bytes) → gives (a >>= λ bs. given (Some bs)) ≡ gives a
 some_gives (refused r) = refl
 some_gives (given b) = refl
 
@@ -192,7 +192,7 @@ mark_c_string (c ∷ d ∷ s) h e = absurd (omega arith)
 
 pub pairs_c_string : (s : Bytes) → 2 ≤ length s → is_hex s ≡ true → is_cstring s ≡ passes (lacks 0 (bytes_of s))
 unfolding is_cstring
-pairs_c_string s h e = ap lacks_zero_in (text_pairs s h ∙ ap (λ (a : Answer Bytes). a >>= λ bs. given (some bs)) (unhex_is s e))
+pairs_c_string s h e = ap lacks_zero_in (text_pairs s h ∙ ap (λ (a : Answer Bytes). a >>= λ bs. given (Some bs)) (unhex_is s e))
 
 -- ── a mark alone
 
@@ -205,7 +205,7 @@ mark_past b h = pick (eqb b 126) (eqb b 45) refl refl h
     pick false false e f k = never k
 
 -- it is a text's column
-pub mark_column : (s : Bytes) (a : ℕ) → One is_mark s a 32 → column_of is_text 32 s a ≡ some (a + 1)
+pub mark_column : (s : Bytes) (a : ℕ) → One is_mark s a 32 → column_of is_text 32 s a ≡ Some (a + 1)
 mark_column s a o =
     let p = one_past is_mark mark_past 32 s a o in
     column_is is_text refl (one_column p) (ap is_text (one_part p) ∙ text_one (get_or s a 0 ∷ []) refl ∙ o.holds)

@@ -1,12 +1,9 @@
 -- A column of a line: the bytes of a sheet from a place up to the byte that ends the column. "Values are split by one space", and byte 10 ends a
 -- line. Assumes nothing.
-use Rattle.std.specs.Prelude.{◌≡◌, Bool, false, ◌&&◌, ◌||◌, cond, [], ◌∷◌, ◌++◌, ℕ, suc, ◌+◌, ◌-◌, ◌≤◌, ◌<◌, eqb, ltb, length, get_or, take, drop}
-use Rattle.std.proofs.Math.Option.{Option, none, some}
+use Rattle.std.specs.Prelude.{◌≡◌, Bool, false, ◌&&◌, ◌||◌, cond, [], ◌∷◌, ◌++◌, ℕ, suc, ◌+◌, ◌-◌, ◌≤◌, ◌<◌, eqb, ltb, length, get_or, take, drop, Option, None, Some}
 use Rattle.sheets.specs.Rule.{passes, Meets}
 use Rattle.sheets.specs.Bytes.{Bytes, line_end, space, all, lacks}
 use Rattle.columns.specs.declared.Part.{Part}
-use Rattle.columns.specs.declared.Place.{Place}
-use Rattle.columns.specs.declared.Place.TheVariants.{At, Nowhere}
 
 -- the bytes from a to b
 abbrev pub part : Bytes → ℕ → ℕ → Bytes
@@ -30,7 +27,7 @@ stop_from s a = a + column_length (drop a s)
 
 -- where the column from a on ends, if the byte stop ends it
 unfoldable pub column_end : ℕ → Bytes → ℕ → Option ℕ
-column_end stop s a = cond (ltb (stop_from s a) (length s) && eqb (get_or s (stop_from s a) 0) stop) (some (stop_from s a)) none
+column_end stop s a = cond (ltb (stop_from s a) (length s) && eqb (get_or s (stop_from s a) 0) stop) (Some (stop_from s a)) None
 
 -- a column stands from a to e, and the byte stop ends it
 pub record ColumnAt (s : Bytes) (a e stop : ℕ) : Type 0 where
@@ -42,8 +39,8 @@ pub record ColumnAt (s : Bytes) (a e stop : ℕ) : Type 0 where
 
 -- a place at which the test holds
 abbrev pub keep : (ℕ → Bool) → Option ℕ → Option ℕ
-keep f none = none
-keep f (some e) = cond (f e) (some e) none
+keep f None = None
+keep f (Some e) = cond (f e) (Some e) None
 
 -- where the column from a on ends, if the byte stop ends it and f holds of it
 unfoldable pub column_of : (Bytes → Bool) → ℕ → Bytes → ℕ → Option ℕ
@@ -58,11 +55,6 @@ one_of f stop (b ∷ c ∷ bs) = f b && eqb c stop
 -- so are all bytes of columns that keep their rules, and no byte that ends a column is
 abbrev pub past_space : ℕ → Bool
 past_space b = ltb space b
-
--- what `Place` says
-abbrev pub place_option : Place → Option ℕ
-place_option (At e) = some e
-place_option Nowhere = none
 
 -- ── blocks, which are tested at once
 

@@ -1,16 +1,12 @@
 -- The numbers in columns: what the column from a place on says, and where it ends. Assumes nothing.
-use Rattle.std.specs.Prelude.{◌≡◌, true, ℕ, ◌^◌, ◌<◌, ℤ}
+use Rattle.std.specs.Prelude.{◌≡◌, true, ℕ, ◌^◌, ◌<◌, ℤ, Option, Some, None}
 use Rattle.sheets.specs.Refusal.{bad_lines}
 use Rattle.sheets.specs.Bytes.{Bytes}
 use Rattle.sheets.specs.Answer.{Answer, refused, given, ◌>>=◌, found}
 use Rattle.sheets.specs.Number.{read_number}
 use Rattle.decimal.specs.Column.{column_below, signed_column}
 use Rattle.columns.specs.Columns.{part, is_stop, stop_from, column_end, ColumnAt}
-use Rattle.columns.specs.declared.number.NumberColumn.{NumberColumn}
-use Rattle.columns.specs.declared.number.NumberColumn.TheVariants as Unsigned
 use Rattle.columns.specs.declared.number.NumberTo.{NumberTo}
-use Rattle.columns.specs.declared.number.SignedColumn.{SignedColumn}
-use Rattle.columns.specs.declared.number.SignedColumn.TheVariants as Signed
 
 -- the number of 64 bits in the column from a on that the byte stop ends, and the column's end
 unfoldable pub number_in : ℕ → Bytes → ℕ → Answer (ℕ × ℕ)
@@ -27,14 +23,6 @@ signed_in stop s a = do
   given (z, e)
 
 -- ── what the answers say
-
-abbrev pub number_answer : NumberColumn → Answer (ℕ × ℕ)
-number_answer (Unsigned.At n e) = given (n, e)
-number_answer Unsigned.Bad = refused bad_lines
-
-abbrev pub signed_column_answer : SignedColumn → Answer (ℤ × ℕ)
-signed_column_answer (Signed.At z e) = given (z, e)
-signed_column_answer Signed.Bad = refused bad_lines
 
 -- ── numbers that are known to stand
 

@@ -1,6 +1,5 @@
 -- What a text's column is. Assumes nothing.
-use Rattle.std.specs.Prelude.{◌≡◌, Bool, true, false, ◌&&◌, ◌||◌, not, [], ◌∷◌, ℕ, ◌+◌, eqb, get_or}
-use Rattle.std.proofs.Math.Option.{Option}
+use Rattle.std.specs.Prelude.{◌≡◌, Bool, true, false, ◌&&◌, ◌||◌, not, [], ◌∷◌, ℕ, ◌+◌, eqb, get_or, Option}
 use Rattle.sheets.specs.Rule.{passes}
 use Rattle.sheets.specs.Bytes.{Bytes, space}
 use Rattle.sheets.specs.Answer.{Answer, refused, given}

@@ -2,10 +2,10 @@
 ghost use Rattle.std.specs.Prelude.{◌≡◌, ◌+◌, ◌≤◌, length};
 ghost use Rattle.sheets.specs.Rule.{passes};
 ghost use Rattle.sheets.specs.Bytes.{space};
-ghost use Rattle.columns.specs.Columns.{part, block_size, column_of, place_option};
+ghost use Rattle.columns.specs.Columns.{part, block_size, column_of};
 ghost use Rattle.columns.specs.Pairs.{is_pair, pairs, pairs_length, pairs_from, PairsPass, are_pairs};
 
-use crate::{BLOCK, NEAR, Place};
+use crate::{BLOCK, NEAR};
 
 // Both tests are joined without a branch: in `are_pairs` they compile to vector instructions.
 fn is_pair(a: u8, b: u8) -> bool
@@ -74,21 +74,21 @@ pub fn pairs_from(s: &[u8], at: usize) -> usize
 }
 
 // The end of the column from place at on, if it is such pairs and a space ends it: the end and the text are found in one look.
-pub fn pairs_column(s: &[u8], at: usize) -> Place
-    ensures { place_option result ≡ column_of are_pairs space s.now at }
+pub fn pairs_column(s: &[u8], at: usize) -> Option<usize>
+    ensures { result ≡ column_of are_pairs space s.now at }
 {
     if s.len() <= at {
-        return Place::Nowhere;
+        return None;
     }
     let e = pairs_from(s, at);
     if s.len() <= e {
-        return Place::Nowhere;
+        return None;
     }
     if s[e] != b' ' {
-        return Place::Nowhere;
+        return None;
     }
     if e == at {
-        return Place::Nowhere;
+        return None;
     }
-    Place::At(e)
+    Some(e)
 }

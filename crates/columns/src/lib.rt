@@ -8,7 +8,7 @@ pub mod text;
 ghost use Rattle.std.specs.Prelude.{◌≡◌, ◌≤◌, length, drop};
 ghost use Rattle.sheets.specs.Rule.{passes};
 ghost use Rattle.sheets.specs.Bytes.{all};
-ghost use Rattle.columns.specs.Columns.{is_stop, stop_from, column_end, one_of, past_space, part_of, place_option, Passes};
+ghost use Rattle.columns.specs.Columns.{is_stop, stop_from, column_end, one_of, past_space, part_of, Passes};
 
 // How many bytes the vector instructions test at once.
 const BLOCK: usize = 32;
@@ -21,12 +21,6 @@ const NEAR: usize = 16;
 pub struct Part {
     pub start: usize,
     pub end: usize,
-}
-
-#[derive(Drop)]
-pub enum Place {
-    At(usize),
-    Nowhere,
 }
 
 pub fn between(start: usize, end: usize) -> Part
@@ -133,15 +127,15 @@ pub fn text_end(s: &[u8], at: usize) -> usize
 }
 
 // The end e of the column from place at on, if it is the byte stop.
-pub fn column(s: &[u8], at: usize, e: usize, stop: u8) -> Place
+pub fn column(s: &[u8], at: usize, e: usize, stop: u8) -> Option<usize>
     requires { e ≡ stop_from s.now at }
-    ensures { place_option result ≡ column_end stop s.now at }
+    ensures { result ≡ column_end stop s.now at }
 {
     if s.len() <= e {
-        return Place::Nowhere;
+        return None;
     }
     if s[e] != stop {
-        return Place::Nowhere;
+        return None;
     }
-    Place::At(e)
+    Some(e)
 }

@@ -3,22 +3,9 @@ ghost use Rattle.std.specs.Prelude.{◌≡◌, true, drop};
 ghost use Rattle.sheets.specs.Bytes.{space};
 ghost use Rattle.sheets.specs.Number.{is_digit};
 ghost use Rattle.columns.specs.Columns.{is_stop, one_of};
-ghost use Rattle.columns.specs.NumberColumns.{number_in, signed_in, number_answer, signed_column_answer, HasNumber, NumberStands};
-
-use crate::Place;
-use decimal::{Signed64, Unsigned64};
-
-#[derive(Drop)]
-pub enum NumberColumn {
-    At(u64, usize),
-    Bad,
-}
-
-#[derive(Drop)]
-pub enum SignedColumn {
-    At(i64, usize),
-    Bad,
-}
+ghost use Rattle.columns.specs.NumberColumns.{number_in, signed_in, HasNumber, NumberStands};
+ghost use Rattle.sheets.specs.Answer.{found};
+ghost use Rattle.sheets.specs.Refusal.{bad_lines};
 
 // Whether the column from place at on is one digit, and the byte stop ends it: so most numbers of a sheet are.
 fn one_digit(s: &[u8], at: usize, stop: u8) -> bool
@@ -34,46 +21,38 @@ fn one_digit(s: &[u8], at: usize, stop: u8) -> bool
 }
 
 // The same as `signed_column`, for a number of any length.
-fn any_signed(s: &[u8], at: usize) -> SignedColumn
-    ensures { signed_column_answer result ≡ signed_in space s.now at }
+fn any_signed(s: &[u8], at: usize) -> Option<(i64, usize)>
+    ensures { found bad_lines result ≡ signed_in space s.now at }
 {
-    let Place::At(e) = crate::column(s, at, crate::number_end(s, at), b' ') else {
-        return SignedColumn::Bad;
-    };
-    let Signed64::Value(z) = decimal::read_i64(&s[at..e]) else {
-        return SignedColumn::Bad;
-    };
-    SignedColumn::At(z, e)
+    let e = crate::column(s, at, crate::number_end(s, at), b' ')?;
+    let z = decimal::read_i64(&s[at..e])?;
+    Some((z, e))
 }
 
-pub fn signed_column(s: &[u8], at: usize) -> SignedColumn
-    ensures { signed_column_answer result ≡ signed_in space s.now at }
+pub fn signed_column(s: &[u8], at: usize) -> Option<(i64, usize)>
+    ensures { found bad_lines result ≡ signed_in space s.now at }
 {
     if one_digit(s, at, b' ') {
-        return SignedColumn::At(buffer::wide(s[at] - b'0') as i64, at + 1);
+        return Some((buffer::wide(s[at] - b'0') as i64, at + 1));
     }
     any_signed(s, at)
 }
 
 // The same as `number_column`, for a number of any length.
-fn any_number(s: &[u8], at: usize, stop: u8) -> NumberColumn
-    ensures { number_answer result ≡ number_in stop s.now at }
+fn any_number(s: &[u8], at: usize, stop: u8) -> Option<(u64, usize)>
+    ensures { found bad_lines result ≡ number_in stop s.now at }
 {
-    let Place::At(e) = crate::column(s, at, crate::number_end(s, at), stop) else {
-        return NumberColumn::Bad;
-    };
-    let Unsigned64::Value(n) = decimal::read_u64(&s[at..e]) else {
-        return NumberColumn::Bad;
-    };
-    NumberColumn::At(n, e)
+    let e = crate::column(s, at, crate::number_end(s, at), stop)?;
+    let n = decimal::read_u64(&s[at..e])?;
+    Some((n, e))
 }
 
-pub fn number_column(s: &[u8], at: usize, stop: u8) -> NumberColumn
+pub fn number_column(s: &[u8], at: usize, stop: u8) -> Option<(u64, usize)>
     requires { is_stop stop ≡ true }
-    ensures { number_answer result ≡ number_in stop s.now at }
+    ensures { found bad_lines result ≡ number_in stop s.now at }
 {
     if one_digit(s, at, stop) {
-        return NumberColumn::At(buffer::wide(s[at] - b'0'), at + 1);
+        return Some((buffer::wide(s[at] - b'0'), at + 1));
     }
     any_number(s, at, stop)
 }

@@ -3,10 +3,10 @@ ghost use Rattle.std.specs.Prelude.{◌≡◌, true, drop};
 ghost use Rattle.sheets.specs.Rule.{passes};
 ghost use Rattle.sheets.specs.Bytes.{lacks, space};
 ghost use Rattle.hexadecimal.specs.Hex.{is_hex, bytes_of};
-ghost use Rattle.columns.specs.Columns.{stop_from, column_of, one_of, place_option};
+ghost use Rattle.columns.specs.Columns.{stop_from, column_of, one_of};
 ghost use Rattle.columns.specs.TextColumns.{is_mark, is_text, is_zero, zeros_apart, is_cstring, HasText, HasPairs};
 
-use crate::{BLOCK, Place, ascii_pairs};
+use crate::{BLOCK, ascii_pairs};
 
 // `~` is a null pointer, `-` an empty text.
 fn is_mark(b: u8) -> bool
@@ -97,47 +97,43 @@ fn one_mark(s: &[u8], at: usize) -> bool
 }
 
 // The same as `text_column`, for a text of any length.
-fn any_text(s: &[u8], at: usize) -> Place
-    ensures { place_option result ≡ column_of is_text space s.now at }
+fn any_text(s: &[u8], at: usize) -> Option<usize>
+    ensures { result ≡ column_of is_text space s.now at }
 {
-    let Place::At(e) = crate::column(s, at, crate::any_end(s, at), b' ') else {
-        return Place::Nowhere;
-    };
+    let e = crate::column(s, at, crate::any_end(s, at), b' ')?;
     if is_text(&s[at..e]) {
-        return Place::At(e);
+        return Some(e);
     }
-    Place::Nowhere
+    None
 }
 
 // The end of the text's column from place at on. Most metadata are `~`.
-pub fn text_column(s: &[u8], at: usize) -> Place
-    ensures { place_option result ≡ column_of is_text space s.now at }
+pub fn text_column(s: &[u8], at: usize) -> Option<usize>
+    ensures { result ≡ column_of is_text space s.now at }
 {
     if one_mark(s, at) {
-        return Place::At(at + 1);
+        return Some(at + 1);
     }
     any_text(s, at)
 }
 
 // The same as `c_string_column`, for texts of any bytes.
-fn any_c_string(s: &[u8], at: usize) -> Place
-    ensures { place_option result ≡ column_of is_cstring space s.now at }
+fn any_c_string(s: &[u8], at: usize) -> Option<usize>
+    ensures { result ≡ column_of is_cstring space s.now at }
 {
-    let Place::At(e) = crate::column(s, at, crate::any_end(s, at), b' ') else {
-        return Place::Nowhere;
-    };
+    let e = crate::column(s, at, crate::any_end(s, at), b' ')?;
     if is_c_string(&s[at..e]) {
-        return Place::At(e);
+        return Some(e);
     }
-    Place::Nowhere
+    None
 }
 
 // The end of the column from place at on that is a text without byte 00. Most are ASCII: then each byte is looked at once.
-pub fn c_string_column(s: &[u8], at: usize) -> Place
-    ensures { place_option result ≡ column_of is_cstring space s.now at }
+pub fn c_string_column(s: &[u8], at: usize) -> Option<usize>
+    ensures { result ≡ column_of is_cstring space s.now at }
 {
-    if let Place::At(e) = ascii_pairs::pairs_column(s, at) {
-        return Place::At(e);
+    if let Some(e) = ascii_pairs::pairs_column(s, at) {
+        return Some(e);
     }
     any_c_string(s, at)
 }

@@ -4,7 +4,7 @@ use mathlib.Core.Path.{◌≡◌, refl, sym, ap, subst, ◌∙◌}
 use mathlib.Core.Bool.{Bool, true, false, not, ◌&&◌, ◌||◌, cond}
 use mathlib.Core.Logic.{inl, inr}
 use mathlib.Core.List.{List, [], ◌∷◌}
-use mathlib.Core.Option.{none, some}
+use Rattle.std.specs.Prelude.{None, Some}
 use Prim.Native.Nat.{ℕ, zero, suc, ◌≤◌}
 use lib.Dec.{T, eqb, leb}
 use types.Run.{OneOf, hit}
@@ -61,7 +61,7 @@ module _ {A : Type 0} (place : A → ℕ) where
   none_is f (a ∷ l) = not (f (place a)) && none_is f l
 
   -- where a test passes at x and at no case's place
-  pub apart : (f : ℕ → Bool) (x : ℕ) → f x ≡ true → (l : List A) → none_is f l ≡ true → first_at place x l ≡ none
+  pub apart : (f : ℕ → Bool) (x : ℕ) → f x ≡ true → (l : List A) → none_is f l ≡ true → first_at place x l ≡ None
   apart f x h [] t = refl
   apart f x h (a ∷ l) t =
       let here : f (place a) ≡ false = not-true (f (place a)) (and_left (not (f (place a))) (none_is f l) t) in
@@ -69,15 +69,15 @@ module _ {A : Type 0} (place : A → ℕ) where
       rw (ne_eqb x (place a) differ) (apart f x h l (and_right (not (f (place a))) (none_is f l) t))
 
   -- where the patterns of a `match` are the places of all cases, its `_` finds none
-  pub nowhere : (x : ℕ) (kss : List (List ℕ)) → Rest kss x → (l : List A) → none_is (λ j. not (listed kss j)) l ≡ true → first_at place x l ≡ none
+  pub nowhere : (x : ℕ) (kss : List (List ℕ)) → Rest kss x → (l : List A) → none_is (λ j. not (listed kss j)) l ≡ true → first_at place x l ≡ None
   nowhere x kss r l t = apart (λ j. not (listed kss j)) x (not_listed x kss r) l t
 
   -- what holds of each case and its place holds of the one that is found
-  pub found : (P : ℕ → A → Type 0) (n : ℕ) (l : List A) → Each (λ a. P (place a) a) l → (x : A) → first_at place n l ≡ some x → P n x
+  pub found : (P : ℕ → A → Type 0) (n : ℕ) (l : List A) → Each (λ a. P (place a) a) l → (x : A) → first_at place n l ≡ Some x → P n x
   found P n [] t x h = not_some h
   found P n (a ∷ l) t x h = pick (eqb n (place a)) refl h (found P n l t.1 x)
     where
-      pick : (u : Bool) → eqb n (place a) ≡ u → cond u (some a) (first_at place n l) ≡ some x → (first_at place n l ≡ some x → P n x) → P n x
+      pick : (u : Bool) → eqb n (place a) ≡ u → cond u (Some a) (first_at place n l) ≡ Some x → (first_at place n l ≡ Some x → P n x) → P n x
       pick true e k later = let same : a ≡ x = cc in subst (P n) same (subst (λ (m : ℕ). P m a) (sym (eqb-true n (place a) e)) t.0)
       pick false e k later = later k
 
@@ -85,7 +85,7 @@ module _ {A : Type 0} (place : A → ℕ) where
   has l n = is_some (first_at place n l)
 
   -- where each place below m has a case, a place that has none is m or more
-  pub past : (m : ℕ) (l : List A) → Meets (every m (has l)) → (n : ℕ) → first_at place n l ≡ none → m ≤ n
+  pub past : (m : ℕ) (l : List A) → Meets (every m (has l)) → (n : ℕ) → first_at place n l ≡ None → m ≤ n
   past m l h n e = pick (leb m n) refl
     where
       pick : (t : Bool) → leb m n ≡ t → m ≤ n

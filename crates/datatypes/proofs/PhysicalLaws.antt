@@ -3,7 +3,7 @@
 use mathlib.Core.Path.{◌≡◌, refl, sym, ap, subst, ◌∙◌}
 use mathlib.Core.Bool.{Bool, true, false, not, ◌&&◌}
 use mathlib.Core.List.{List, [], ◌∷◌}
-use mathlib.Core.Option.{none, some}
+use Rattle.std.specs.Prelude.{None, Some}
 use Prim.Native.Nat.{ℕ, ◌≤◌, ◌<◌}
 use native.Mathlib.Omega.{arith}
 use lib.Dec.{T}
@@ -29,11 +29,11 @@ use Rattle.datatypes.proofs.AtLaws.{Rest, listed, not_listed, nowhere, apart, fo
 
 -- ── an Interval's unit
 
-pub interval_unit : (n : ℕ) (u : IntervalUnit) → first_at interval_place n interval_units ≡ some u → interval_physical (interval_place u) ≡ interval_physical n
+pub interval_unit : (n : ℕ) (u : IntervalUnit) → first_at interval_place n interval_units ≡ Some u → interval_physical (interval_place u) ≡ interval_physical n
 interval_unit n u h =
     found interval_place (λ m v. interval_physical (interval_place v) ≡ interval_physical m) n interval_units (refl, (refl, (refl, (refl, tt)))) u h
 
-pub interval_last : (n : ℕ) → first_at interval_place n interval_units ≡ none → primitive_physical MonthDayMillis ≡ interval_physical n
+pub interval_last : (n : ℕ) → first_at interval_place n interval_units ≡ None → primitive_physical MonthDayMillis ≡ interval_physical n
 interval_last n h =
     let far : 4 ≤ n = past interval_place 4 interval_units (meets (every 4 (has interval_place interval_units)) refl) n h in
     rw (ne_eqb n 0 (λ e. omega arith), ne_eqb n 1 (λ e. omega arith), ne_eqb n 2 (λ e. omega arith))
@@ -95,8 +95,8 @@ left_over k = not (is_primitive k) && not (listed bare_arms k)
 left_over_lem : (k p : ℕ) → left_over k ≡ true → kind_physical k p ≡ refused undefined_mapping
 unfolding leaf_rows
 left_over_lem k p h =
-    let other : first_at (λ (w : ℕ × Answer HostPhysical). w.0) k (other_kinds p) ≡ none = apart (λ (w : ℕ × Answer HostPhysical). w.0) left_over k h (other_kinds p) refl in
-    let no_row : row_at k leaf_rows ≡ none = row_first k leaf_rows ∙ apart (λ (w : LeafRow). w.kind) left_over k h leaf_rows refl in
+    let other : first_at (λ (w : ℕ × Answer HostPhysical). w.0) k (other_kinds p) ≡ None = apart (λ (w : ℕ × Answer HostPhysical). w.0) left_over k h (other_kinds p) refl in
+    let no_row : row_at k leaf_rows ≡ None = row_first k leaf_rows ∙ apart (λ (w : LeafRow). w.kind) left_over k h leaf_rows refl in
     let no-interval : k ≡ Kind.Interval → ⊥ = λ e. subst T (sym h ∙ ap left_over e) tt in
     rw (other, ne_eqb k Kind.Interval no-interval, no_row)
 
@@ -113,10 +113,10 @@ or_primitive k p r = pick (is_primitive k) refl
 
 -- ── a dictionary's index type
 
-pub index_refused : (ix : ℕ) → first_at integer_place ix integer_types ≡ none → refused undefined_mapping ≡ index_physical ix
+pub index_refused : (ix : ℕ) → first_at integer_place ix integer_types ≡ None → refused undefined_mapping ≡ index_physical ix
 index_refused ix h = rw (lt-leb ix 9 (past integer_place 10 integer_types (meets (every 10 (has integer_place integer_types)) refl) ix h))
 
-pub index_given : (ix : ℕ) (x : IntegerType) → first_at integer_place ix integer_types ≡ some x → given (physical_of (Dictionary x)) ≡ index_physical ix
+pub index_given : (ix : ℕ) (x : IntegerType) → first_at integer_place ix integer_types ≡ Some x → given (physical_of (Dictionary x)) ≡ index_physical ix
 index_given ix x h =
     found integer_place (λ n y. given (physical_of (Dictionary y)) ≡ index_physical n) ix integer_types
     (refl, (refl, (refl, (refl, (refl, (refl, (refl, (refl, (refl, (refl, tt)))))))))) x h

@@ -1,6 +1,5 @@
 -- What a conversion answers, in the columns of a field sheet's line. Assumes nothing.
-use Rattle.std.proofs.Math.Option.{Option, none, some}
-use Rattle.std.specs.Prelude.{ℕ}
+use Rattle.std.specs.Prelude.{ℕ, Option, None, Some}
 use Rattle.sheets.specs.Answer.{Answer, refused, given}
 use Rattle.sheets.specs.Field.{ArrowDataType, scalar, nested, grouped, dictionary, extension}
 use Rattle.sheets.specs.FieldSheet.{Columns, columns, of_scalar, no_text}
@@ -22,9 +21,9 @@ dtype_columns d = record { kind = d.kind; p = d.p; q = d.q; text = no_text; more
 
 -- the columns of the one line of a type that has no lines below
 abbrev pub type_columns : Answer ArrowDataType → Option Columns
-type_columns (refused n) = none
-type_columns (given (scalar s)) = some (columns (of_scalar s))
-type_columns (given (nested n i t)) = none
-type_columns (given (grouped g fs)) = none
-type_columns (given (dictionary ix ordered t)) = none
-type_columns (given (extension n m t)) = none
+type_columns (refused n) = None
+type_columns (given (scalar s)) = Some (columns (of_scalar s))
+type_columns (given (nested n i t)) = None
+type_columns (given (grouped g fs)) = None
+type_columns (given (dictionary ix ordered t)) = None
+type_columns (given (extension n m t)) = None

@@ -1,6 +1,5 @@
 -- `to_physical_type` of a line by its columns `kind` and `p`, where it does not look at the lines below. Assumes nothing.
-use Rattle.std.specs.Prelude.{Bool, false, cond, List, [], ◌∷◌, ℕ, leb}
-use Rattle.std.proofs.Math.Option.{Option, none, some}
+use Rattle.std.specs.Prelude.{Bool, false, cond, List, [], ◌∷◌, ℕ, leb, Option, None, Some}
 use Rattle.sheets.specs.Refusal.{undefined_mapping}
 use Rattle.sheets.specs.Answer.{Answer, refused, given}
 use Rattle.sheets.specs.Sheet.{is_some}
@@ -13,20 +12,17 @@ use Rattle.sheets.specs.PhysicalType as PhysicalPlace
 use Rattle.datatypes.specs.At.{first_at}
 use Rattle.datatypes.specs.PhysicalPlaces.{bearing, physical_of}
 use Rattle.datatypes.specs.declared.PrimitiveType.{PrimitiveType}
-use Rattle.datatypes.specs.declared.PrimitiveTypeAt.{PrimitiveTypeAt}
-use Rattle.datatypes.specs.declared.PrimitiveTypeAt.TheVariants as PrimitiveIs
+use Rattle.datatypes.specs.declared.physical_type.PhysicalType.{PhysicalType}
 use Rattle.datatypes.specs.declared.physical_type.PhysicalType.TheVariants as PhysicalTypes
-use Rattle.datatypes.specs.declared.to_physical_type.Physical.{Physical}
-use Rattle.datatypes.specs.declared.to_physical_type.Physical.TheVariants.{Is, Undefined}
 
 -- the numbers of a physical type that carries a primitive type
 abbrev pub primitive_physical : PrimitiveType → HostPhysical
 primitive_physical t = physical_of (PhysicalTypes.Primitive t)
 
 -- the numbers of document 01 for each case of the answer
-abbrev pub physical_answer : Physical → Answer HostPhysical
-physical_answer (Is t) = given (physical_of t)
-physical_answer Undefined = refused undefined_mapping
+abbrev pub physical_answer : Option PhysicalType → Answer HostPhysical
+physical_answer (Some t) = given (physical_of t)
+physical_answer None = refused undefined_mapping
 
 -- a dictionary's, by its index type's place
 abbrev pub index_physical : ℕ → Answer HostPhysical
@@ -35,7 +31,7 @@ index_physical ix = cond (leb ix IntegerPlace.UInt128) (given (bearing PhysicalP
 -- the kinds that more than a unit tells, and their physical types, whatever else their lines say
 abbrev pub other_kinds : ℕ → List (ℕ × Answer HostPhysical)
 other_kinds p =
-    (Kind.Timestamp, scalar_physical (timestamp second none))
+    (Kind.Timestamp, scalar_physical (timestamp second None))
     ∷ (Kind.FixedSizeBinary, scalar_physical (fixed_size_binary p))
     ∷ (Kind.List, given (nesting_physical list))
     ∷ (Kind.FixedSizeList, given (nesting_physical (fixed_size_list p)))
@@ -47,13 +43,13 @@ other_kinds p =
     ∷ (Kind.Decimal32, scalar_physical (decimal_type bits32 p 0))
     ∷ (Kind.Decimal64, scalar_physical (decimal_type bits64 p 0))
     ∷ (Kind.Decimal256, scalar_physical (decimal_type bits256 p 0))
-    ∷ (Kind.Union, given (grouping_physical (union false none)))
+    ∷ (Kind.Union, given (grouping_physical (union false None)))
     ∷ []
 
 -- the answer of the row that was found, or another
 abbrev pub row_or : Answer HostPhysical → Option (ℕ × Answer HostPhysical) → Answer HostPhysical
-row_or a none = a
-row_or a (some r) = r.1
+row_or a None = a
+row_or a (Some r) = r.1
 
 abbrev pub kind_physical : ℕ → ℕ → Answer HostPhysical
 kind_physical k p = row_or (leaf_physical k p) (first_at (λ r. r.0) k (other_kinds p))
@@ -73,6 +69,6 @@ abbrev pub primitive_only : ℕ → ℕ → Answer HostPhysical
 primitive_only k p = cond (is_primitive k) (kind_physical k p) (refused undefined_mapping)
 
 -- the numbers of document 01 for each case of the answer
-abbrev pub primitive_answer : PrimitiveTypeAt → Answer HostPhysical
-primitive_answer (PrimitiveIs.Is t) = given (primitive_physical t)
-primitive_answer PrimitiveIs.Nothing = refused undefined_mapping
+abbrev pub primitive_answer : Option PrimitiveType → Answer HostPhysical
+primitive_answer (Some t) = given (primitive_physical t)
+primitive_answer None = refused undefined_mapping

@@ -1,6 +1,5 @@
 // What a field sheet's line says of its type by its kind: the conversions into a type.
-ghost use Rattle.std.specs.Prelude.{◌≡◌};
-ghost use Rattle.std.proofs.Math.Option.{some};
+ghost use Rattle.std.specs.Prelude.{◌≡◌, Some};
 ghost use Rattle.sheets.specs.Mappings.{from_integer_type, from_primitive_type};
 ghost use Rattle.datatypes.specs.Places.{integer_place, primitive_place};
 ghost use Rattle.datatypes.specs.Dtypes.{leaf_dtype, interval_dtype, dtype_columns, type_columns};
@@ -39,7 +38,7 @@ impl Dtype {
 
     // `From<IntegerType> for ArrowDataType`
     pub fn from_integer_type(item: IntegerType) -> Dtype
-        ensures { type_columns (from_integer_type (integer_place item)) ≡ some (dtype_columns result) }
+        ensures { type_columns (from_integer_type (integer_place item)) ≡ Some (dtype_columns result) }
     {
         match item {
             IntegerType::Int8 => Dtype::leaf(kind::INT8),
@@ -57,7 +56,7 @@ impl Dtype {
 
     // `From<PrimitiveType> for ArrowDataType`
     pub fn from_primitive_type(item: PrimitiveType) -> Dtype
-        ensures { type_columns (from_primitive_type (primitive_place item)) ≡ some (dtype_columns result) }
+        ensures { type_columns (from_primitive_type (primitive_place item)) ≡ Some (dtype_columns result) }
     {
         match item {
             PrimitiveType::Int8 => Dtype::leaf(kind::INT8),

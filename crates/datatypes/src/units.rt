@@ -2,7 +2,7 @@
 // gives the case at a place.
 ghost use Rattle.std.specs.Prelude.{◌≡◌};
 ghost use Rattle.datatypes.specs.Places.{time_place, interval_place, union_place};
-ghost use Rattle.datatypes.specs.At.{first_at, time_units, time_unit_option, interval_units, interval_unit_option, union_modes, union_mode_option};
+ghost use Rattle.datatypes.specs.At.{first_at, time_units, interval_units, union_modes};
 
 // The unit of Timestamp, Time32, Time64 and Duration.
 #[derive(Drop)]
@@ -13,34 +13,22 @@ pub enum TimeUnit {
     Nanosecond,
 }
 
-// The case at a place, or `Nothing`.
-#[derive(Drop)]
-pub enum TimeUnitAt {
-    Is(TimeUnit),
-    Nothing,
-}
-
 impl TimeUnit {
     pub fn place(self) -> u64
         ensures { result ≡ time_place self }
     {
-        match self {
-            TimeUnit::Second => 0,
-            TimeUnit::Millisecond => 1,
-            TimeUnit::Microsecond => 2,
-            TimeUnit::Nanosecond => 3,
-        }
+        self as u64
     }
 
-    pub fn at(place: u64) -> TimeUnitAt
-        ensures { time_unit_option result ≡ first_at time_place place time_units }
+    pub fn at(place: u64) -> Option<TimeUnit>
+        ensures { result ≡ first_at time_place place time_units }
     {
         match place {
-            0 => TimeUnitAt::Is(TimeUnit::Second),
-            1 => TimeUnitAt::Is(TimeUnit::Millisecond),
-            2 => TimeUnitAt::Is(TimeUnit::Microsecond),
-            3 => TimeUnitAt::Is(TimeUnit::Nanosecond),
-            _ => TimeUnitAt::Nothing,
+            0 => Some(TimeUnit::Second),
+            1 => Some(TimeUnit::Millisecond),
+            2 => Some(TimeUnit::Microsecond),
+            3 => Some(TimeUnit::Nanosecond),
+            _ => None,
         }
     }
 }
@@ -54,34 +42,22 @@ pub enum IntervalUnit {
     MonthDayMillis,
 }
 
-// The case at a place, or `Nothing`.
-#[derive(Drop)]
-pub enum IntervalUnitAt {
-    Is(IntervalUnit),
-    Nothing,
-}
-
 impl IntervalUnit {
     pub fn place(self) -> u64
         ensures { result ≡ interval_place self }
     {
-        match self {
-            IntervalUnit::YearMonth => 0,
-            IntervalUnit::DayTime => 1,
-            IntervalUnit::MonthDayNano => 2,
-            IntervalUnit::MonthDayMillis => 3,
-        }
+        self as u64
     }
 
-    pub fn at(place: u64) -> IntervalUnitAt
-        ensures { interval_unit_option result ≡ first_at interval_place place interval_units }
+    pub fn at(place: u64) -> Option<IntervalUnit>
+        ensures { result ≡ first_at interval_place place interval_units }
     {
         match place {
-            0 => IntervalUnitAt::Is(IntervalUnit::YearMonth),
-            1 => IntervalUnitAt::Is(IntervalUnit::DayTime),
-            2 => IntervalUnitAt::Is(IntervalUnit::MonthDayNano),
-            3 => IntervalUnitAt::Is(IntervalUnit::MonthDayMillis),
-            _ => IntervalUnitAt::Nothing,
+            0 => Some(IntervalUnit::YearMonth),
+            1 => Some(IntervalUnit::DayTime),
+            2 => Some(IntervalUnit::MonthDayNano),
+            3 => Some(IntervalUnit::MonthDayMillis),
+            _ => None,
         }
     }
 }
@@ -93,30 +69,20 @@ pub enum UnionMode {
     Sparse,
 }
 
-// The case at a place, or `Nothing`.
-#[derive(Drop)]
-pub enum UnionModeAt {
-    Is(UnionMode),
-    Nothing,
-}
-
 impl UnionMode {
     pub fn place(self) -> u64
         ensures { result ≡ union_place self }
     {
-        match self {
-            UnionMode::Dense => 0,
-            UnionMode::Sparse => 1,
-        }
+        self as u64
     }
 
-    pub fn at(place: u64) -> UnionModeAt
-        ensures { union_mode_option result ≡ first_at union_place place union_modes }
+    pub fn at(place: u64) -> Option<UnionMode>
+        ensures { result ≡ first_at union_place place union_modes }
     {
         match place {
-            0 => UnionModeAt::Is(UnionMode::Dense),
-            1 => UnionModeAt::Is(UnionMode::Sparse),
-            _ => UnionModeAt::Nothing,
+            0 => Some(UnionMode::Dense),
+            1 => Some(UnionMode::Sparse),
+            _ => None,
         }
     }
 }

@@ -10,9 +10,7 @@ ghost use Rattle.sheets.specs.Number.{lean};
 ghost use Rattle.sheets.specs.Format.{minus};
 ghost use Rattle.decimal.specs.Digits.{digits_below};
 ghost use Rattle.decimal.specs.Column.{column_below, signed_column, IsGreatest};
-ghost use Rattle.decimal.specs.Answers.{unsigned_answer, signed_answer, signed32_answer};
-
-use crate::digit::Number;
+ghost use Rattle.sheets.specs.Answer.{found};
 
 // Rust's `u64::MAX`, `i64::MAX`, `i32::MAX`.
 const U64_MAX: u64 = 18446744073709551615;
@@ -21,38 +19,15 @@ const I64_MAX: u64 = 9223372036854775807;
 
 const I32_MAX: u64 = 2147483647;
 
-#[derive(Drop)]
-pub enum Unsigned64 {
-    Value(u64),
-    Bad,
-}
-
-#[derive(Drop)]
-pub enum Signed64 {
-    Value(i64),
-    Bad,
-}
-
-#[derive(Drop)]
-pub enum Signed32 {
-    Value(i32),
-    Bad,
-}
-
 // The bytes from place at on, all of them digits, as a number of at most max.
-fn digits(s: &[u8], at: usize, max: u64) -> Unsigned64
-    ensures { unsigned_answer result ≡ digits_below bad_lines (max + 1) 0 (drop at s.now) }
+fn digits(s: &[u8], at: usize, max: u64) -> Option<u64>
+    ensures { found bad_lines result ≡ digits_below bad_lines (max + 1) 0 (drop at s.now) }
 {
     let mut v: u64 = 0;
-    let mut i = at;
-    while i < s.len() {
-        let Number::Value(n) = crate::digit::after(v, s[i], max) else {
-            return Unsigned64::Bad;
-        };
-        v = n;
-        i += 1;
+    for i in at..s.len() {
+        v = crate::digit::after(v, s[i], max)?;
     }
-    Unsigned64::Value(v)
+    Some(v)
 }
 
 // Whether the bytes from place at on are some and have no spare zero in front.
@@ -69,11 +44,11 @@ fn lean(s: &[u8], at: usize) -> bool
 }
 
 // A column's number from place at on, at most max.
-fn number(s: &[u8], at: usize, max: u64) -> Unsigned64
-    ensures { unsigned_answer result ≡ column_below (max + 1) (drop at s.now) }
+fn number(s: &[u8], at: usize, max: u64) -> Option<u64>
+    ensures { found bad_lines result ≡ column_below (max + 1) (drop at s.now) }
 {
     if !lean(s, at) {
-        return Unsigned64::Bad;
+        return None;
     }
     digits(s, at, max)
 }
@@ -90,45 +65,39 @@ pub fn negated(m: u64) -> i64
 }
 
 // A column's signed number, at most max and at least -max - 1.
-fn signed(s: &[u8], max: u64) -> Signed64
+fn signed(s: &[u8], max: u64) -> Option<i64>
     requires { IsGreatest max }
-    ensures { signed_answer result ≡ signed_column (max + 1) s.now }
+    ensures { found bad_lines result ≡ signed_column (max + 1) s.now }
 {
     if s.len() == 0 {
-        return Signed64::Bad;
+        return None;
     }
     if s[0] == b'-' {
-        let Unsigned64::Value(m) = number(s, 1, max + 1) else {
-            return Signed64::Bad;
-        };
+        let m = number(s, 1, max + 1)?;
         if m == 0 {
-            return Signed64::Bad;
+            return None;
         }
-        return Signed64::Value(negated(m));
+        return Some(negated(m));
     }
-    let Unsigned64::Value(n) = number(s, 0, max) else {
-        return Signed64::Bad;
-    };
-    Signed64::Value(n as i64)
+    let n = number(s, 0, max)?;
+    Some(n as i64)
 }
 
-pub fn read_u64(s: &[u8]) -> Unsigned64
-    ensures { unsigned_answer result ≡ column_below (2 ^ 64) s.now }
+pub fn read_u64(s: &[u8]) -> Option<u64>
+    ensures { found bad_lines result ≡ column_below (2 ^ 64) s.now }
 {
     number(s, 0, U64_MAX)
 }
 
-pub fn read_i64(s: &[u8]) -> Signed64
-    ensures { signed_answer result ≡ signed_column (2 ^ 63) s.now }
+pub fn read_i64(s: &[u8]) -> Option<i64>
+    ensures { found bad_lines result ≡ signed_column (2 ^ 63) s.now }
 {
     signed(s, I64_MAX)
 }
 
-pub fn read_i32(s: &[u8]) -> Signed32
-    ensures { signed32_answer result ≡ signed_column (2 ^ 31) s.now }
+pub fn read_i32(s: &[u8]) -> Option<i32>
+    ensures { found bad_lines result ≡ signed_column (2 ^ 31) s.now }
 {
-    let Signed64::Value(z) = signed(s, I32_MAX) else {
-        return Signed32::Bad;
-    };
-    Signed32::Value(z as i32)
+    let z = signed(s, I32_MAX)?;
+    Some(z as i32)
 }

@@ -16,6 +16,7 @@ fn digits_of(n: u64) -> Digits20
     let mut bytes = [0u8; 20];
     let mut i: usize = 20;
     let mut m = n;
+    // by index: the last digit comes first, and how many there are is not known before
     while 10 <= m {
         i -= 1;
         bytes[i] = b'0' + (m % 10) as u8;

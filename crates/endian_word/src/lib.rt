@@ -9,32 +9,26 @@ use std::env::Env;
 use std::io;
 use std::io::Write;
 
-// Whether the order is big-endian; or nothing.
-#[derive(Drop)]
-pub enum Asked {
-    Order(bool),
-    Nothing,
-}
-
-fn named(word: &[u8]) -> Asked
+// Whether the order of this name is big-endian.
+fn named(word: &[u8]) -> Option<bool>
     ensures { result ≡ order_named word.now }
 {
     if buffer::same(word, b"little") {
-        return Asked::Order(false);
+        return Some(false);
     }
     if buffer::same(word, b"big") {
-        return Asked::Order(true);
+        return Some(true);
     }
-    Asked::Nothing
+    None
 }
 
 // What the argument at a place asks, behind which there may be no other; the program's own name is at place 0.
-pub fn order_at<E: Env>(env: &E, place: usize) -> Asked {
+pub fn order_at<E: Env>(env: &E, place: usize) -> Option<bool> {
     if !streams::has_argument(env, place) {
-        return Asked::Order(false);
+        return Some(false);
     }
     if streams::has_argument(env, place.saturating_add(1)) {
-        return Asked::Nothing;
+        return None;
     }
     let mut word = [0u8; streams::LONGEST_WORD];
     let n = streams::argument(env, place, &mut word);
@@ -42,11 +36,15 @@ pub fn order_at<E: Env>(env: &E, place: usize) -> Asked {
 }
 
 // What the arguments of this program ask, which takes no other; if nothing, a line is written to err.
-pub fn asked_order<E: Env, W: Write>(env: &E, err: &mut W, program: &[u8]) -> io::Result<Asked>
+pub fn asked_order<E: Env, W: Write>(
+    env: &E,
+    err: &mut W,
+    program: &[u8],
+) -> io::Result<Option<bool>>
     ensures { IfOk result (λ a. Appends (W.contents err.old) (W.contents err.new) (usage_line a program.now)) }
 {
     let asked = order_at(env, 1);
-    if let Asked::Nothing = asked {
+    if let None = asked {
         err.write_all(b"usage: ")?;
         err.write_all(program)?;
         err.write_all(b" [little|big]\n")?;

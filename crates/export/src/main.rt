@@ -2,7 +2,6 @@
 // key or a dictionary index of 128 bits, so that what it prints imports to the plain form. The other word is the order of the metadata's lengths.
 #![tactic(auto)]
 
-use endian_word::Asked;
 use std::env::Env;
 use std::io;
 use std::io::Write;
@@ -23,7 +22,7 @@ fn asked_strict<E: Env>(env: &E) -> bool {
 }
 
 // The order stands behind that word, if it is there.
-fn asked_order<E: Env>(env: &E, strict: bool) -> Asked {
+fn asked_order<E: Env>(env: &E, strict: bool) -> Option<bool> {
     if strict {
         return endian_word::order_at(env, 2);
     }
@@ -48,7 +47,7 @@ fn complain(rt: &HostRuntime) -> io::Result<()> {
 fn main(rt: HostRuntime) -> io::Result<()> {
     let strict = asked_strict(&rt);
     match asked_order(&rt, strict) {
-        Asked::Order(big) => print_export(&rt, strict, big),
-        Asked::Nothing => complain(&rt),
+        Some(big) => print_export(&rt, strict, big),
+        None => complain(&rt),
     }
 }

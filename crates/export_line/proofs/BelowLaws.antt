@@ -3,7 +3,7 @@
 use mathlib.Core.Path.{◌≡◌, refl, sym, ap, ap₂, subst, ◌∙◌}
 use mathlib.Core.Bool.{Bool, true, false, not, ◌&&◌, ◌||◌, cond}
 use mathlib.Core.List.{List, [], ◌∷◌, ◌++◌}
-use mathlib.Core.Option.{Option, none, some}
+use Rattle.std.specs.Prelude.{Option, None, Some}
 use Prim.Native.Nat.{ℕ, ◌+◌, ◌-◌, ◌≤◌, ◌<◌, ◌^◌}
 use native.Mathlib.Omega.{arith}
 use lib.Dec.{eqb}
@@ -32,9 +32,7 @@ use Rattle.sheets.proofs.ExportSteps.{export_opened}
 use Rattle.buffer.specs.Over.{over}
 use Rattle.field_pairs.proofs.ReservedLaws.{pairs_column_lem}
 use Rattle.column_text.specs.ColumnText.{has_zero}
-use Rattle.put_format.specs.Formats.{exported_answer}
 use Rattle.put_format.specs.LineFormat.{shape_format, line_format, CanFormat}
-use Rattle.put_format.specs.declared.Exported.{Exported}
 use Rattle.put_schema_line.specs.Lines.{node_name, line_text, PutsLine, PutsColumns, column_at, LinePut, CanPutColumns, CanPutLine}
 use Rattle.put_schema_line.specs.declared.LineColumns.{LineColumns}
 use Rattle.put_schema_line.specs.declared.LineNumbers.{LineNumbers}
@@ -43,7 +41,6 @@ use Rattle.read_field_line.specs.FieldLines.{PartAt, Shows, FieldLineAt}
 use Rattle.read_field_line.specs.declared.FieldLine.{FieldLine}
 use Rattle.walks.specs.Places.{own_limit, TypeAt, RowAt, Owns, Begins, BeginsAs}
 use Rattle.walks.specs.Answers.{begun_answer}
-use Rattle.walks.specs.declared.LineBegun.{LineBegun}
 use Rattle.walks.specs.declared.Subtree.{Subtree}
 use Rattle.walks.specs.declared.Subtrees.{Subtrees}
 use Rattle.storage_line.specs.StorageLines.{StorageAt}
@@ -53,7 +50,9 @@ use Rattle.line_below.proofs.LineLaws.{line_opened, line_rule_lem, line_kind, li
 use Rattle.storage_line.proofs.BelowLaws as Storage
 use Rattle.export_line.specs.Begins.{is_alone, columns_from, numbers_of, zero_pending, begun_with}
 use Rattle.export_line.proofs.ColumnLaws.{is_part, part_short, part_text_lem, name_column_lem, nullable_is, name_is_lem, extension_name, extension_more, extension_said, extension_rules, more_said, name_said, can_format, line_format_lem, line_said}
+use Rattle.refusal.specs.Refusals.{Refusing, answer_of}
 use Rattle.export_line.proofs.StepLaws.{index_small, extended, WrittenType, written, own_put}
+use Rattle.walks.specs.declared.LineBegun.{LineBegun}
 
 -- ── a field
 
@@ -205,7 +204,7 @@ module _ (big : Bool) {s : Bytes} (tree : Subtree) {i : Option Info} {t : ArrowD
 
   abbrev own_line : Bytes → Bytes
   own_line h =
-      schema_line.write (line_of (record { format = some h; name = some info.name; flags = pos (flag info.nullable NULLABLE + shape_flags wrote.shape); metadata = schema_metadata big info.pairs around }) wrote.children wrote.values)
+      schema_line.write (line_of (record { format = Some h; name = Some info.name; flags = pos (flag info.nullable NULLABLE + shape_flags wrote.shape); metadata = schema_metadata big info.pairs around }) wrote.children wrote.values)
 
   abbrev line_out : Bytes → Bytes
   line_out = line_text numbers (info_columns i).0 (info_columns i).1.1 (write_text (extension_name (type_shape t))) (write_text (extension_more (type_shape t)))
@@ -243,7 +242,7 @@ module _ (big : Bool) {s : Bytes} (tree : Subtree) {i : Option Info} {t : ArrowD
   line_is h =
       let r = extension_rules (type_shape t) own_rules.1 in
       line_said i own_rules.0 (extension_name (type_shape t)) (extension_more (type_shape t)) r.0 r.1 numbers h
-      ∙ λ j. schema_line.write (line_of (record { format = some h; name = some info.name; flags = pos (flags_are j); metadata = schema_metadata (wrote.is j).big info.pairs (extension_said (type_shape t) j) }) (wrote.is j).children (wrote.is j).dictionary) ++ (line_end ∷ [])
+      ∙ λ j. schema_line.write (line_of (record { format = Some h; name = Some info.name; flags = pos (flags_are j); metadata = schema_metadata (wrote.is j).big info.pairs (extension_said (type_shape t) j) }) (wrote.is j).children (wrote.is j).dictionary) ++ (line_end ∷ [])
 
   -- ── the walk
 
@@ -260,7 +259,7 @@ module _ (big : Bool) {s : Bytes} (tree : Subtree) {i : Option Info} {t : ArrowD
       ∙ ap (λ (y : Bytes). line_format (columns w).kind (columns w).p (columns w).q y wrote.children) wrote.text
       ∙ ap (λ (k : LineNumbers). line_format k.kind k.p k.q (columns inner).text k.children) (sym wrote.is)
 
-  opened : (y : Answer Bytes) → format ≡ y → type_walked (schema_step big) t i none ≡ line_walked (extensions_around t) (y >>= λ h. given (step_of h)) (λ τ. row_walked (schema_step big) below τ) (entry_lines below)
+  opened : (y : Answer Bytes) → format ≡ y → type_walked (schema_step big) t i None ≡ line_walked (extensions_around t) (y >>= λ h. given (step_of h)) (λ τ. row_walked (schema_step big) below τ) (entry_lines below)
   opened y e =
       export_opened big t i
       ∙ ap (λ (x : Answer (Step (Option Bearer))). line_walked (extensions_around t) x (λ τ. row_walked (schema_step big) below τ) (entry_lines below)) (wrote.step ∙ ap (λ (x : Answer Bytes). x >>= λ h. given (step_of h)) (format_is ∙ e))
@@ -268,35 +267,35 @@ module _ (big : Bool) {s : Bytes} (tree : Subtree) {i : Option Info} {t : ArrowD
   module _ (w : Subtrees) (left : RowLeft s tree l alone w) (old out : Bytes) where
     -- the line is written
     begun : (h : Bytes) → format ≡ given h → (len : ℕ) (pending : Answer (Unit {0})) → Owns (step_of h).own pending len old out → len ≤ own_limit
-        → Begins (schema_step big) s tree.at tree.levels tree.inside (type_walked (schema_step big) t i none) es old out
-        (record { from = w.at; count = w.count; levels = w.levels; inside = w.inside; state = none; size = record { len = len; lines = v.passed + 1 }; pending = pending })
+        → Begins (schema_step big) s tree.at tree.levels tree.inside (type_walked (schema_step big) t i None) es old out
+        (record { from = w.at; count = w.count; levels = w.levels; inside = w.inside; state = None; size = record { len = len; lines = v.passed + 1 }; pending = pending })
     begun h e len pending owns short =
-        Storage.begun tree f g (schema_step big) none (type_walked (schema_step big) t i none) (step_of h) (opened (given h) e) (is_dictionary inner && is_some around) w (subst (λ (b : Bool). RowLeft s tree l b w) alone_is left) old out len pending owns short wrote.left
+        Storage.begun tree f g (schema_step big) None (type_walked (schema_step big) t i None) (step_of h) (opened (given h) e) (is_dictionary inner && is_some around) w (subst (λ (b : Bool). RowLeft s tree l b w) alone_is left) old out len pending owns short wrote.left
 
     -- what was written, or why nothing was
-    told : (r : Exported) → At (λ text name pairs extension more. PutsColumns numbers text name pairs extension more r old out)
-        → BeginsAs (schema_step big) s tree.at tree.levels tree.inside (type_walked (schema_step big) t i none) es old out (begun_with w v.passed (exported_answer r))
+    told : (r : Refusing (ℕ × Bool)) → At (λ text name pairs extension more. PutsColumns numbers text name pairs extension more r old out)
+        → BeginsAs (schema_step big) s tree.at tree.levels tree.inside (type_walked (schema_step big) t i None) es old out (begun_with w v.passed (answer_of r))
     told r p = go format refl p
       where
         go : (y : Answer Bytes) → format ≡ y → PutsLine y (info_columns i).0 line_out r old out
-            → BeginsAs (schema_step big) s tree.at tree.levels tree.inside (type_walked (schema_step big) t i none) es old out (begun_with w v.passed (exported_answer r))
+            → BeginsAs (schema_step big) s tree.at tree.levels tree.inside (type_walked (schema_step big) t i None) es old out (begun_with w v.passed (answer_of r))
         go (refused q) e k =
-            subst (λ (z : Answer (ℕ × Bool)). BeginsAs (schema_step big) s tree.at tree.levels tree.inside (type_walked (schema_step big) t i none) es old out (begun_with w v.passed z)) (sym k.0) (ap (λ (y : Walked). y.0) (opened (refused q) e))
+            subst (λ (z : Answer (ℕ × Bool)). BeginsAs (schema_step big) s tree.at tree.levels tree.inside (type_walked (schema_step big) t i None) es old out (begun_with w v.passed z)) (sym k.0) (ap (λ (y : Walked). y.0) (opened (refused q) e))
         go (given h) e k =
             let zeros : (has_zero h || has_zero (node_name (info_columns i).0)) ≡ (not (passes (lacks 0 h)) || not (passes (lacks 0 info.name))) =
             ap (λ (y : Bytes). has_zero h || has_zero y) (name_is_lem i own_rules.0) in
             let own : Owns (step_of h).own (zero_pending (has_zero h || has_zero (node_name (info_columns i).0))) (length (line_out h)) old out =
             subst (λ (z : Bool). Owns (step_of h).own (zero_pending z) (length (line_out h)) old out) (sym zeros)
             (own_put (passes (lacks 0 info.name)) (passes (lacks 0 h)) (own_line h) (length (line_out h)) old out (ap length (line_is h), k.1 ∙ ap (λ (y : Bytes). over y old) (line_is h))) in
-            subst (λ (z : Answer (ℕ × Bool)). BeginsAs (schema_step big) s tree.at tree.levels tree.inside (type_walked (schema_step big) t i none) es old out (begun_with w v.passed z)) (sym k.0)
+            subst (λ (z : Answer (ℕ × Bool)). BeginsAs (schema_step big) s tree.at tree.levels tree.inside (type_walked (schema_step big) t i None) es old out (begun_with w v.passed z)) (sym k.0)
             (begun h e (length (line_out h)) (zero_pending (has_zero h || has_zero (node_name (info_columns i).0))) own (line_low h e))
 
     -- the same by the parts of the sheet and by what is answered
     pub begins : (c : LineColumns) (n : LineNumbers) → c ≡ columns_from first l → n ≡ numbers_of (first.bare || first.nullable) alone l.kind l.p l.q l.children big
-        → (r : Exported) → LinePut s c n r old out → (z : LineBegun) → begun_answer (λ (levels : ℕ) (inside : Bool). none) z ≡ begun_with w v.passed (exported_answer r)
-        → BeginsAs (schema_step big) s tree.at tree.levels tree.inside (type_walked (schema_step big) t i none) es old out (begun_answer (λ (levels : ℕ) (inside : Bool). none) z)
+        → (r : Refusing (ℕ × Bool)) → LinePut s c n r old out → (z : Refusing LineBegun) → begun_answer (λ (levels : ℕ) (inside : Bool). None) z ≡ begun_with w v.passed (answer_of r)
+        → BeginsAs (schema_step big) s tree.at tree.levels tree.inside (type_walked (schema_step big) t i None) es old out (begun_answer (λ (levels : ℕ) (inside : Bool). None) z)
     begins c n e d r p z k =
-        subst (BeginsAs (schema_step big) s tree.at tree.levels tree.inside (type_walked (schema_step big) t i none) es old out) (sym k)
+        subst (BeginsAs (schema_step big) s tree.at tree.levels tree.inside (type_walked (schema_step big) t i None) es old out) (sym k)
         (told r
         (moved (λ text name pairs extension more. PutsColumns numbers text name pairs extension more r old out) text_at.is shown.name.is shown.pairs.is extension_at.is more_at.is
         (subst (λ (y : LineNumbers). LinePut s (columns_from first l) y r old out) (d ∙ numbers_are) (subst (λ (y : LineColumns). LinePut s y n r old out) e p))))

@@ -2,7 +2,7 @@
 use mathlib.Core.Path.{◌≡◌, refl, sym, ap, ◌∙◌}
 use mathlib.Core.Bool.{false, ◌||◌, cond, true≢false}
 use mathlib.Core.List.{[], ◌∷◌, ◌++◌}
-use mathlib.Core.Option.{Option, none, some}
+use Rattle.std.specs.Prelude.{Option, None, Some}
 use Prim.Native.Nat.{ℕ, ◌-◌, ◌≤◌, ◌<◌}
 use native.Mathlib.Omega.{arith}
 use lib.Dec.{eqb}
@@ -48,32 +48,32 @@ module _ {s : Bytes} (short : length s ≤ 65535) where
 
   -- the field's name
   pub name_column_lem : {p : Part} (i : Option Info) → Meets (own_rule i) → PartAt s p (info_columns i).0 → TextColumn (info_columns i).0
-  name_column_lem none h k = part_text_lem none k refl
-  name_column_lem (some i) h k = part_text_lem (some i.name) k h.0
+  name_column_lem None h k = part_text_lem None k refl
+  name_column_lem (Some i) h k = part_text_lem (Some i.name) k h.0
 
 -- a bare line is that of a dictionary's values, which are nullable
 pub nullable_is : (i : Option Info) → (is_bare i || flag_of i) ≡ (or_values i).nullable
-nullable_is none = refl
-nullable_is (some i) = refl
+nullable_is None = refl
+nullable_is (Some i) = refl
 
 pub name_is_lem : (i : Option Info) → Meets (own_rule i) → node_name (info_columns i).0 ≡ (or_values i).name
-name_is_lem none h = ap or_empty (column_says none refl)
-name_is_lem (some i) h = ap or_empty (column_says (some i.name) h.0)
+name_is_lem None h = ap or_empty (column_says None refl)
+name_is_lem (Some i) h = ap or_empty (column_says (Some i.name) h.0)
 
 -- ── the extension that a line says
 
 abbrev pub extension_name : Shape → Option Bytes
-extension_name (of_scalar s) = none
-extension_name (of_nesting g) = none
-extension_name (of_grouping g) = none
-extension_name (of_dictionary ix ordered) = none
-extension_name (of_extension a m) = some a
+extension_name (of_scalar s) = None
+extension_name (of_nesting g) = None
+extension_name (of_grouping g) = None
+extension_name (of_dictionary ix ordered) = None
+extension_name (of_extension a m) = Some a
 
 abbrev pub extension_more : Shape → Option Bytes
-extension_more (of_scalar s) = none
-extension_more (of_nesting g) = none
-extension_more (of_grouping g) = none
-extension_more (of_dictionary ix ordered) = none
+extension_more (of_scalar s) = None
+extension_more (of_nesting g) = None
+extension_more (of_grouping g) = None
+extension_more (of_dictionary ix ordered) = None
 extension_more (of_extension a m) = m
 
 pub extension_said : (s : Shape) → extension_of (extension_name s) (extension_more s) ≡ extension_in s
@@ -154,6 +154,6 @@ module _ (w : Shape) (plain : is_extension w ≡ false) (rule : Meets (shape_rul
 -- of a field's node, with its byte 10
 pub line_said : (i : Option Info) → Meets (own_rule i) → (x m : Option Bytes) → Meets (text_rule x) → Meets (text_rule m) → (n : LineNumbers) (f : Bytes)
     → line_text n (info_columns i).0 (info_columns i).1.1 (write_text x) (write_text m) f
-    ≡ schema_line.write (line_of (record { format = some f; name = some (or_values i).name; flags = pos n.flags; metadata = schema_metadata n.big (or_values i).pairs (extension_of x m) }) n.children n.dictionary) ++ (line_end ∷ [])
-line_said none h x m k l n f = bare_line x m n f k l
-line_said (some i) h x m k l n f = node_line x m n f k l i h
+    ≡ schema_line.write (line_of (record { format = Some f; name = Some (or_values i).name; flags = pos n.flags; metadata = schema_metadata n.big (or_values i).pairs (extension_of x m) }) n.children n.dictionary) ++ (line_end ∷ [])
+line_said None h x m k l n f = bare_line x m n f k l
+line_said (Some i) h x m k l n f = node_line x m n f k l i h

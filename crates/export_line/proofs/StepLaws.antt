@@ -3,7 +3,7 @@
 use mathlib.Core.Path.{◌≡◌, refl, sym, ap, ◌∙◌}
 use mathlib.Core.Bool.{Bool, true, false, not, ◌&&◌, ◌||◌, cond, true≢false}
 use mathlib.Core.List.{[], ◌∷◌}
-use mathlib.Core.Option.{Option, none, some}
+use Rattle.std.specs.Prelude.{Option, None, Some}
 use Prim.Native.Nat.{ℕ, ◌+◌, ◌≤◌, ◌<◌}
 use native.Mathlib.Omega.{arith}
 use lib.Dec.{eqb}
@@ -62,7 +62,7 @@ pub record WrittenType (big : Bool) (v : ArrowDataType) (i : Info) (e : Option E
   pub few : children ≤ type_count v
   pub one : values ≤ 1
   pub step : schema_step_of big (type_shape v) (type_count v) i e ≡ (shape_format shape children >>= λ f. given (writes (schema_own big i e f (shape_flags shape) children values) below))
-  pub left : Leaves {S = Option Bearer} none (type_below v) below (is_dictionary (type_shape v) && is_some e)
+  pub left : Leaves {S = Option Bearer} None (type_below v) below (is_dictionary (type_shape v) && is_some e)
 
 module _ (big : Bool) (i : Info) where
   abbrev numbers_for : ArrowDataType → Option Extension → LineNumbers
@@ -78,13 +78,13 @@ module _ (big : Bool) (i : Info) where
   written (scalar s) p h e =
       record { shape = of_scalar s; children = 0; values = 0; below = skip; plain = refl; rule = h; text = refl; is = other (of_scalar s) h refl 0; few = omega arith; one = omega arith; step = refl; left = nothing refl refl refl }
   written (nested n j t) p h e =
-      record { shape = of_nesting n; children = 1; values = 0; below = visit none; plain = refl; rule = h; text = refl; is = other (of_nesting n) h refl 1; few = omega arith; one = omega arith; step = refl; left = visited refl refl }
+      record { shape = of_nesting n; children = 1; values = 0; below = visit None; plain = refl; rule = h; text = refl; is = other (of_nesting n) h refl 1; few = omega arith; one = omega arith; step = refl; left = visited refl refl }
   written (grouped g fs) p h e =
       record {
         shape = of_grouping g;
         children = type_count (grouped g fs);
         values = 0;
-        below = visit none;
+        below = visit None;
         plain = refl;
         rule = h;
         text = refl;
@@ -94,9 +94,9 @@ module _ (big : Bool) (i : Info) where
         step = refl;
         left = visited refl refl;
       }
-  written (dictionary ix ordered t) p h none =
-      record { shape = of_dictionary ix ordered; children = 0; values = 1; below = visit none; plain = refl; rule = h; text = refl; is = refl; few = omega arith; one = omega arith; step = refl; left = visited refl refl }
-  written (dictionary ix ordered t) p h (some e) =
+  written (dictionary ix ordered t) p h None =
+      record { shape = of_dictionary ix ordered; children = 0; values = 1; below = visit None; plain = refl; rule = h; text = refl; is = refl; few = omega arith; one = omega arith; step = refl; left = visited refl refl }
+  written (dictionary ix ordered t) p h (Some e) =
       record {
         shape = of_scalar (leaf (ix + Kind.Int8) 0);
         children = 0;

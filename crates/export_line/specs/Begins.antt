@@ -1,7 +1,6 @@
 -- Export at the first line of a field: "`ARROW:extension:name` and `ARROW:extension:metadata`" stand "for the outermost extension only", so all extensions
 -- around a type are passed at the field's first line, and the line of the type in all of them is written. Assumes nothing.
-use Rattle.std.specs.Prelude.{Bool, ◌&&◌, cond, ℕ, ◌+◌, eqb}
-use Rattle.std.proofs.Math.Option.{Option, none}
+use Rattle.std.specs.Prelude.{Bool, ◌&&◌, cond, ℕ, ◌+◌, eqb, Option, None}
 use Rattle.sheets.specs.Refusal.{zero_byte}
 use Rattle.sheets.specs.Bytes.{Bytes}
 use Rattle.sheets.specs.Answer.{Answer, refused, given}
@@ -13,9 +12,10 @@ use Rattle.put_schema_line.specs.declared.LineColumns.{LineColumns}
 use Rattle.put_schema_line.specs.declared.LineNumbers.{LineNumbers}
 use Rattle.walks.specs.Places.{Begun, TypeBegins}
 use Rattle.walks.specs.Answers.{begun_answer}
-use Rattle.walks.specs.declared.LineBegun.{LineBegun}
 use Rattle.walks.specs.declared.Subtree.{Subtree}
+use Rattle.refusal.specs.Refusals.{Refusing}
 use Rattle.walks.specs.declared.Subtrees.{Subtrees}
+use Rattle.walks.specs.declared.LineBegun.{LineBegun}
 
 -- ── the columns and numbers of the schema line
 
@@ -55,8 +55,8 @@ zero_pending zero = cond zero (refused zero_byte) (given tt)
 abbrev pub begun_with : Subtrees → ℕ → Answer (ℕ × Bool) → Answer (Begun (Option Bearer))
 begun_with w passed (refused q) = refused q
 begun_with w passed (given (len, zero)) =
-    given (record { from = w.at; count = w.count; levels = w.levels; inside = w.inside; state = none; size = record { len = len; lines = passed + 1 }; pending = zero_pending zero })
+    given (record { from = w.at; count = w.count; levels = w.levels; inside = w.inside; state = None; size = record { len = len; lines = passed + 1 }; pending = zero_pending zero })
 
 -- what export writes for the field at `tree`, and what is left below; no line is visited in a state
-abbrev pub ExportBegins : Bool → Bytes → Subtree → Bytes → Bytes → LineBegun → Type 0
-ExportBegins big s t out out' r = TypeBegins (schema_step big) s t.at t.levels t.inside none out out' (begun_answer (λ (levels : ℕ) (inside : Bool). none) r)
+abbrev pub ExportBegins : Bool → Bytes → Subtree → Bytes → Bytes → Refusing LineBegun → Type 0
+ExportBegins big s t out out' r = TypeBegins (schema_step big) s t.at t.levels t.inside None out out' (begun_answer (λ (levels : ℕ) (inside : Bool). None) r)

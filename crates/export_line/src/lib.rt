@@ -2,21 +2,19 @@
 // extensions around it; and what is left to be visited below.
 #![tactic(auto)]
 
-ghost use Rattle.std.specs.Prelude.{◌≡◌, true, ◌<◌};
-ghost use Rattle.std.proofs.Math.Option.{none};
-ghost use Rattle.put_format.specs.Formats.{exported_answer};
-ghost use Rattle.walks.specs.Answers.{begun_answer, pending_answer};
+ghost use Rattle.std.specs.Prelude.{◌≡◌, true, ◌<◌, None};
+ghost use Rattle.walks.specs.Answers.{begun_answer};
 ghost use Rattle.walks.specs.Places.{HasType};
 ghost use Rattle.export_line.specs.Begins.{is_alone, columns_from, numbers_with, numbers_of, zero_pending, begun_with, ExportBegins};
+ghost use Rattle.refusal.specs.Refusals.{answer_of};
 
 use datatypes::kind;
 use outcome::Size;
-use put_format::Exported;
 use put_schema_line::{LineColumns, LineNumbers};
 use read_field_line::FieldLine;
 use refusal::Refusal;
 use storage_line::below;
-use walks::{LineBegun, Pending, Subtree, Subtrees};
+use walks::{LineBegun, Subtree, Subtrees};
 
 // Whether the type is a dictionary directly under extensions, which is written as its index type alone.
 fn is_alone(outer: u64, inner: u64) -> bool
@@ -91,35 +89,40 @@ fn line_numbers(nullable: bool, alone: bool, l: FieldLine, big: bool) -> LineNum
     numbers_with(nullable, l.kind, l.p, l.q, l.children, 0, big)
 }
 
-fn pending_of(zero: bool) -> Pending
-    ensures { pending_answer result ≡ zero_pending zero }
+fn pending_of(zero: bool) -> Result<(), Refusal>
+    ensures { answer_of result ≡ zero_pending zero }
 {
     if zero {
-        return Pending::Refused(Refusal::ZeroByte);
+        return Err(Refusal::ZeroByte);
     }
-    Pending::Nothing
+    Ok(())
 }
 
 // No format: refused at once. Byte 00: refused after what is below. The line and the extensions that were passed are visited.
-fn line_begun(row: Subtrees, line: Exported, passed: usize) -> LineBegun
+fn line_begun(
+    row: Subtrees,
+    line: Result<(usize, bool), Refusal>,
+    passed: usize,
+) -> Result<LineBegun, Refusal>
     requires { passed < 65536 }
-    ensures { begun_answer (λ levels inside. none) result ≡ begun_with row passed (exported_answer line) }
+    ensures { begun_answer (λ levels inside. None) result ≡ begun_with row passed (answer_of line) }
 {
-    match line {
-        Exported::Refused(why) => LineBegun::Refused(why),
-        Exported::Written(len, zero) => LineBegun::Below(
-            row,
-            Size {
-                len,
-                lines: passed + 1,
-            },
-            pending_of(zero),
-        ),
-    }
+    let (len, zero) = line?;
+    let size = Size {
+        len,
+        lines: passed + 1,
+    };
+    let pending = pending_of(zero);
+    Ok(LineBegun { row, size, pending })
 }
 
 // Writes the schema line of the field at `tree.at`, as much as fits. The bare line of a dictionary's values is nullable.
-pub fn begin_export(s: &[u8], tree: Subtree, big: bool, out: &mut [u8]) -> LineBegun
+pub fn begin_export(
+    s: &[u8],
+    tree: Subtree,
+    big: bool,
+    out: &mut [u8],
+) -> Result<LineBegun, Refusal>
     requires { HasType s.now tree.at tree.levels tree.inside }
     ensures { ExportBegins big s.now tree out.old out.new result }
 {

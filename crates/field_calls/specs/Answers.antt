@@ -1,6 +1,5 @@
 -- What each call that takes a field sheet answers (`Outcome`), and what writing its sheet tells. Assumes nothing.
-use Rattle.std.specs.Prelude.{◌≡◌, Bool, true, false, List, [], ◌++◌, ℕ}
-use Rattle.std.proofs.Math.Option.{some}
+use Rattle.std.specs.Prelude.{Bool, false, List, [], ◌++◌, ℕ, Some}
 use Rattle.sheets.specs.Bytes.{Bytes}
 use Rattle.sheets.specs.Answer.{Answer, given, ◌>>=◌}
 use Rattle.sheets.specs.Sheet.{level_limit, ended, heading_line}
@@ -12,11 +11,11 @@ use Rattle.sheets.specs.Outcome.{Outcome, outcome, exported_as, plained, mapped,
 use Rattle.sheets.specs.Walk.{type_walk, type_visits}
 use Rattle.outcome.specs.Answers.{SheetTold}
 use Rattle.walks.specs.Places.{TypeAt}
-use Rattle.walks.specs.Answers.{step_answer}
-use Rattle.walks.specs.declared.Step.{Step}
 use Rattle.field_walk.specs.declared.Call.{Call}
 use Rattle.field_walk.specs.declared.Call.TheVariants.{Export, Plain, ToStorageRecursive, UnderlyingPhysicalType, Page}
+use Rattle.refusal.specs.Refusals.{Refusing, answer_of as result_answer}
 use Rattle.field_walk.specs.Calls.{step_of, state_of}
+use Rattle.outcome.specs.declared.Size.{Size}
 
 -- ── what is answered, or the refusal
 
@@ -50,19 +49,19 @@ opening_of Page = []
 
 -- a field of at most 32 levels stands here
 abbrev pub HasField : Bytes → ℕ → Type 0
-HasField s at = (i : Info) × (t : ArrowDataType) × (es : List Entry) × TypeAt s at level_limit false (some i) t es
+HasField s at = (i : Info) × (t : ArrowDataType) × (es : List Entry) × TypeAt s at level_limit false (Some i) t es
 
 -- what the call answers for a type
 abbrev pub sheet_for : Call → Info → ArrowDataType → Answer Bytes
-sheet_for c i t = type_walk (step_of c) t (some i) (state_of c level_limit false) >>= λ ls. given (opening_of c ++ ended ls)
+sheet_for c i t = type_walk (step_of c) t (Some i) (state_of c level_limit false) >>= λ ls. given (opening_of c ++ ended ls)
 
 -- and how many lines it visits for it
 abbrev pub lines_for : Call → Info → ArrowDataType → ℕ
-lines_for c i t = type_visits (step_of c) t (some i) (state_of c level_limit false)
+lines_for c i t = type_visits (step_of c) t (Some i) (state_of c level_limit false)
 
 -- in a sheet
 abbrev pub lines_of : Call → Bytes → ℕ
 lines_of c s = lines_in (λ f. lines_for c f.info f.type) (read_field_sheet s)
 
-abbrev pub SheetWrote : Call → Bytes → ℕ → Bytes → Bytes → Step → Type 0
-SheetWrote c s at out out' r = (i : Info) (t : ArrowDataType) (es : List Entry) → TypeAt s at level_limit false (some i) t es → SheetTold (sheet_for c i t) (lines_for c i t) out out' (step_answer r)
+abbrev pub SheetWrote : Call → Bytes → ℕ → Bytes → Bytes → Refusing (ℕ × Size) → Type 0
+SheetWrote c s at out out' r = (i : Info) (t : ArrowDataType) (es : List Entry) → TypeAt s at level_limit false (Some i) t es → SheetTold (sheet_for c i t) (lines_for c i t) out out' (result_answer r)

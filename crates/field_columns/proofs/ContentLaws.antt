@@ -3,7 +3,7 @@ use mathlib.Core.Path.{◌≡◌, refl, sym, ◌∙◌, ap, ap₂}
 use mathlib.Core.Logic.{◌≢◌}
 use mathlib.Core.Bool.{Bool, true, false, cond, true≢false, and-false, and-true}
 use mathlib.Core.List.{[], ◌∷◌}
-use mathlib.Core.Option.{Option, none, some}
+use Rattle.std.specs.Prelude.{Option, None, Some}
 use Prim.Native.Nat.{ℕ, ◌+◌, ◌≤◌}
 use native.Mathlib.Omega.{arith}
 use lib.Dec.{eqb}
@@ -61,7 +61,7 @@ text_one (x ∷ []) h = pick (eqb x 126) (eqb x 45) refl refl
     pick false false e f = rw (e, f)
 text_one (x ∷ y ∷ c) h = absurd (omega arith)
 
-text_pairs : (c : Bytes) → 2 ≤ length c → read_text c ≡ (unhex c >>= λ bs. given (some bs))
+text_pairs : (c : Bytes) → 2 ≤ length c → read_text c ≡ (unhex c >>= λ bs. given (Some bs))
 text_pairs [] h = absurd (omega arith)
 text_pairs (x ∷ []) h = absurd (omega arith)
 text_pairs (x ∷ y ∷ c) h = simp and-false
@@ -69,11 +69,11 @@ text_pairs (x ∷ y ∷ c) h = simp and-false
 module _ (c : Bytes) (h : 2 ≤ length c) where
   pub text_not : is_hex c ≡ false → is_some_text c ≡ false
   unfolding is_some_text
-  text_not e = ap (λ (a : Answer (Option Bytes)). keeps (λ (b : Bytes). is (is_utf8 b)) (a >>= read_some)) (text_pairs c h ∙ ap (λ (a : Answer Bytes). a >>= λ bs. given (some bs)) (unhex_not c e))
+  text_not e = ap (λ (a : Answer (Option Bytes)). keeps (λ (b : Bytes). is (is_utf8 b)) (a >>= read_some)) (text_pairs c h ∙ ap (λ (a : Answer Bytes). a >>= λ bs. given (Some bs)) (unhex_not c e))
 
   pub text_long : is_hex c ≡ true → is_some_text c ≡ is_utf8 (bytes_of c)
   unfolding is_some_text
-  text_long e = ap (λ (a : Answer (Option Bytes)). keeps (λ (b : Bytes). is (is_utf8 b)) (a >>= read_some)) (text_pairs c h ∙ ap (λ (a : Answer Bytes). a >>= λ bs. given (some bs)) (unhex_is c e))
+  text_long e = ap (λ (a : Answer (Option Bytes)). keeps (λ (b : Bytes). is (is_utf8 b)) (a >>= read_some)) (text_pairs c h ∙ ap (λ (a : Answer Bytes). a >>= λ bs. given (Some bs)) (unhex_is c e))
 
 pub optional_none : (c : Bytes) → is_nothing c ≡ true → is_optional_text c ≡ true
 unfolding is_optional_text is_nothing
@@ -87,8 +87,8 @@ optional_some c h = pick (read_text c) refl
   where
     pick : (a : Answer (Option Bytes)) → read_text c ≡ a → keeps text_rule a ≡ keeps (λ (b : Bytes). is (is_utf8 b)) (a >>= read_some)
     pick (refused r) e = refl
-    pick (given none) e = absurd (true≢false (sym (ap (same no_text) (sym (text_read c none e)) ∙ same_refl no_text) ∙ h))
-    pick (given (some b)) e = refl
+    pick (given None) e = absurd (true≢false (sym (ap (same no_text) (sym (text_read c None e)) ∙ same_refl no_text) ∙ h))
+    pick (given (Some b)) e = refl
 
 -- ── they are texts' columns
 

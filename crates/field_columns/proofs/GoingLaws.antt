@@ -2,7 +2,7 @@
 use mathlib.Core.Path.{◌≡◌, sym, ◌∙◌, ap, ap₂, subst}
 use mathlib.Core.Bool.{Bool, true, false, ◌&&◌}
 use mathlib.Core.List.{◌∷◌}
-use mathlib.Core.Option.{none, some}
+use Rattle.std.specs.Prelude.{None, Some}
 use Prim.Native.Nat.{ℕ, ◌+◌, ◌-◌, ◌≤◌, ◌<◌}
 use native.Mathlib.Omega.{arith}
 use lib.ListN.{length, take, drop, length-take, length-drop}
@@ -56,14 +56,14 @@ module _ (c : Bytes) (to : ℕ) (w : PartEnds c 0 to) where
   parts : split 44 c ≡ part c 0 to ∷ parts_from c (to + 1)
   parts = sym (parts_here c 0 (omega arith)) ∙ w.parts
 
-  pub going_first : (k : ℕ) → key_end (part c 0 to) ≡ some k → Going c 0 k to
+  pub going_first : (k : ℕ) → key_end (part c 0 to) ≡ Some k → Going c 0 k to
   going_first k e =
       let t = key_told (part c 0 to) k e in
       let n : 0 + k ≡ k = omega arith in
       subst (λ (i : ℕ). Going c 0 i to) n
       (begun c 0 to w k t (ap are_pairs parts ∙ first_there (part c 0 to) (parts_from c (to + 1)) t.pair t.reads t.rule))
 
-  pub going_none : key_end (part c 0 to) ≡ none → are_pairs (split 44 c) ≡ false
+  pub going_none : key_end (part c 0 to) ≡ None → are_pairs (split 44 c) ≡ false
   going_none e = ap are_pairs parts ∙ first_not (part c 0 to) (parts_from c (to + 1)) (key_none (part c 0 to) e)
 
 module _ {c : Bytes} {start stop end : ℕ} (g : Going c start stop end) where
@@ -74,10 +74,10 @@ module _ {c : Bytes} {start stop end : ℕ} (g : Going c start stop end) where
     next : are_pairs (split 44 c) ≡ follow_pairs g.key (part c (end + 1) to ∷ parts_from c (to + 1))
     next = g.goes ∙ ap (follow_pairs g.key) w.parts
 
-    pub going_bad : key_end (part c (end + 1) to) ≡ none → are_pairs (split 44 c) ≡ false
+    pub going_bad : key_end (part c (end + 1) to) ≡ None → are_pairs (split 44 c) ≡ false
     going_bad e = next ∙ next_not (part c (end + 1) to) (parts_from c (to + 1)) g.key (key_none (part c (end + 1) to) e)
 
-    module _ (k : ℕ) (e : key_end (part c (end + 1) to) ≡ some k) where
+    module _ (k : ℕ) (e : key_end (part c (end + 1) to) ≡ Some k) where
       there : KeyTo (part c (end + 1) to) k
       there = key_told (part c (end + 1) to) k e
 
@@ -100,20 +100,20 @@ module _ {c : Bytes} {start stop end : ℕ} (g : Going c start stop end) where
 -- ── by the places that `pair_at` gives
 
 module _ (c : Bytes) where
-  pub first_bad : pair_at c 0 ≡ none → are_pairs (split 44 c) ≡ false
+  pub first_bad : pair_at c 0 ≡ None → are_pairs (split 44 c) ≡ false
   first_bad h = going_none c _ (ends_there c 0 (omega arith)) (pair_bad c 0 h)
 
-  pub first_at : (k e : ℕ) → pair_at c 0 ≡ some (k, e) → Going c 0 k e
+  pub first_at : (k e : ℕ) → pair_at c 0 ≡ Some (k, e) → Going c 0 k e
   first_at k e h =
       let t = pair_told_lem c 0 (omega arith) k e h in
       let n : t.key ≡ k = omega (arith, t.at) in
       subst (λ (i : ℕ). Going c 0 i e) n (going_first c e t.ends t.key t.is)
 
 module _ {c : Bytes} {start stop end : ℕ} (g : Going c start stop end) (below : end < length c) where
-  pub next_bad : pair_at c (end + 1) ≡ none → are_pairs (split 44 c) ≡ false
+  pub next_bad : pair_at c (end + 1) ≡ None → are_pairs (split 44 c) ≡ false
   next_bad h = going_bad g _ (ends_there c (end + 1) (omega arith)) (pair_bad c (end + 1) h)
 
-  module _ (k e : ℕ) (h : pair_at c (end + 1) ≡ some (k, e)) where
+  module _ (k e : ℕ) (h : pair_at c (end + 1) ≡ Some (k, e)) where
     told : Told c (end + 1) k e
     told = pair_told_lem c (end + 1) (omega arith) k e h
 

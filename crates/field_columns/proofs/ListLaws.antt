@@ -3,7 +3,7 @@ use mathlib.Core.Path.{◌≡◌, refl, sym, ◌∙◌, ap₂}
 use mathlib.Core.Logic.{◌≢◌}
 use mathlib.Core.Bool.{Bool, true, false, ◌||◌, cond, true≢false, and-false, and-true}
 use mathlib.Core.List.{List, [], ◌∷◌}
-use mathlib.Core.Option.{Option, none, some}
+use Rattle.std.specs.Prelude.{Option, None, Some}
 use Prim.Native.Nat.{ℕ}
 use native.Mathlib.Omega.{arith}
 use lib.Dec.{eqb}
@@ -43,24 +43,24 @@ mark_other c h e = sym (mark_one c h ∙ rw (ne_eqb (get_or c 0 0) 126 e))
 
 -- a list of no elements, or the elements between the commas
 module _ {A : Type 0} (rule : Option (List A) → Rule) (read : Bytes → Answer A) (c : Bytes) where
-  pub list_mark : passes (rule none) ≡ true → passes (rule (some [])) ≡ true → is_mark c ≡ true → keeps rule (read_list read c) ≡ true
+  pub list_mark : passes (rule None) ≡ true → passes (rule (Some [])) ≡ true → is_mark c ≡ true → keeps rule (read_list read c) ≡ true
   unfolding is_mark
   list_mark h k m = pick (same c no_text) (same c (ascii "-")) m
     where
-      pick : (t u : Bool) → (t || u) ≡ true → keeps rule (cond t (given none) (cond u (given (some [])) (read_each read (split 44 c) >>= λ l. given (some l)))) ≡ true
+      pick : (t u : Bool) → (t || u) ≡ true → keeps rule (cond t (given None) (cond u (given (Some [])) (read_each read (split 44 c) >>= λ l. given (Some l)))) ≡ true
       pick true u e = h
       pick false true e = k
       pick false false e = absurd (true≢false (sym e))
 
-  pub list_parts : is_mark c ≡ false → read_list read c ≡ (read_each read (split 44 c) >>= λ l. given (some l))
+  pub list_parts : is_mark c ≡ false → read_list read c ≡ (read_each read (split 44 c) >>= λ l. given (Some l))
   unfolding is_mark
   list_parts m = pick (same c no_text) (same c (ascii "-")) m
     where
-      pick : (t u : Bool) → (t || u) ≡ false → cond t (given none) (cond u (given (some [])) (read_each read (split 44 c) >>= λ l. given (some l))) ≡ (read_each read (split 44 c) >>= λ l. given (some l))
+      pick : (t u : Bool) → (t || u) ≡ false → cond t (given None) (cond u (given (Some [])) (read_each read (split 44 c) >>= λ l. given (Some l))) ≡ (read_each read (split 44 c) >>= λ l. given (Some l))
       pick true u e = absurd (true≢false e)
       pick false true e = absurd (true≢false e)
       pick false false e = refl
 
-pub some_keeps : {A : Type 0} (rule : Option (List A) → Rule) (a : Answer (List A)) → keeps rule (a >>= λ l. given (some l)) ≡ keeps (λ l. rule (some l)) a
+pub some_keeps : {A : Type 0} (rule : Option (List A) → Rule) (a : Answer (List A)) → keeps rule (a >>= λ l. given (Some l)) ≡ keeps (λ l. rule (Some l)) a
 some_keeps rule (refused r) = refl
 some_keeps rule (given l) = refl

@@ -2,8 +2,8 @@
 -- (`ascii_pair`). Assumes nothing.
 use mathlib.Core.Path.{◌≡◌, refl, sym, ◌∙◌, ap, ap₂, subst}
 use mathlib.Core.Bool.{Bool, true, false, ◌&&◌, cond}
-use mathlib.Core.List.{List, [], ◌∷◌, ◌++◌}
-use mathlib.Core.Option.{Option, none, some}
+use mathlib.Core.List.{[], ◌∷◌, ◌++◌}
+use Rattle.std.specs.Prelude.{Option, None, Some}
 use Prim.Native.Nat.{ℕ, suc, ◌+◌, ◌-◌, ◌≤◌, ◌<◌}
 use native.Mathlib.Numerals.{add-one}
 use native.Mathlib.Omega.{arith}
@@ -14,7 +14,6 @@ use borrow.Author.Tests.{not-true, ltb-true, ltb-false}
 use Rattle.sheets.specs.Rule.{is, Meets}
 use Rattle.sheets.specs.Bytes.{Bytes, all, lacks, is_byte}
 use Rattle.sheets.specs.Parts.{bytes_before}
-use Rattle.sheets.specs.Text.{hex}
 use Rattle.sheets.specs.Utf8.{is_utf8}
 use Rattle.sheets.proofs.Tests.{not_some}
 use Rattle.sheets.proofs.BytesLaws.{all_append}
@@ -23,7 +22,7 @@ use Rattle.sheets.proofs.TextLaws.{hex_lacks, unhex_hex}
 use Rattle.sheets.proofs.Utf8Laws.{ascii_utf8, utf8_bytes}
 use Rattle.columns.specs.Columns.{part}
 use Rattle.columns.specs.Pairs.{pairs, pairs_from}
-use Rattle.columns.proofs.PairsLaws.{Plain, plain, pairs_are, pairs_within, part_append}
+use Rattle.columns.proofs.PairsLaws.{plain, pairs_are, pairs_within, part_append}
 use Rattle.field_columns.specs.Lists.{keeps, is_digits, is_pair, key_end, part_end, places, pair_at}
 use Rattle.field_columns.proofs.PairLaws.{pair_text_lem}
 
@@ -33,40 +32,40 @@ pub record Told (c : Bytes) (a k e : ℕ) : Type 0 where
   pub key : ℕ
   pub at : a + key ≡ k
   pub ends : PartEnds c a e
-  pub is : key_end (part c a e) ≡ some key
+  pub is : key_end (part c a e) ≡ Some key
 
 module _ (c : Bytes) (a : ℕ) (h : a ≤ length c) where
   pub ends_there : PartEnds c a (part_end c a)
   ends_there = part_ends c a (part_end c a) h refl
 
-  pub pair_told_lem : (k e : ℕ) → pair_at c a ≡ some (k, e) → Told c a k e
+  pub pair_told_lem : (k e : ℕ) → pair_at c a ≡ Some (k, e) → Told c a k e
   unfolding pair_at
   pair_told_lem k e p = pick (key_end (part c a (part_end c a))) refl p
     where
-      pick : (o : Option ℕ) → key_end (part c a (part_end c a)) ≡ o → places a (part_end c a) o ≡ some (k, e) → Told c a k e
-      pick none f q = not_some q
-      pick (some n) f q =
+      pick : (o : Option ℕ) → key_end (part c a (part_end c a)) ≡ o → places a (part_end c a) o ≡ Some (k, e) → Told c a k e
+      pick None f q = not_some q
+      pick (Some n) f q =
           let same : ◌≡◌ {A = ℕ × ℕ} (a + n, part_end c a) (k, e) = cc in
           subst (λ (x : ℕ × ℕ). Told c a x.0 x.1) same (record { key = n; at = refl; ends = ends_there; is = f })
 
-pub pair_bad : (c : Bytes) (a : ℕ) → pair_at c a ≡ none → key_end (part c a (part_end c a)) ≡ none
+pub pair_bad : (c : Bytes) (a : ℕ) → pair_at c a ≡ None → key_end (part c a (part_end c a)) ≡ None
 unfolding pair_at
 pair_bad c a p = pick (key_end (part c a (part_end c a))) p
   where
-    pick : (o : Option ℕ) → places a (part_end c a) o ≡ none → o ≡ none
-    pick none q = refl
-    pick (some n) q = not_some (sym q)
+    pick : (o : Option ℕ) → places a (part_end c a) o ≡ None → o ≡ None
+    pick None q = refl
+    pick (Some n) q = not_some (sym q)
 
 -- ── where the part's end is known
 
 module _ (c : Bytes) (a e : ℕ) (end : e ≡ part_end c a) where
-  pub pair_none : key_end (part c a e) ≡ none → pair_at c a ≡ none
+  pub pair_none : key_end (part c a e) ≡ None → pair_at c a ≡ None
   unfolding pair_at
   pair_none h = ap (places a (part_end c a)) (ap (λ (i : ℕ). key_end (part c a i)) (sym end) ∙ h)
 
-  pub pair_there : (k : ℕ) → key_end (part c a e) ≡ some k → pair_at c a ≡ some (a + k, e)
+  pub pair_there : (k : ℕ) → key_end (part c a e) ≡ Some k → pair_at c a ≡ Some (a + k, e)
   unfolding pair_at
-  pair_there k h = ap (places a (part_end c a)) (ap (λ (i : ℕ). key_end (part c a i)) (sym end) ∙ h) ∙ ap (λ (i : ℕ). some (a + k, i)) (sym end)
+  pair_there k h = ap (places a (part_end c a)) (ap (λ (i : ℕ). key_end (part c a i)) (sym end) ∙ h) ∙ ap (λ (i : ℕ). Some (a + k, i)) (sym end)
 
 -- ── ASCII
 
@@ -92,12 +91,12 @@ side t h =
       commas = subst (λ (y : Bytes). Meets (lacks 44 y)) (sym p.is) (hex_lacks 44 refl p.bytes bytes);
     }
 
-key_of : (k v : Bytes) → Side k → Side v → key_end (k ++ (61 ∷ v)) ≡ some (length k)
+key_of : (k v : Bytes) → Side k → Side v → key_end (k ++ (61 ∷ v)) ≡ Some (length k)
 unfolding key_end
 key_of k v h j =
     let pair : is_pair (k ++ (61 ∷ v)) ≡ true = pair_text_lem k v h.equals ∙ ap₂ ◌&&◌ h.digits j.digits in
     let size : bytes_before 61 (k ++ (61 ∷ v)) ≡ length k = before_skip 61 k (61 ∷ v) h.equals ∙ omega arith in
-    ap₂ (λ (t : Bool) (n : ℕ). cond t (some n) none) pair size
+    ap₂ (λ (t : Bool) (n : ℕ). cond t (Some n) None) pair size
 
 part_long : (c : Bytes) (a e : ℕ) → e ≤ length c → length (part c a e) ≡ e - a
 part_long c a e h = length-take (e - a) (drop a c) ∙ omega (arith, length-drop a c)
@@ -135,7 +134,7 @@ module _ (c : Bytes) (a k e : ℕ) (h : a ≤ length c) (key : k ≡ pairs_from 
       pick false f = before_past 44 c e (ltb-false e (length c) f)
 
   -- the key ends at `=`, and the value at a comma or with the list
-  pub ascii_pair : (e < length c → get_or c e 0 ≡ 44) → some (k, e) ≡ pair_at c a
+  pub ascii_pair : (e < length c → get_or c e 0 ≡ 44) → Some (k, e) ≡ pair_at c a
   ascii_pair m =
       let n : a + length (part c a k) ≡ k = omega (arith, part_long c a k (omega arith)) in
-      sym (pair_there c a e (ending m) (length (part c a k)) (ap key_end text ∙ key_of (part c a k) (part c (k + 1) e) key_side value_side) ∙ ap (λ (i : ℕ). some (i, e)) n)
+      sym (pair_there c a e (ending m) (length (part c a k)) (ap key_end text ∙ key_of (part c a k) (part c (k + 1) e) key_side value_side) ∙ ap (λ (i : ℕ). Some (i, e)) n)

@@ -3,7 +3,7 @@ use mathlib.Core.Path.{◌≡◌, refl, sym, ◌∙◌, ap, subst}
 use mathlib.Core.Logic.{◌⊎◌, inl, inr}
 use mathlib.Core.Bool.{Bool, true, false, ◌&&◌, cond, true≢false, and-false}
 use mathlib.Core.List.{List, [], ◌∷◌, ◌++◌}
-use mathlib.Core.Option.{none, some}
+use Rattle.std.specs.Prelude.{None, Some}
 use Prim.Native.Nat.{ℕ, ◌+◌, ◌≤◌, ◌<◌}
 use native.Mathlib.Numerals.{add-one}
 use native.Mathlib.Omega.{arith}
@@ -91,7 +91,7 @@ module _ (t : Bytes) (k : ℕ) (at : k ≡ bytes_before 61 t) where
   key_free : Meets (lacks 61 (take k t))
   key_free = rw at (before_free 61 t)
 
-  no_pair : is_pair t ≡ false → key_end t ≡ none
+  no_pair : is_pair t ≡ false → key_end t ≡ None
   unfolding key_end
   no_pair e = rw e
 
@@ -99,7 +99,7 @@ module _ (t : Bytes) (k : ℕ) (at : k ≡ bytes_before 61 t) where
   unfolding is_pair
   unequal h = ap (λ (l : List Bytes). keeps pair_rule (pair_of l)) (split_last 61 t (subst (λ (y : Bytes). Meets (lacks 61 y)) (take_all k t h) key_free))
 
-  pub no_equals : length t ≤ k → key_end t ≡ none
+  pub no_equals : length t ≤ k → key_end t ≡ None
   no_equals h = no_pair (unequal h)
 
   module _ (h : k < length t) where
@@ -109,15 +109,15 @@ module _ (t : Bytes) (k : ℕ) (at : k ≡ bytes_before 61 t) where
     pub by_sides : is_pair t ≡ (is_digits (take k t) && is_digits (drop (k + 1) t))
     by_sides = ap is_pair whole ∙ pair_text_lem (take k t) (drop (k + 1) t) key_free
 
-    pub key_not : is_digits (take k t) ≡ false → key_end t ≡ none
+    pub key_not : is_digits (take k t) ≡ false → key_end t ≡ None
     key_not e = no_pair (by_sides ∙ ap (λ (x : Bool). x && is_digits (drop (k + 1) t)) e)
 
-    pub value_not : is_digits (drop (k + 1) t) ≡ false → key_end t ≡ none
+    pub value_not : is_digits (drop (k + 1) t) ≡ false → key_end t ≡ None
     value_not e = no_pair (by_sides ∙ ap (λ (x : Bool). is_digits (take k t) && x) e ∙ and-false (is_digits (take k t)))
 
-    pub key_there : is_digits (take k t) ≡ true → is_digits (drop (k + 1) t) ≡ true → key_end t ≡ some k
+    pub key_there : is_digits (take k t) ≡ true → is_digits (drop (k + 1) t) ≡ true → key_end t ≡ Some k
     unfolding key_end
-    key_there ek ev = rw (by_sides, ek, ev) (ap some (sym at))
+    key_there ek ev = rw (by_sides, ek, ev) (ap Some (sym at))
 
 -- a key, up to k, and a value
 pub record KeyTo (t : Bytes) (k : ℕ) : Type 0 where
@@ -128,7 +128,7 @@ pub record KeyTo (t : Bytes) (k : ℕ) : Type 0 where
   pub high : k ≤ length t
 
 -- where a key ends, a pair stands
-pub key_told : (t : Bytes) (k : ℕ) → key_end t ≡ some k → KeyTo t k
+pub key_told : (t : Bytes) (k : ℕ) → key_end t ≡ Some k → KeyTo t k
 unfolding key_end
 key_told t k e = pick (is_pair t) refl e
   where
@@ -152,17 +152,17 @@ key_told t k e = pick (is_pair t) refl e
     found p true u = sides p (ltb-true n (length t) u)
     found p false u = absurd (true≢false (sym p ∙ unequal t n refl (ltb-false n (length t) u)))
 
-    pick : (u : Bool) → is_pair t ≡ u → cond u (some n) none ≡ some k → KeyTo t k
+    pick : (u : Bool) → is_pair t ≡ u → cond u (Some n) None ≡ Some k → KeyTo t k
     pick true p q =
         let same : n ≡ k = cc in
         subst (KeyTo t) same (found p (ltb n (length t)) refl)
     pick false p q = not_some q
 
-pub key_none : (t : Bytes) → key_end t ≡ none → is_pair t ≡ false
+pub key_none : (t : Bytes) → key_end t ≡ None → is_pair t ≡ false
 unfolding key_end
 key_none t e = pick (is_pair t) e
   where
-    pick : (u : Bool) → cond u (some (bytes_before 61 t)) none ≡ none → u ≡ false
+    pick : (u : Bool) → cond u (Some (bytes_before 61 t)) None ≡ None → u ≡ false
     pick true q = not_some (sym q)
     pick false q = refl
 

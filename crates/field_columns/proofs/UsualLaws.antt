@@ -2,25 +2,18 @@
 use mathlib.Core.Path.{◌≡◌, refl, sym, ap, ◌∙◌}
 use mathlib.Core.Bool.{Bool, true, false, ◌||◌}
 use mathlib.Core.List.{[], ◌∷◌}
-use mathlib.Core.Option.{some}
+use Rattle.std.specs.Prelude.{Some}
 use Prim.Native.Nat.{ℕ, ◌+◌}
-use native.Mathlib.Omega.{arith}
 use lib.Dec.{eqb}
 use lib.ListN.{get_or, drop}
 use borrow.Author.Tests.{eqb-true, eqb-false}
-use Rattle.sheets.specs.Rule.{is}
 use Rattle.sheets.specs.Bytes.{Bytes}
-use Rattle.sheets.specs.Answer.{Answer, ◌>>=◌}
-use Rattle.sheets.specs.Utf8.{is_utf8}
-use Rattle.sheets.specs.Field.{text_rule}
-use Rattle.sheets.specs.FieldSheet.{read_some}
 use Rattle.sheets.proofs.Tests.{never}
 use Rattle.columns.specs.Columns.{one_of, past_space, column_of}
 use Rattle.columns.specs.Pairs.{are_pairs}
 use Rattle.columns.proofs.FindLaws.{column_is}
 use Rattle.columns.proofs.OneByteLaws.{One, one_told, one_part, one_column}
 use Rattle.columns.proofs.PairsColumnLaws.{ascii_column, pairs_hold}
-use Rattle.field_columns.specs.Lists.{keeps}
 use Rattle.field_columns.specs.FieldColumns.{is_some_text, is_optional_text, is_content, is_usual, takes_text}
 use Rattle.field_columns.specs.declared.Content.{Content}
 use Rattle.field_columns.specs.declared.Content.TheVariants as C
@@ -50,7 +43,7 @@ module _ (k : Content) (s : Bytes) (a : ℕ) (one : one_of past_space 32 (drop a
   told : One past_space s a 32
   told = one_told past_space 32 s a one
 
-  pub usual_column : is_usual k (get_or s a 0) ≡ true → some (a + 1) ≡ column_of (is_content k) 32 s a
+  pub usual_column : is_usual k (get_or s a 0) ≡ true → Some (a + 1) ≡ column_of (is_content k) 32 s a
   usual_column h = sym (column_is (is_content k) refl (one_column told) (ap (is_content k) (one_part told) ∙ usual_content k (get_or s a 0) h))
 
 -- ── ASCII
@@ -71,5 +64,5 @@ content_ascii C.Ids h c p = never h
 content_ascii C.Flag h c p = never h
 content_ascii C.Pairs h c p = never h
 
-pub ascii_content : (k : Content) (s : Bytes) (a e : ℕ) → takes_text k ≡ true → some e ≡ column_of are_pairs 32 s a → some e ≡ column_of (is_content k) 32 s a
+pub ascii_content : (k : Content) (s : Bytes) (a e : ℕ) → takes_text k ≡ true → Some e ≡ column_of are_pairs 32 s a → Some e ≡ column_of (is_content k) 32 s a
 ascii_content k s a e h = pairs_hold (is_content k) s a e (content_ascii k h)

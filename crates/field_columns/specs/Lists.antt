@@ -1,6 +1,5 @@
 -- A column's list: a union's ids, a field's pairs. What `read_list` of document 01's definitions gives and the rules keep, as a test. Assumes nothing.
-use Rattle.std.specs.Prelude.{Bool, false, ◌||◌, cond, List, ℕ, ◌+◌, ℤ, drop}
-use Rattle.std.proofs.Math.Option.{Option, none, some}
+use Rattle.std.specs.Prelude.{Bool, false, ◌||◌, cond, List, ℕ, ◌+◌, ℤ, drop, Option, None, Some}
 use Rattle.sheets.specs.Rule.{Rule, is, ◌and◌, each, passes}
 use Rattle.sheets.specs.Bytes.{Bytes, comma, equals, ascii, same}
 use Rattle.sheets.specs.Parts.{bytes_before}
@@ -11,8 +10,6 @@ use Rattle.sheets.specs.Utf8.{is_utf8}
 use Rattle.sheets.specs.Field.{Pair, union, id_rule, grouping_rule, first_after, pair_rule, pairs_rule, metadata_rule}
 use Rattle.sheets.specs.FieldSheet.{no_text, read_list, read_pair}
 use Rattle.columns.specs.Columns.{part}
-use Rattle.field_columns.specs.declared.lists.PairAt.{PairAt}
-use Rattle.field_columns.specs.declared.lists.PairAt.TheVariants.{At, Nowhere}
 
 -- the answer is a value that keeps the rule
 abbrev pub keeps : {A : Type 0} → (A → Rule) → Answer A → Bool
@@ -50,24 +47,19 @@ is_pair t = keeps pair_rule (read_pair t)
 
 -- where the key of a pair ends
 unfoldable pub key_end : Bytes → Option ℕ
-key_end t = cond (is_pair t) (some (bytes_before equals t)) none
+key_end t = cond (is_pair t) (Some (bytes_before equals t)) None
 
 -- where the part from a on ends: at a comma, or with the list
 abbrev pub part_end : Bytes → ℕ → ℕ
 part_end c a = a + bytes_before comma (drop a c)
 
 abbrev pub places : ℕ → ℕ → Option ℕ → Option (ℕ × ℕ)
-places a e none = none
-places a e (some k) = some (a + k, e)
+places a e None = None
+places a e (Some k) = Some (a + k, e)
 
 -- where the key of the pair from a on ends, and where the pair does
 unfoldable pub pair_at : Bytes → ℕ → Option (ℕ × ℕ)
 pair_at c a = places a (part_end c a) (key_end (part c a (part_end c a)))
-
--- what `PairAt` says
-abbrev pub pair_places : PairAt → Option (ℕ × ℕ)
-pair_places (At k e) = some (k, e)
-pair_places Nowhere = none
 
 unfoldable pub are_pairs : List Bytes → Bool
 are_pairs ps = keeps pairs_rule (read_each read_pair ps)

@@ -5,10 +5,10 @@ pub mod lists;
 
 ghost use Rattle.std.specs.Prelude.{◌≡◌};
 ghost use Rattle.sheets.specs.Bytes.{space};
-ghost use Rattle.columns.specs.Columns.{column_of, place_option};
+ghost use Rattle.columns.specs.Columns.{column_of};
 ghost use Rattle.field_columns.specs.FieldColumns.{is_nothing, is_some_text, is_optional_text, is_flag, is_content, is_usual, takes_text};
 
-use columns::{Place, ascii_pairs};
+use columns::ascii_pairs;
 
 // What a column must hold.
 #[derive(Clone, Copy)]
@@ -113,30 +113,28 @@ fn takes_text(content: Content) -> bool
 }
 
 // The same as `content_column`, for a column of any bytes.
-fn any_content(s: &[u8], at: usize, content: Content) -> Place
-    ensures { place_option result ≡ column_of (is_content content) space s.now at }
+fn any_content(s: &[u8], at: usize, content: Content) -> Option<usize>
+    ensures { result ≡ column_of (is_content content) space s.now at }
 {
-    let Place::At(e) = columns::column(s, at, columns::any_end(s, at), b' ') else {
-        return Place::Nowhere;
-    };
+    let e = columns::column(s, at, columns::any_end(s, at), b' ')?;
     if is_content(&s[at..e], content) {
-        return Place::At(e);
+        return Some(e);
     }
-    Place::Nowhere
+    None
 }
 
 // The end of the column from place at on that holds this. Most are one byte or ASCII: then each byte is looked at once.
-pub fn content_column(s: &[u8], at: usize, content: Content) -> Place
-    ensures { place_option result ≡ column_of (is_content content) space s.now at }
+pub fn content_column(s: &[u8], at: usize, content: Content) -> Option<usize>
+    ensures { result ≡ column_of (is_content content) space s.now at }
 {
     if columns::one_byte(s, at, b' ') {
         if is_usual(content, s[at]) {
-            return Place::At(at + 1);
+            return Some(at + 1);
         }
     }
     if takes_text(content) {
-        if let Place::At(e) = ascii_pairs::pairs_column(s, at) {
-            return Place::At(e);
+        if let Some(e) = ascii_pairs::pairs_column(s, at) {
+            return Some(e);
         }
     }
     any_content(s, at, content)

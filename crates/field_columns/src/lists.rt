@@ -3,24 +3,20 @@
 ghost use Rattle.std.specs.Prelude.{◌≡◌, ◌+◌, ◌≤◌, length, drop};
 ghost use Rattle.sheets.specs.Bytes.{comma, split};
 ghost use Rattle.sheets.specs.Parts.{bytes_before};
-ghost use Rattle.columns.specs.Columns.{place_option};
-ghost use Rattle.field_columns.specs.Lists.{is_mark, are_ids, is_ids, is_digits, key_end, pair_places, pair_at, are_pairs, is_pairs};
+ghost use Rattle.field_columns.specs.Lists.{is_mark, are_ids, is_ids, is_digits, key_end, pair_at, are_pairs, is_pairs};
 
-use columns::{Place, ascii_pairs};
-use decimal::Signed32;
+use columns::ascii_pairs;
 
 // The first place from `from` on whose byte is sep, or the end.
 fn part_end(s: &[u8], from: usize, sep: u8) -> usize
     ensures { result ≡ from + bytes_before sep (drop from s.now) }
 {
-    let mut i = from;
-    while i < s.len() {
+    for i in from..s.len() {
         if s[i] == sep {
             return i;
         }
-        i += 1;
     }
-    i
+    from.max(s.len())
 }
 
 // Whether the column is `~` or `-`.
@@ -41,13 +37,14 @@ fn are_ids(c: &[u8]) -> bool
     ensures { result ≡ are_ids (split comma c.now) }
 {
     let mut end = part_end(c, 0, b',');
-    let Signed32::Value(_) = decimal::read_i32(&c[0..end]) else {
+    let Some(_) = decimal::read_i32(&c[0..end]) else {
         return false;
     };
+    // by place: each part tells where the next begins
     while end < c.len() {
         let next = end + 1;
         end = part_end(c, next, b',');
-        let Signed32::Value(_) = decimal::read_i32(&c[next..end]) else {
+        let Some(_) = decimal::read_i32(&c[next..end]) else {
             return false;
         };
     }
@@ -75,46 +72,37 @@ fn is_digits(t: &[u8]) -> bool
 }
 
 // The end of the key of a pair, if p is a key, `=` and a value.
-fn key_end(p: &[u8]) -> Place
-    ensures { place_option result ≡ key_end p.now }
+fn key_end(p: &[u8]) -> Option<usize>
+    ensures { result ≡ key_end p.now }
 {
     let k = part_end(p, 0, b'=');
     if p.len() <= k {
-        return Place::Nowhere;
+        return None;
     }
     if !is_digits(&p[0..k]) {
-        return Place::Nowhere;
+        return None;
     }
     let v = k + 1;
     if !is_digits(&p[v..]) {
-        return Place::Nowhere;
+        return None;
     }
-    Place::At(k)
-}
-
-// Where the key of a pair ends, and where the pair does.
-#[derive(Drop)]
-pub enum PairAt {
-    At(usize, usize),
-    Nowhere,
+    Some(k)
 }
 
 // The same as `pair_at`, for texts of any bytes.
-fn any_pair(c: &[u8], at: usize) -> PairAt
+fn any_pair(c: &[u8], at: usize) -> Option<(usize, usize)>
     requires { at ≤ length c.now }
-    ensures { pair_places result ≡ pair_at c.now at }
+    ensures { result ≡ pair_at c.now at }
 {
     let end = part_end(c, at, b',');
-    let Place::At(k) = key_end(&c[at..end]) else {
-        return PairAt::Nowhere;
-    };
-    PairAt::At(at + k, end)
+    let k = key_end(&c[at..end])?;
+    Some((at + k, end))
 }
 
-// The pair from place at on. In most, key and value are ASCII: then each byte is looked at once.
-fn pair_at(c: &[u8], at: usize) -> PairAt
+// Where the key of the pair from place at on ends, and where the pair does. In most, key and value are ASCII: then each byte is looked at once.
+fn pair_at(c: &[u8], at: usize) -> Option<(usize, usize)>
     requires { at ≤ length c.now }
-    ensures { pair_places result ≡ pair_at c.now at }
+    ensures { result ≡ pair_at c.now at }
 {
     let k = ascii_pairs::pairs_from(c, at);
     if c.len() <= k {
@@ -129,7 +117,7 @@ fn pair_at(c: &[u8], at: usize) -> PairAt
             return any_pair(c, at);
         }
     }
-    PairAt::At(k, e)
+    Some((k, e))
 }
 
 // Whether the parts between commas are pairs, each key after the one before it. Lowercase digits stand in the order of what they say, so that
@@ -137,15 +125,16 @@ fn pair_at(c: &[u8], at: usize) -> PairAt
 fn are_pairs(c: &[u8]) -> bool
     ensures { result ≡ are_pairs (split comma c.now) }
 {
-    let PairAt::At(first, first_end) = pair_at(c, 0) else {
+    let Some((first, first_end)) = pair_at(c, 0) else {
         return false;
     };
     let mut start = 0;
     let mut stop = first;
     let mut end = first_end;
+    // by place: each pair tells where the next begins
     while end < c.len() {
         let next = end + 1;
-        let PairAt::At(here, there) = pair_at(c, next) else {
+        let Some((here, there)) = pair_at(c, next) else {
             return false;
         };
         if !byte_order::is_before(&c[start..stop], &c[next..here]) {

@@ -3,7 +3,7 @@
 use mathlib.Core.Path.{◌≡◌, refl, sym, ◌∙◌, ap, ap₂, subst}
 use mathlib.Core.Bool.{Bool, true, false}
 use mathlib.Core.List.{List, [], ◌∷◌, ◌++◌}
-use mathlib.Core.Option.{Option, none, some}
+use Rattle.std.specs.Prelude.{Option, None, Some}
 use Prim.Native.Nat.{ℕ}
 use native.Mathlib.Omega.{arith}
 use Rattle.sheets.specs.Rule.{is, Meets}
@@ -49,17 +49,17 @@ pub record OwnFit (o : Own) (i : Option Info) : Type 0 where
   pub fits : OwnFits o
   pub bare : is_nothing o.0 ≡ is_bare i
 
-some_name : (n : Bytes) → is_utf8 n ≡ true → (is_some_text (write_text (some n)) ≡ true) × (is_nothing (write_text (some n)) ≡ false)
+some_name : (n : Bytes) → is_utf8 n ≡ true → (is_some_text (write_text (Some n)) ≡ true) × (is_nothing (write_text (Some n)) ≡ false)
 unfolding is_some_text is_nothing
-some_name n h = (rw (read_text_lem (some n) (utf8_bytes n h)) h, not_none n (read_text_lem (some n) (utf8_bytes n h)))
+some_name n h = (rw (read_text_lem (Some n) (utf8_bytes n h)) h, not_none n (read_text_lem (Some n) (utf8_bytes n h)))
   where
-    not_none : (n : Bytes) → read_text (write_text (some n)) ≡ given (some n) → same no_text (write_text (some n)) ≡ false
-    not_none n e = pick (same no_text (write_text (some n))) refl
+    not_none : (n : Bytes) → read_text (write_text (Some n)) ≡ given (Some n) → same no_text (write_text (Some n)) ≡ false
+    not_none n e = pick (same no_text (write_text (Some n))) refl
       where
-        pick : (t : Bool) → same no_text (write_text (some n)) ≡ t → t ≡ false
+        pick : (t : Bool) → same no_text (write_text (Some n)) ≡ t → t ≡ false
         pick false g = refl
         pick true g =
-            let z : ◌≡◌ {A = Answer (Option Bytes)} (given none) (given (some n)) = ap read_text (same_eq no_text (write_text (some n)) g) ∙ e in
+            let z : ◌≡◌ {A = Answer (Option Bytes)} (given None) (given (Some n)) = ap read_text (same_eq no_text (write_text (Some n)) g) ∙ e in
             absurd (let y : ◌≡◌ {A = ℕ} 0 1 = cc in omega arith)
 
 flag_fits : (b : Bool) → is_flag (decimal (to_nat b)) ≡ true
@@ -72,13 +72,13 @@ pairs_fit_lem ps h = ap (keeps metadata_rule) (read_pairs ps (pairs_listed ps h)
 
 fit_of : (i : Option Info) → Meets (own_rule i) → OwnFit (info_columns i) i
 unfolding is_nothing is_optional_text
-fit_of none h = record { fits = record { name_fit = refl; flag_fit = refl; pairs_fit = refl }; bare = refl }
-fit_of (some i) h =
+fit_of None h = record { fits = record { name_fit = refl; flag_fit = refl; pairs_fit = refl }; bare = refl }
+fit_of (Some i) h =
     let n = some_name i.name h.0 in
     record {
       fits =
           record {
-            name_fit = optional_some (write_text (some i.name)) n.1 ∙ n.0;
+            name_fit = optional_some (write_text (Some i.name)) n.1 ∙ n.0;
             flag_fit = ap (λ (b : Bool). is_content (flag_content b) (decimal (to_nat i.nullable))) n.1 ∙ flag_fits i.nullable;
             pairs_fit = ap (λ (b : Bool). is_content (pairs_content b) (write_list pair_text i.pairs)) n.1 ∙ pairs_fit_lem i.pairs h.1;
           };
@@ -124,9 +124,9 @@ fits_info o f = pick (is_nothing o.0) refl
     pick true e =
         let flag : is_nothing o.1.0 ≡ true = sym (ap (λ (b : Bool). is_content (flag_content b) o.1.0) e) ∙ f.flag_fit in
         let pairs : is_nothing o.1.1 ≡ true = sym (ap (λ (b : Bool). is_content (pairs_content b) o.1.1) e) ∙ f.pairs_fit in
-        made none refl (λ i. (nothing_is o.0 e i, (nothing_is o.1.0 flag i, nothing_is o.1.1 pairs i)))
+        made None refl (λ i. (nothing_is o.0 e i, (nothing_is o.1.0 flag i, nothing_is o.1.1 pairs i)))
     pick false e =
         let name = name_is_lem o.0 (sym (optional_some o.0 e) ∙ f.name_fit) in
         let flag = flag_is o.1.0 (sym (ap (λ (b : Bool). is_content (flag_content b) o.1.0) e) ∙ f.flag_fit) in
         let pairs = pairs_are o.1.1 (sym (ap (λ (b : Bool). is_content (pairs_content b) o.1.1) e) ∙ f.pairs_fit) in
-        made (some (record { name = name.0; nullable = flag.0; pairs = pairs.0 })) (name.2, pairs.2) (λ i. (name.1 i, (flag.1 i, pairs.1 i)))
+        made (Some (record { name = name.0; nullable = flag.0; pairs = pairs.0 })) (name.2, pairs.2) (λ i. (name.1 i, (flag.1 i, pairs.1 i)))

@@ -2,7 +2,7 @@
 use mathlib.Core.Path.{◌≡◌, refl, sym, ◌∙◌, ap, ap₂}
 use mathlib.Core.Bool.{Bool, true, false, cond, true≢false}
 use mathlib.Core.List.{List, [], ◌∷◌, map}
-use mathlib.Core.Option.{Option, none, some}
+use Rattle.std.specs.Prelude.{Option, None, Some}
 use Rattle.sheets.specs.Rule.{Rule, Meets}
 use Rattle.sheets.specs.Bytes.{Bytes, ascii, same, split, join}
 use Rattle.sheets.specs.Answer.{Answer, refused, given, ◌>>=◌, read_each}
@@ -26,7 +26,7 @@ module _ {A : Type 0} (write : A → Bytes) (read : Bytes → Answer A) (once : 
       ap (map write) (sym (same_given q.2)) ∙ ap₂ ◌∷◌ (once t p.0 p.1) (each_once ts q.0 q.1)
 
   -- no column has no parts
-  joined : (t : Bytes) (l : List A) → map write l ≡ split 44 t → write_list write (some l) ≡ t
+  joined : (t : Bytes) (l : List A) → map write l ≡ split 44 t → write_list write (Some l) ≡ t
   joined t [] e = let s = split_some 44 t in absurd (empty (e ∙ s.2))
     where
       empty : {p : Bytes} {ps : List Bytes} → ◌≡◌ {A = List Bytes} [] (p ∷ ps) → ⊥
@@ -36,9 +36,9 @@ module _ {A : Type 0} (write : A → Bytes) (read : Bytes → Answer A) (once : 
   pub list_once : (t : Bytes) (l : Option (List A)) → read_list read t ≡ given l → write_list write l ≡ t
   list_once t l e = pick (same t no_text) (same t (ascii "-")) refl refl e
     where
-      pick : (x y : Bool) → same t no_text ≡ x → same t (ascii "-") ≡ y → cond x (given none) (cond y (given (some [])) (read_each read (split 44 t) >>= λ v. given (some v))) ≡ given l → write_list write l ≡ t
+      pick : (x y : Bool) → same t no_text ≡ x → same t (ascii "-") ≡ y → cond x (given None) (cond y (given (Some [])) (read_each read (split 44 t) >>= λ v. given (Some v))) ≡ given l → write_list write l ≡ t
       pick true y f g h = ap (write_list write) (sym (same_given h)) ∙ sym (same_eq t no_text f)
       pick false true f g h = ap (write_list write) (sym (same_given h)) ∙ sym (same_eq t (ascii "-") g)
       pick false false f g h =
-          let q = first_gave (read_each read (split 44 t)) (λ v. given (some v)) l h in
+          let q = first_gave (read_each read (split 44 t)) (λ v. given (Some v)) l h in
           ap (write_list write) (sym (same_given q.2)) ∙ joined t q.0 (each_once (split 44 t) q.0 q.1)

@@ -3,7 +3,7 @@
 use mathlib.Core.Path.{◌≡◌, refl, sym, ◌∙◌, ap, subst}
 use mathlib.Core.Bool.{Bool, true, false, ◌||◌, cond, true≢false}
 use mathlib.Core.List.{List, [], ◌∷◌}
-use mathlib.Core.Option.{Option, none, some}
+use Rattle.std.specs.Prelude.{Option, None, Some}
 use Prim.Native.Nat.{ℕ, zero, suc, ◌^◌, ◌<◌}
 use native.Mathlib.Omega.{arith}
 use lib.Dec.{eqb, leb, ltb}
@@ -35,8 +35,8 @@ use Rattle.field_kinds.proofs.ListOnce.{keeps_given, list_once}
 -- ── from the shape to the columns
 
 listed_ids : (s : Bool) (ids : Option (List ℤ)) → Meets (list_rule id_rule ids) → Meets (grouping_rule (union s ids))
-listed_ids s none h = h
-listed_ids s (some ids) h = h
+listed_ids s None h = h
+listed_ids s (Some ids) h = h
 
 unit_small : (u : TimeUnit) → ltb (unit_place u) 4 ≡ true
 unit_small second = refl
@@ -52,9 +52,9 @@ text_fits : (t : Option Bytes) → Meets (text_rule t) → is_optional_text (wri
 unfolding is_optional_text
 text_fits t h = ap (keeps text_rule) (read_text_lem t (text_bytes t h)) ∙ passing (text_rule t) h
 
-name_fits_lem : (n : Bytes) → is_utf8 n ≡ true → is_some_text (write_text (some n)) ≡ true
+name_fits_lem : (n : Bytes) → is_utf8 n ≡ true → is_some_text (write_text (Some n)) ≡ true
 unfolding is_some_text
-name_fits_lem n h = ap (λ (a : Answer (Option Bytes)). keeps (λ (b : Bytes). is (is_utf8 b)) (a >>= read_some)) (read_text_lem (some n) (utf8_bytes n h)) ∙ h
+name_fits_lem n h = ap (λ (a : Answer (Option Bytes)). keeps (λ (b : Bytes). is (is_utf8 b)) (a >>= read_some)) (read_text_lem (Some n) (utf8_bytes n h)) ∙ h
 
 ids_fit : (ids : Option (List ℤ)) → Meets (list_rule id_rule ids) → is_ids (write_list write_signed ids) ≡ true
 unfolding is_ids
@@ -125,16 +125,16 @@ pub text_is_lem : (c : Bytes) → is_optional_text c ≡ true → (t : Option By
 unfolding is_optional_text
 text_is_lem c h = let w = keeps_given text_rule (read_text c) h in (w.0, text_read c w.0 w.1, w.2)
 
-pub name_is_lem : (c : Bytes) → is_some_text c ≡ true → (n : Bytes) × (write_text (some n) ≡ c) × (is_utf8 n ≡ true)
+pub name_is_lem : (c : Bytes) → is_some_text c ≡ true → (n : Bytes) × (write_text (Some n) ≡ c) × (is_utf8 n ≡ true)
 unfolding is_some_text
 name_is_lem c h =
     let w = keeps_given (λ (b : Bytes). is (is_utf8 b)) (read_text c >>= read_some) h in
     let t = first_gave (read_text c) read_some w.0 w.1 in
     go t.0 w.0 t.1 t.2 w.2
   where
-    go : (t : Option Bytes) (n : Bytes) → read_text c ≡ given t → read_some t ≡ given n → is_utf8 n ≡ true → (n : Bytes) × (write_text (some n) ≡ c) × (is_utf8 n ≡ true)
-    go none n e f u = absurd (let y : ◌≡◌ {A = ℕ} 0 1 = cc in omega arith)
-    go (some m) n e f u = (n, ap (λ (x : Bytes). write_text (some x)) (sym (same_given f)) ∙ text_read c (some m) e, u)
+    go : (t : Option Bytes) (n : Bytes) → read_text c ≡ given t → read_some t ≡ given n → is_utf8 n ≡ true → (n : Bytes) × (write_text (Some n) ≡ c) × (is_utf8 n ≡ true)
+    go None n e f u = absurd (let y : ◌≡◌ {A = ℕ} 0 1 = cc in omega arith)
+    go (Some m) n e f u = (n, ap (λ (x : Bytes). write_text (Some x)) (sym (same_given f)) ∙ text_read c (Some m) e, u)
 
 ids_are : (c : Bytes) → is_ids c ≡ true → (ids : Option (List ℤ)) × (write_list write_signed ids ≡ c) × Meets (list_rule id_rule ids)
 unfolding is_ids
@@ -181,7 +181,7 @@ kind_known k p l h = pick (leb k 41) refl
     pick false e =
         let far : 41 < k = leb-false k 41 e in
         let no : (n : ℕ) → n < 42 → eqb k n ≡ false = λ n s. ne_eqb k n (λ q. omega arith) in
-        let none : p_fits k p ≡ false = rw (
+        let None : p_fits k p ≡ false = rw (
           l,
           no Kind.Timestamp (omega arith),
           no Kind.FixedSizeBinary (omega arith),
@@ -195,7 +195,7 @@ kind_known k p l h = pick (leb k 41) refl
           no Kind.Union (omega arith),
           e,
         ) in
-        absurd (true≢false (sym h ∙ none))
+        absurd (true≢false (sym h ∙ None))
 
 module _ (p q : ℕ) (t m : Bytes) where
   at_kind : (k n : ℕ) → k ≡ n → (Fits (cols n p q t m) → Shaped (cols n p q t m)) → Fits (cols k p q t m) → Shaped (cols k p q t m)

@@ -2,7 +2,7 @@
 use mathlib.Core.Path.{◌≡◌, refl, sym, ap, ◌∙◌}
 use mathlib.Core.Bool.{Bool, true, false, ◌&&◌, ◌||◌, not, cond, and-true, true≢false}
 use mathlib.Core.List.{[], ◌∷◌}
-use mathlib.Core.Option.{Option, none, some}
+use Rattle.std.specs.Prelude.{Option, None, Some}
 use Prim.Native.Nat.{ℕ, suc, ◌+◌, ◌*◌, ◌-◌, ◌≤◌, ◌<◌}
 use native.Mathlib.Omega.{arith}
 use lib.Dec.{eqb, leb}
@@ -58,63 +58,63 @@ module _ (kind : ℕ) where
 -- ── the digits
 
 -- a column that is no number
-no_number : (t : Bytes) → passes (is (lean t) and all is_digit t) ≡ false → none ≡ kind_of t
+no_number : (t : Bytes) → passes (is (lean t) and all is_digit t) ≡ false → None ≡ kind_of t
 no_number t h = rw h
 
 -- one that is
-number : (t : Bytes) (kind : ℕ) → Meets (is (lean t) and all is_digit t) → value_from 0 t ≡ kind → kind_of t ≡ cond (is_short kind) (some kind) none
-number t kind h e = ap short_kind (when_met bad_lines (is (lean t) and all is_digit t) (value_from 0 t) h) ∙ ap (λ (n : ℕ). cond (is_short n) (some n) none) e
+number : (t : Bytes) (kind : ℕ) → Meets (is (lean t) and all is_digit t) → value_from 0 t ≡ kind → kind_of t ≡ cond (is_short kind) (Some kind) None
+number t kind h e = ap short_kind (when_met bad_lines (is (lean t) and all is_digit t) (value_from 0 t) h) ∙ ap (λ (n : ℕ). cond (is_short n) (Some n) None) e
 
 digit : (b : ℕ) → 48 ≤ b → b ≤ 57 → is_digit b ≡ true
 digit b h k = rw (le-leb 48 b h, le-leb b 57 k)
 
-pub no_digit : (a : ℕ) → (a < 48) → none ≡ kind_of (a ∷ [])
+pub no_digit : (a : ℕ) → (a < 48) → None ≡ kind_of (a ∷ [])
 no_digit a h = no_number (a ∷ []) (rw (lt-leb 48 a h))
 
-pub past_digit : (a : ℕ) → 48 ≤ a → 57 < a → none ≡ kind_of (a ∷ [])
+pub past_digit : (a : ℕ) → 48 ≤ a → 57 < a → None ≡ kind_of (a ∷ [])
 past_digit a h k = no_number (a ∷ []) (rw (le-leb 48 a h, lt-leb a 57 k))
 
 -- each of one digit is short
-pub one_kind : (a kind : ℕ) → 48 ≤ a → a ≤ 57 → kind ≡ a - 48 → some kind ≡ kind_of (a ∷ [])
+pub one_kind : (a kind : ℕ) → 48 ≤ a → a ≤ 57 → kind ≡ a - 48 → Some kind ≡ kind_of (a ∷ [])
 one_kind a kind h k e =
     let value : value_from 0 (a ∷ []) ≡ kind = omega arith in
-    sym (number (a ∷ []) kind (refl, (digit a h k, refl)) value ∙ ap (λ (t : Bool). cond t (some kind) none) short)
+    sym (number (a ∷ []) kind (refl, (digit a h k, refl)) value ∙ ap (λ (t : Bool). cond t (Some kind) None) short)
   where
     short : is_short kind ≡ true
     short = rw (le-leb kind 14 (omega arith), lt-leb 18 kind (omega arith))
 
 module _ (a b : ℕ) where
   -- "without spare zeros"
-  pub first_low : a ≤ 48 → none ≡ kind_of (a ∷ b ∷ [])
+  pub first_low : a ≤ 48 → None ≡ kind_of (a ∷ b ∷ [])
   first_low h = pick (eqb a 48) refl
     where
-      pick : (t : Bool) → eqb a 48 ≡ t → none ≡ kind_of (a ∷ b ∷ [])
+      pick : (t : Bool) → eqb a 48 ≡ t → None ≡ kind_of (a ∷ b ∷ [])
       pick true e = no_number (a ∷ b ∷ []) (rw e)
       pick false e = let d = eqb-false a 48 e in no_number (a ∷ b ∷ []) (rw (e, lt-leb 48 a (omega arith)))
 
   module _ (h : 48 < a) where
-    pub first_high : 57 < a → none ≡ kind_of (a ∷ b ∷ [])
+    pub first_high : 57 < a → None ≡ kind_of (a ∷ b ∷ [])
     first_high k = no_number (a ∷ b ∷ []) (rw (ne_eqb a 48 (λ e. omega arith), le-leb 48 a (omega arith), lt-leb a 57 k))
 
     module _ (k : a ≤ 57) where
-      pub second_low : b < 48 → none ≡ kind_of (a ∷ b ∷ [])
+      pub second_low : b < 48 → None ≡ kind_of (a ∷ b ∷ [])
       second_low l = no_number (a ∷ b ∷ []) (rw (ne_eqb a 48 (λ e. omega arith), le-leb 48 a (omega arith), le-leb a 57 k, lt-leb 48 b l))
 
       module _ (l : 48 ≤ b) where
-        pub second_high : 57 < b → none ≡ kind_of (a ∷ b ∷ [])
+        pub second_high : 57 < b → None ≡ kind_of (a ∷ b ∷ [])
         second_high m = no_number (a ∷ b ∷ []) (rw (ne_eqb a 48 (λ e. omega arith), le-leb 48 a (omega arith), le-leb a 57 k, le-leb 48 b l, lt-leb b 57 m))
 
         module _ (m : b ≤ 57) (kind : ℕ) (is-kind : kind ≡ (a - 48) * 10 + (b - 48)) where
-          two : kind_of (a ∷ b ∷ []) ≡ cond (is_short kind) (some kind) none
+          two : kind_of (a ∷ b ∷ []) ≡ cond (is_short kind) (Some kind) None
           two =
               let value : value_from 0 (a ∷ b ∷ []) ≡ kind = omega arith in
               number (a ∷ b ∷ []) kind (rw (ne_eqb a 48 (λ e. omega arith)), (digit a (omega arith) k, (digit b l m, refl))) value
 
-          pub other_kind : (t : Bool) → t ≡ is_short kind → t ≡ false → none ≡ kind_of (a ∷ b ∷ [])
-          other_kind t e f = sym (two ∙ ap (λ (u : Bool). cond u (some kind) none) (sym e ∙ f))
+          pub other_kind : (t : Bool) → t ≡ is_short kind → t ≡ false → None ≡ kind_of (a ∷ b ∷ [])
+          other_kind t e f = sym (two ∙ ap (λ (u : Bool). cond u (Some kind) None) (sym e ∙ f))
 
-          pub two_kind : (t : Bool) → t ≡ is_short kind → t ≡ true → some kind ≡ kind_of (a ∷ b ∷ [])
-          two_kind t e f = sym (two ∙ ap (λ (u : Bool). cond u (some kind) none) (sym e ∙ f))
+          pub two_kind : (t : Bool) → t ≡ is_short kind → t ≡ true → Some kind ≡ kind_of (a ∷ b ∷ [])
+          two_kind t e f = sym (two ∙ ap (λ (u : Bool). cond u (Some kind) None) (sym e ∙ f))
 
 -- ── where they stand
 

@@ -3,7 +3,7 @@
 use mathlib.Core.Path.{◌≡◌, refl, sym, ap, ap₂, subst, ◌∙◌}
 use mathlib.Core.Bool.{Bool, true, false, ◌&&◌, not, cond}
 use mathlib.Core.List.{List, [], ◌∷◌, ◌++◌, append_assoc}
-use mathlib.Core.Option.{Option, none, some}
+use Rattle.std.specs.Prelude.{Option, None, Some}
 use Prim.Native.Nat.{ℕ, zero, suc, ◌+◌, ◌*◌, ◌-◌, ◌≤◌, ◌<◌}
 use native.Mathlib.Nat.{zero-add, suc-add}
 use native.Mathlib.Omega.{arith}
@@ -173,31 +173,31 @@ module _ (s : Bytes) (at k e : ℕ) (is-k : k ≡ kind_end s at) (is_end : e ≡
   unfolding field_leaf_in
   leaf_is = ap (λ (i : ℕ). leaf_from s k i (kind_of (part s at k))) is_end ∙ ap (λ (i : ℕ). leaf_from s i (pairs_from s (i + 9)) (kind_of (part s at i))) is-k
 
-  from_none : (Kept s k e → ⊥) → (o : Option ℕ) → leaf_from s k e o ≡ none
-  from_none h none = refl
-  from_none h (some kind) = pick (passes (leaf_rule s k e)) refl
+  from_none : (Kept s k e → ⊥) → (o : Option ℕ) → leaf_from s k e o ≡ None
+  from_none h None = refl
+  from_none h (Some kind) = pick (passes (leaf_rule s k e)) refl
     where
-      pick : (t : Bool) → passes (leaf_rule s k e) ≡ t → cond t (some (told s kind k e)) none ≡ none
+      pick : (t : Bool) → passes (leaf_rule s k e) ≡ t → cond t (Some (told s kind k e)) None ≡ None
       pick true q = absurd (h (kept s k e (meets (leaf_rule s k e) q)))
       pick false q = refl
 
-  pub leaf_none : (Kept s k e → ⊥) → none ≡ field_leaf_in s at
+  pub leaf_none : (Kept s k e → ⊥) → None ≡ field_leaf_in s at
   leaf_none h = sym (from_none h (kind_of (part s at k))) ∙ leaf_is
 
-  pub leaf_some : (kind n : ℕ) → kind_of (part s at k) ≡ some kind → Kept s k e → nullable_at s e ≡ n → some (kind, (k + 9, (e, n))) ≡ field_leaf_in s at
+  pub leaf_some : (kind n : ℕ) → kind_of (part s at k) ≡ Some kind → Kept s k e → nullable_at s e ≡ n → Some (kind, (k + 9, (e, n))) ≡ field_leaf_in s at
   leaf_some kind n o h f =
-      (λ i. some (kind, (k + 9, (e, sym f i))))
-      ∙ ap (λ (t : Bool). cond t (some (told s kind k e)) none) (sym (passing (leaf_rule s k e) (keeps s k e h)))
+      (λ i. Some (kind, (k + 9, (e, sym f i))))
+      ∙ ap (λ (t : Bool). cond t (Some (told s kind k e)) None) (sym (passing (leaf_rule s k e) (keeps s k e h)))
       ∙ ap (leaf_from s k e) (sym o)
       ∙ leaf_is
 
 module _ (s : Bytes) (at : ℕ) where
-  pub leaf_other : kind_of (part s at (kind_end s at)) ≡ none → none ≡ field_leaf_in s at
+  pub leaf_other : kind_of (part s at (kind_end s at)) ≡ None → None ≡ field_leaf_in s at
   unfolding field_leaf_in
   leaf_other h = sym (ap (leaf_from s (kind_end s at) (pairs_from s (kind_end s at + 9))) h)
 
   -- a name has a pair of digits or more
-  pub leaf_short : length s < at + 19 → none ≡ field_leaf_in s at
+  pub leaf_short : length s < at + 19 → None ≡ field_leaf_in s at
   leaf_short h =
       leaf_none s at (kind_end s at) (pairs_from s (kind_end s at + 9)) refl refl
       (λ k. omega (arith, kept_high k, pairs_two s (kind_end s at + 9) k.long, (end_near s at).0))
@@ -206,7 +206,7 @@ module _ (s : Bytes) (at : ℕ) where
 
 -- the line of a leaf, if it had children
 count_text : (kind : ℕ) (b : Bytes) (n c : ℕ) → 0 < length b → n < 2
-    → (head_text kind ++ hex b) ++ (32 ∷ (48 + n) ∷ 32 ∷ 126 ∷ 32 ∷ (decimal c ++ (10 ∷ []))) ≡ ended (field_line.write (line_of (of_scalar (leaf kind 0)) (some (leaf_info b n)) c) ∷ [])
+    → (head_text kind ++ hex b) ++ (32 ∷ (48 + n) ∷ 32 ∷ 126 ∷ 32 ∷ (decimal c ++ (10 ∷ []))) ≡ ended (field_line.write (line_of (of_scalar (leaf kind 0)) (Some (leaf_info b n)) c) ∷ [])
 unfolding unused_text head_text decimal
 count_text kind [] n c h l = absurd (omega arith)
 count_text kind (x ∷ b) zero c h l = simp append_assoc
@@ -215,10 +215,10 @@ count_text kind (x ∷ b) (suc (suc n)) c h l = absurd (omega arith)
 
 -- of any type that its kind alone tells, with one digit of children
 pub short_text_lem : (x : Shape) (kind : ℕ) → columns x ≡ columns (of_scalar (leaf kind 0)) → (b : Bytes) (n c : ℕ) → decimal c ≡ (48 + c) ∷ [] → 0 < length b → n < 2
-    → short_text kind (hex b) n c ≡ ended (field_line.write (line_of x (some (leaf_info b n)) c) ∷ [])
+    → short_text kind (hex b) n c ≡ ended (field_line.write (line_of x (Some (leaf_info b n)) c) ∷ [])
 unfolding tail_text
 short_text_lem x kind e b n c d h l =
-    let own = info_columns (some (leaf_info b n)) in
+    let own = info_columns (Some (leaf_info b n)) in
     ap (λ (t : Bytes). (head_text kind ++ hex b) ++ (32 ∷ (48 + n) ∷ 32 ∷ 126 ∷ 32 ∷ (t ++ (10 ∷ [])))) (sym d)
     ∙ count_text kind b n c h l
     ∙ ap (λ (k : Columns). ended (field_line.write (k.kind, (k.p, (k.q, (k.text, (k.more, (own.0, (own.1.0, (own.1.1, (c, tt))))))))) ∷ [])) (sym e)
@@ -241,14 +241,14 @@ head_read t i own rule =
 
 -- ── what `field_leaf_in` tells
 
-kind_told : (t : Bytes) (kind : ℕ) → kind_of t ≡ some kind → (t ≡ decimal kind) × (is_short kind ≡ true)
+kind_told : (t : Bytes) (kind : ℕ) → kind_of t ≡ Some kind → (t ≡ decimal kind) × (is_short kind ≡ true)
 kind_told t kind h = go (read_number t) refl h
   where
-    go : (a : Answer ℕ) → read_number t ≡ a → short_kind a ≡ some kind → (t ≡ decimal kind) × (is_short kind ≡ true)
+    go : (a : Answer ℕ) → read_number t ≡ a → short_kind a ≡ Some kind → (t ≡ decimal kind) × (is_short kind ≡ true)
     go (refused r) q f = not_some f
     go (given n) q f = pick (is_short n) refl f
       where
-        pick : (u : Bool) → is_short n ≡ u → cond u (some n) none ≡ some kind → (t ≡ decimal kind) × (is_short kind ≡ true)
+        pick : (u : Bool) → is_short n ≡ u → cond u (Some n) None ≡ Some kind → (t ≡ decimal kind) × (is_short kind ≡ true)
         pick true p g = let e = same_some g in (sym (number_read t n q) ∙ ap decimal e, ap is_short (sym e) ∙ p)
         pick false p g = not_some g
 
@@ -292,8 +292,8 @@ module _ (s : Bytes) (at kind k e : ℕ) (digits : part s at k ≡ decimal kind)
               record {
                 bytes = text;
                 is = stands;
-                free = (type_ends (scalar (leaf kind 0)) (some info) (utf8, refl) rule).0;
-                reads = head_read (leaf kind 0) (some info) (utf8, refl) rule;
+                free = (type_ends (scalar (leaf kind 0)) (Some info) (utf8, refl) rule).0;
+                reads = head_read (leaf kind 0) (Some info) (utf8, refl) rule;
                 counts = refl;
                 own = ((utf8, refl), rule);
                 low = omega (arith, h.long);
@@ -313,7 +313,7 @@ module _ (s : Bytes) (at kind k e : ℕ) (digits : part s at k ≡ decimal kind)
           high = kept_high h;
         }
 
-pub leaf_told : (s : Bytes) (at : ℕ) {kind from e nullable : ℕ} → field_leaf_in s at ≡ some (kind, (from, (e, nullable))) → FieldLeafAt s at kind from e nullable
+pub leaf_told : (s : Bytes) (at : ℕ) {kind from e nullable : ℕ} → field_leaf_in s at ≡ Some (kind, (from, (e, nullable))) → FieldLeafAt s at kind from e nullable
 unfolding field_leaf_in
 leaf_told s at {kind} {from} {e} {nullable} h = go (kind_of (part s at k)) refl h
   where
@@ -323,11 +323,11 @@ leaf_told s at {kind} {from} {e} {nullable} h = go (kind_of (part s at k)) refl 
     end : ℕ
     end = pairs_from s (k + 9)
 
-    go : (o : Option ℕ) → kind_of (part s at k) ≡ o → leaf_from s k end o ≡ some (kind, (from, (e, nullable))) → FieldLeafAt s at kind from e nullable
-    go none q f = not_some f
-    go (some n) q f = pick (passes (leaf_rule s k end)) refl f
+    go : (o : Option ℕ) → kind_of (part s at k) ≡ o → leaf_from s k end o ≡ Some (kind, (from, (e, nullable))) → FieldLeafAt s at kind from e nullable
+    go None q f = not_some f
+    go (Some n) q f = pick (passes (leaf_rule s k end)) refl f
       where
-        pick : (t : Bool) → passes (leaf_rule s k end) ≡ t → cond t (some (told s n k end)) none ≡ some (kind, (from, (e, nullable))) → FieldLeafAt s at kind from e nullable
+        pick : (t : Bool) → passes (leaf_rule s k end) ≡ t → cond t (Some (told s n k end)) None ≡ Some (kind, (from, (e, nullable))) → FieldLeafAt s at kind from e nullable
         pick true p g =
             let d = kind_told (part s at k) n q in
             subst (λ (t : Told). FieldLeafAt s at t.0 t.1.0 t.1.1.0 t.1.1.1) (same_some g)

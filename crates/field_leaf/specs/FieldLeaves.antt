@@ -1,7 +1,6 @@
 -- The short line of a leaf in a field sheet, as most lines are: `K 0 0 ~ ~ NN.. n ~ 0`, a kind that has no unit, a name in ASCII, `nullable` 0 or 1, no pairs
 -- and nothing below. Assumes nothing.
-use Rattle.std.specs.Prelude.{◌≡◌, Bool, true, ◌&&◌, not, cond, [], ◌∷◌, ℕ, ◌+◌, ◌-◌, ◌≤◌, ◌<◌, eqb, leb, ltb, length, get_or}
-use Rattle.std.proofs.Math.Option.{Option, none, some}
+use Rattle.std.specs.Prelude.{◌≡◌, Bool, true, ◌&&◌, not, cond, [], ◌∷◌, ℕ, ◌+◌, ◌-◌, ◌≤◌, ◌<◌, eqb, leb, ltb, length, get_or, Option, None, Some}
 use Rattle.sheets.specs.Rule.{Rule, is, ◌and◌, passes, Meets}
 use Rattle.sheets.specs.Bytes.{Bytes, space, same, all, lacks}
 use Rattle.sheets.specs.Answer.{Answer, refused, given}
@@ -15,10 +14,7 @@ use Rattle.sheets.specs.TreeWalks.{LineAt}
 use Rattle.columns.specs.Columns.{part}
 use Rattle.columns.specs.Pairs.{pairs_from}
 use Rattle.field_leaf.specs.LeafText.{unused_text, tail_text}
-use Rattle.field_leaf.specs.declared.LeafKind.{LeafKind}
-use Rattle.field_leaf.specs.declared.LeafKind.TheVariants as K
 use Rattle.field_leaf.specs.declared.FieldLeaf.{FieldLeaf}
-use Rattle.field_leaf.specs.declared.FieldLeaf.TheVariants as L
 
 -- ── its kind
 
@@ -27,8 +23,8 @@ abbrev pub is_short : ℕ → Bool
 is_short kind = is_leaf kind && not (has_unit kind)
 
 abbrev pub short_kind : Answer ℕ → Option ℕ
-short_kind (refused r) = none
-short_kind (given kind) = cond (is_short kind) (some kind) none
+short_kind (refused r) = None
+short_kind (given kind) = cond (is_short kind) (Some kind) None
 
 -- the kind that the column's digits say
 abbrev pub kind_of : Bytes → Option ℕ
@@ -37,10 +33,6 @@ kind_of t = short_kind (read_number t)
 -- where its one or two digits end
 abbrev pub kind_end : Bytes → ℕ → ℕ
 kind_end s at = cond (eqb (get_or s (at + 1) 0) space) (at + 1) (at + 2)
-
-abbrev pub kind_option : LeafKind → Option ℕ
-kind_option (K.Is kind) = some kind
-kind_option K.Other = none
 
 -- ── the line
 
@@ -61,32 +53,32 @@ abbrev pub Told : Type 0
 Told = ℕ × (ℕ × (ℕ × ℕ))
 
 abbrev pub leaf_from : Bytes → ℕ → ℕ → Option ℕ → Option Told
-leaf_from s k e none = none
-leaf_from s k e (some kind) = cond (passes (leaf_rule s k e)) (some (kind, (k + 9, (e, nullable_at s e)))) none
+leaf_from s k e None = None
+leaf_from s k e (Some kind) = cond (passes (leaf_rule s k e)) (Some (kind, (k + 9, (e, nullable_at s e)))) None
 
 -- the short line of a leaf from `at` on, if one stands there
 unfoldable pub field_leaf_in : Bytes → ℕ → Option Told
 field_leaf_in s at = leaf_from s (kind_end s at) (pairs_from s (kind_end s at + 9)) (kind_of (part s at (kind_end s at)))
 
 -- what `FieldLeaf` says
-abbrev pub leaf_option : FieldLeaf → Option Told
-leaf_option (L.Line kind from e nullable) = some (kind, (from, (e, nullable)))
-leaf_option L.Other = none
+abbrev pub leaf_option : Option FieldLeaf → Option Told
+leaf_option (Some l) = Some (l.kind, (l.start, (l.end, l.nullable)))
+leaf_option None = None
 
 -- ── what is known of such a line
 
 -- what it says of its field; the field; the line as a reader of lines tells it, and its bytes
 abbrev pub leaf_info : Bytes → ℕ → Info
-leaf_info name nullable = record { name = name; nullable = eqb nullable 1; pairs = none }
+leaf_info name nullable = record { name = name; nullable = eqb nullable 1; pairs = None }
 
 abbrev pub leaf_field : ℕ → Bytes → ℕ → Field
 leaf_field kind name nullable = record { info = leaf_info name nullable; type = scalar (leaf kind 0) }
 
 abbrev pub leaf_head : ℕ → Bytes → ℕ → Head
-leaf_head kind name nullable = record { shape = of_scalar (leaf kind 0); info = some (leaf_info name nullable); children = 0 }
+leaf_head kind name nullable = record { shape = of_scalar (leaf kind 0); info = Some (leaf_info name nullable); children = 0 }
 
 abbrev pub leaf_line : ℕ → Bytes → ℕ → Bytes
-leaf_line kind name nullable = field_line.write (line_of (of_scalar (leaf kind 0)) (some (leaf_info name nullable)) 0)
+leaf_line kind name nullable = field_line.write (line_of (of_scalar (leaf kind 0)) (Some (leaf_info name nullable)) 0)
 
 -- such a line stands at `at`, and its name is these bytes, of which there is one or more: ASCII, so UTF-8, and none is 00
 pub record FieldLeafAt (s : Bytes) (at kind from e nullable : ℕ) : Type 0 where

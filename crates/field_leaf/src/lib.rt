@@ -3,7 +3,7 @@
 
 ghost use Rattle.std.specs.Prelude.{◌≡◌, [], ◌∷◌, ◌+◌, ◌≤◌, length};
 ghost use Rattle.columns.specs.Columns.{part};
-ghost use Rattle.field_leaf.specs.FieldLeaves.{is_short, kind_of, kind_option, kind_end, field_leaf_in, leaf_option};
+ghost use Rattle.field_leaf.specs.FieldLeaves.{is_short, kind_of, kind_end, field_leaf_in, leaf_option};
 
 use buffer::wide;
 use datatypes::kind;
@@ -25,19 +25,6 @@ const NULLABLE: u64 = 0x7e203120;
 // `~ 0` and byte 10.
 const LINE_END: u64 = 0x0a30207e;
 
-// The kind, where the name begins, where it ends, and `nullable`.
-#[derive(Drop)]
-pub enum FieldLeaf {
-    Line(u64, usize, usize, u64),
-    Other,
-}
-
-#[derive(Drop)]
-enum LeafKind {
-    Is(u64),
-    Other,
-}
-
 // A leaf that has no unit. Numbers and texts, as most are, are told first.
 fn is_short(kind: u64) -> bool
     ensures { result ≡ is_short kind }
@@ -55,39 +42,39 @@ fn is_short(kind: u64) -> bool
 }
 
 // The kind of one digit: each of them is a leaf's that has no unit.
-fn one_digit(a: u8) -> LeafKind
-    ensures { kind_option result ≡ kind_of (a ∷ []) }
+fn one_digit(a: u8) -> Option<u64>
+    ensures { result ≡ kind_of (a ∷ []) }
 {
     if a < b'0' {
-        return LeafKind::Other;
+        return None;
     }
     if b'9' < a {
-        return LeafKind::Other;
+        return None;
     }
-    LeafKind::Is(wide(a - b'0'))
+    Some(wide(a - b'0'))
 }
 
 // The kind of two digits.
-fn two_digits(a: u8, b: u8) -> LeafKind
-    ensures { kind_option result ≡ kind_of (a ∷ b ∷ []) }
+fn two_digits(a: u8, b: u8) -> Option<u64>
+    ensures { result ≡ kind_of (a ∷ b ∷ []) }
 {
     if a <= b'0' {
-        return LeafKind::Other;
+        return None;
     }
     if b'9' < a {
-        return LeafKind::Other;
+        return None;
     }
     if b < b'0' {
-        return LeafKind::Other;
+        return None;
     }
     if b'9' < b {
-        return LeafKind::Other;
+        return None;
     }
     let kind = wide(a - b'0') * 10 + wide(b - b'0');
     if is_short(kind) {
-        return LeafKind::Is(kind);
+        return Some(kind);
     }
-    LeafKind::Other
+    None
 }
 
 // Where the kind's digits end.
@@ -102,9 +89,9 @@ fn kind_end(s: &[u8], at: usize) -> usize
 }
 
 // The kind that they say.
-fn kind_at(s: &[u8], at: usize) -> LeafKind
+fn kind_at(s: &[u8], at: usize) -> Option<u64>
     requires { at + 2 ≤ length s.now }
-    ensures { kind_option result ≡ kind_of (part s.now at (kind_end s.now at)) }
+    ensures { result ≡ kind_of (part s.now at (kind_end s.now at)) }
 {
     if s[at + 1] == b' ' {
         return one_digit(s[at]);
@@ -112,43 +99,60 @@ fn kind_at(s: &[u8], at: usize) -> LeafKind
     two_digits(s[at], s[at + 1])
 }
 
+// A leaf's line: its kind, where its name begins and where it ends, and `nullable`.
+#[derive(Drop)]
+pub struct FieldLeaf {
+    pub kind: u64,
+    pub start: usize,
+    pub end: usize,
+    pub nullable: u64,
+}
+
 // The leaf's line from place at on. Eight bytes after the kind are compared as one number, and so are four and four after the name.
-pub fn leaf_at(s: &[u8], at: usize) -> FieldLeaf
+pub fn leaf_at(s: &[u8], at: usize) -> Option<FieldLeaf>
     ensures { leaf_option result ≡ field_leaf_in s.now at }
 {
     if s.len() < SHORTEST {
-        return FieldLeaf::Other;
+        return None;
     }
     if s.len() - SHORTEST < at {
-        return FieldLeaf::Other;
+        return None;
     }
-    let LeafKind::Is(kind) = kind_at(s, at) else {
-        return FieldLeaf::Other;
-    };
+    let kind = kind_at(s, at)?;
     let k = kind_end(s, at);
     if words::word8_at(s, k) != AFTER_KIND {
-        return FieldLeaf::Other;
+        return None;
     }
     if s[k + 8] != b' ' {
-        return FieldLeaf::Other;
+        return None;
     }
     let from = k + 9;
     let e = columns::ascii_pairs::pairs_from(s, from);
     if e == from {
-        return FieldLeaf::Other;
+        return None;
     }
     if s.len() - e < AFTER_NAME {
-        return FieldLeaf::Other;
+        return None;
     }
     if words::word4_at(s, e + 3) != LINE_END {
-        return FieldLeaf::Other;
+        return None;
     }
     let w = words::word4_at(s, e);
     if w == NOT_NULLABLE {
-        return FieldLeaf::Line(kind, from, e, 0);
+        return Some(FieldLeaf {
+            kind,
+            start: from,
+            end: e,
+            nullable: 0,
+        });
     }
     if w == NULLABLE {
-        return FieldLeaf::Line(kind, from, e, 1);
+        return Some(FieldLeaf {
+            kind,
+            start: from,
+            end: e,
+            nullable: 1,
+        });
     }
-    FieldLeaf::Other
+    None
 }

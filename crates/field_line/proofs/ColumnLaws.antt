@@ -3,7 +3,7 @@
 use mathlib.Core.Path.{◌≡◌, refl, sym, subst, ◌∙◌}
 use mathlib.Core.Bool.{Bool, true, false}
 use mathlib.Core.List.{[], ◌∷◌, ◌++◌, append_assoc}
-use mathlib.Core.Option.{Option, none}
+use Rattle.std.specs.Prelude.{Option, None}
 use Prim.Native.Nat.{ℕ, ◌+◌}
 use Rattle.sheets.specs.Bytes.{Bytes, line_end, space, equals}
 use Rattle.sheets.specs.Number.{decimal}
@@ -42,8 +42,8 @@ then_space before text = append_assoc before text (space ∷ [])
 
 -- a bare line, as the writers of its shape, of `~ ~ ~ ` and of its end leave it
 pub bare_line : (s : Shape) (children : ℕ)
-    → ended (field_line.write (line_of s none children) ∷ []) ≡ (columns_piece (columns s) ++ own_piece no_text no_text no_text) ++ end_piece children
-bare_line s children = line_pieces_left s none children
+    → ended (field_line.write (line_of s None children) ∷ []) ≡ (columns_piece (columns s) ++ own_piece no_text no_text no_text) ++ end_piece children
+bare_line s children = line_pieces_left s None children
 
 -- ── pairs
 

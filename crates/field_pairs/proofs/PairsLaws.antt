@@ -3,7 +3,7 @@
 use mathlib.Core.Path.{◌≡◌, refl, sym, ap, ap₂, subst, ◌∙◌}
 use mathlib.Core.Bool.{Bool, true, false, not, cond, true≢false}
 use mathlib.Core.List.{List, [], ◌∷◌, ◌++◌, map, append_assoc, append-nil}
-use mathlib.Core.Option.{Option, none, some}
+use Rattle.std.specs.Prelude.{Option, None, Some}
 use Prim.Native.Nat.{ℕ, zero, suc, ◌+◌, ◌-◌, ◌/◌, ◌%◌, ◌≤◌, ◌<◌, min}
 use native.Mathlib.Numerals.{add-one}
 use native.Mathlib.Omega.{arith}
@@ -125,7 +125,7 @@ module _ (s : Bytes) (a e : ℕ) (below : a ≤ e) (high : e ≤ length s) where
 -- a column says the pairs that it was written from
 pub pairs_in_lem : (ps : Option (List Pair)) → Meets (metadata_rule ps) → pairs_in (write_list pair_text ps) ≡ ps
 unfolding pairs_in
-pairs_in_lem ps h = ap (given_or none) (read_pairs ps (pairs_listed ps h))
+pairs_in_lem ps h = ap (given_or None) (read_pairs ps (pairs_listed ps h))
 
 pub joined : (p : Pair) (ps : List Pair) → join comma (pair_text p ∷ map pair_text ps) ≡ pairs_text (p ∷ ps)
 joined p [] = sym (append-nil (pair_text p))
@@ -134,7 +134,7 @@ joined p (q ∷ ps) = ap (λ (t : Bytes). pair_text p ++ (comma ∷ t)) (joined 
 pub pairs_of_lem : (ps : List Pair) → Meets (pairs_rule ps) → pairs_of (pairs_text ps) ≡ ps
 unfolding pairs_of
 pairs_of_lem [] h = refl
-pairs_of_lem (p ∷ ps) h = ap (λ (t : Bytes). or_none (pairs_in t)) (sym (joined p ps)) ∙ ap or_none (pairs_in_lem (some (p ∷ ps)) h)
+pairs_of_lem (p ∷ ps) h = ap (λ (t : Bytes). or_none (pairs_in t)) (sym (joined p ps)) ∙ ap or_none (pairs_in_lem (Some (p ∷ ps)) h)
 
 -- ── from a place on
 
@@ -324,9 +324,9 @@ pub column_some : (column : Bytes) → PairsColumn column → 0 < length column
 column_some column h = go h.pairs h.text
   where
     go : (ps : Option (List Pair)) → column ≡ write_list pair_text ps → 0 < length column
-    go none e = omega (arith, ap length e)
-    go (some []) e = omega (arith, ap length e)
-    go (some (p ∷ ps)) e =
+    go None e = omega (arith, ap length e)
+    go (Some []) e = omega (arith, ap length e)
+    go (Some (p ∷ ps)) e =
         omega (arith, ap length e ∙ ap length (joined p ps) ∙ length-append (pair_text p) (after_commas ps), length-append (hex p.0) (equals ∷ hex p.1))
 
 -- no pair begins with `~` or `-`
@@ -353,9 +353,9 @@ unfolding pairs_of pairs_in
 first_pairs column h s = subst FirstPairs (sym h.text) (go h.pairs h.rule (omega (arith, s, sym (ap length h.text))))
   where
     go : (ps : Option (List Pair)) → Meets (metadata_rule ps) → length (write_list pair_text ps) < 65536 → FirstPairs (write_list pair_text ps)
-    go none k l = (record { short = l; within = omega arith; text = record { pairs = []; is = refl; rule = refl } }, refl)
-    go (some []) k l = (record { short = l; within = omega arith; text = record { pairs = []; is = refl; rule = refl } }, refl)
-    go (some (p ∷ ps)) k l =
+    go None k l = (record { short = l; within = omega arith; text = record { pairs = []; is = refl; rule = refl } }, refl)
+    go (Some []) k l = (record { short = l; within = omega arith; text = record { pairs = []; is = refl; rule = refl } }, refl)
+    go (Some (p ∷ ps)) k l =
         let c : eqb (get_or (pairs_text (p ∷ ps)) 0 0) 126 ≡ false = no_sign p ps 126 k.0 refl (hex_lacks 126 refl) in
         let d : eqb (get_or (pairs_text (p ∷ ps)) 0 0) 45 ≡ false = no_sign p ps 45 k.0 refl (hex_lacks 45 refl) in
         subst FirstPairs (sym (joined p ps))

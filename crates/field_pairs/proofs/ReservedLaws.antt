@@ -3,7 +3,7 @@
 use mathlib.Core.Path.{◌≡◌, refl, sym, ap, ap₂, subst, ◌∙◌}
 use mathlib.Core.Bool.{Bool, true, false, ◌&&◌, ◌||◌, not, or-false}
 use mathlib.Core.List.{List, [], ◌∷◌}
-use mathlib.Core.Option.{Option, none, some}
+use Rattle.std.specs.Prelude.{Option, None, Some}
 use Prim.Native.Nat.{ℕ, ◌≤◌, ◌<◌}
 use native.Mathlib.Omega.{arith}
 use lib.ListN.{length, get_or, take, drop}
@@ -125,10 +125,10 @@ module _ (column : Bytes) where
 -- ── a field's own column
 
 pub pairs_column_lem : (info : Option Info) → Meets (own_rule info) → PairsColumn (info_columns info).1.1
-pairs_column_lem none h = record { pairs = none; text = refl; rule = refl }
-pairs_column_lem (some i) h = record { pairs = i.pairs; text = refl; rule = h.1 }
+pairs_column_lem None h = record { pairs = None; text = refl; rule = refl }
+pairs_column_lem (Some i) h = record { pairs = i.pairs; text = refl; rule = h.1 }
 
 pub reserved_told : (info : Option Info) → Meets (own_rule info) → has_reserved (info_columns info).1.1 ≡ not (passes (keys_rule info))
 unfolding has_reserved pairs_of
-reserved_told none h = ap (λ (o : Option (List Pair)). any_reserved (or_none o)) (pairs_in_lem none refl)
-reserved_told (some i) h = ap (λ (o : Option (List Pair)). any_reserved (or_none o)) (pairs_in_lem i.pairs h.1)
+reserved_told None h = ap (λ (o : Option (List Pair)). any_reserved (or_none o)) (pairs_in_lem None refl)
+reserved_told (Some i) h = ap (λ (o : Option (List Pair)). any_reserved (or_none o)) (pairs_in_lem i.pairs h.1)

@@ -1,7 +1,6 @@
 -- The column `pairs` of a field line: "`pairs` is `key=value` in hexadecimal, joined by commas", and the pairs from a place of it on. Assumes
 -- nothing.
-use Rattle.std.specs.Prelude.{◌≡◌, Bool, false, ◌||◌, cond, List, [], ◌∷◌, ◌++◌, ℕ, suc, ◌+◌, ◌≤◌, ◌<◌, eqb, ltb, length, get_or, drop}
-use Rattle.std.proofs.Math.Option.{Option, none}
+use Rattle.std.specs.Prelude.{◌≡◌, Bool, false, ◌||◌, cond, List, [], ◌∷◌, ◌++◌, ℕ, suc, ◌+◌, ◌≤◌, ◌<◌, eqb, ltb, length, get_or, drop, Option, None}
 use Rattle.sheets.specs.Rule.{Meets}
 use Rattle.sheets.specs.Bytes.{Bytes, comma}
 use Rattle.sheets.specs.Text.{hex}
@@ -24,7 +23,7 @@ pub record PassesDigits (s : Bytes) (a e : ℕ) : Type 0 where
 
 -- what the column says: `~` is None
 unfoldable pub pairs_in : Bytes → Option (List Pair)
-pairs_in column = given_or none (read_list read_pair column)
+pairs_in column = given_or None (read_list read_pair column)
 
 -- the pairs of a text: none where it is empty
 unfoldable pub pairs_of : Bytes → List Pair

@@ -25,14 +25,12 @@ fn scan(s: &[u8], from: usize, b: u8) -> usize
     requires { from ≤ length s.now }
     ensures { result ≡ from + reach b (drop from s.now) }
 {
-    let mut i = from;
-    while i < s.len() {
+    for i in from..s.len() {
         if s[i] == b {
             return i;
         }
-        i += 1;
     }
-    i
+    s.len()
 }
 
 // A place after blocks of digits.
@@ -41,6 +39,7 @@ fn pass_digits(s: &[u8], from: usize) -> usize
     ensures { PassesDigits s.now from result }
 {
     let mut i = from;
+    // by index: the answer is the place where a block has another byte
     while BLOCK <= s.len() - i {
         let next = i + BLOCK;
         if !hexadecimal::is_hex(&s[i..next]) {
@@ -144,6 +143,7 @@ fn mentions(pairs: &[u8]) -> bool
         return false;
     }
     let mut found = false;
+    // by index: four places are read at each
     for i in 0..pairs.len() - (LEAST - 1) {
         let high = (pairs[i + 8] == b'5') & (pairs[i + 9] == b'7');
         let low = (pairs[i + 10] == b'3') & (pairs[i + 11] == b'a');
@@ -158,6 +158,7 @@ fn any_reserved(pairs: &[u8], from: usize) -> bool
     ensures { result ≡ any_reserved (pairs_of (drop from pairs.now)) }
 {
     let mut place = from;
+    // by place: each pair tells where the next begins
     while place < pairs.len() {
         if is_past(pairs, place) {
             return false;

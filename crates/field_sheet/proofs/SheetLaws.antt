@@ -3,7 +3,7 @@
 use mathlib.Core.Path.{◌≡◌, refl, sym, ap, subst, ◌∙◌}
 use mathlib.Core.Bool.{Bool, true, false}
 use mathlib.Core.List.{List, [], ◌∷◌, append-nil}
-use mathlib.Core.Option.{some}
+use Rattle.std.specs.Prelude.{Some, Result, Ok, Err}
 use Prim.Native.Nat.{ℕ, ◌≤◌, ◌<◌}
 use native.Mathlib.Omega.{arith}
 use lib.ListN.{length, drop}
@@ -27,8 +27,8 @@ use Rattle.refusal.specs.declared.Refusal.{Refusal as Reason}
 use Rattle.field_sheet.specs.Strict.{TreeTold}
 use Rattle.field_sheet.specs.Trees.{Forms, ReadsTree}
 use Rattle.field_sheet.specs.Sheets.{asked, body_as, sheet_body}
-use Rattle.field_sheet.specs.declared.trees.TreeRead.{TreeRead}
-use Rattle.field_sheet.specs.declared.trees.TreeRead.TheVariants as Read
+use Rattle.field_sheet.specs.declared.trees.NoTree.{NoTree}
+use Rattle.field_sheet.specs.declared.trees.NoTree.TheVariants as Read
 
 -- where the lines begin
 abbrev start : ℕ
@@ -39,7 +39,7 @@ start = length (heading_line field_heading)
 -- the sheet is read as the field f, whose lines stand from here on
 pub record Opens (s : Bytes) (at : ℕ) (f : Field) : Type 0 where
   pub is_read : read_field_sheet s ≡ given f
-  pub stands : Standing fields (drop at s) ((some f.info, f.type) ∷ [])
+  pub stands : Standing fields (drop at s) ((Some f.info, f.type) ∷ [])
   pub levels : field_levels f ≤ level_limit
   pub within : at ≤ length s
   pub short : length s ≤ sheet_limit
@@ -49,10 +49,10 @@ sheet_stands : (s : Bytes) (f : Field) → read_field_sheet s ≡ given f → Op
 sheet_stands s f e =
     let kept = field_read s f e in
     let text : s ≡ write_field_sheet f = field_sheet_read s f e in
-    let lines : drop start s ≡ ended (type_lines f.type (some f.info)) = ap (drop start) text in
+    let lines : drop start s ≡ ended (type_lines f.type (Some f.info)) = ap (drop start) text in
     record {
       is_read = e;
-      stands = (standing_lines (drop start s) ((some f.info, f.type) ∷ [])).1 (lines ∙ ap ended (sym (append-nil (type_lines f.type (some f.info)))), (kept.0, refl));
+      stands = (standing_lines (drop start s) ((Some f.info, f.type) ∷ [])).1 (lines ∙ ap ended (sym (append-nil (type_lines f.type (Some f.info)))), (kept.0, refl));
       levels = leb-true (field_levels f) level_limit kept.1;
       within = subst (λ (b : Bytes). start ≤ length b) (sym text) (omega arith);
       short = subst (λ (b : Bytes). length b ≤ sheet_limit) (sym text) (leb-true (length (write_field_sheet f)) sheet_limit (field_sheet_short s f e));
@@ -82,11 +82,11 @@ module _ (strict : Bool) (s : Bytes) where
   asked_told f e h = pick strict h
     where
       pick : (b : Bool) → (b ≡ true → TreeTold s start (given tt)) → asked b f ≡ given tt
-      pick true h = h refl (some f.info, f.type) [] (sheet_stands s f e).stands
+      pick true h = h refl (Some f.info, f.type) [] (sheet_stands s f e).stands
       pick false h = refl
 
   asked_held : (f : Field) (q : Refusal) → read_field_sheet s ≡ given f → strict ≡ true → TreeTold s start (refused q) → asked strict f ≡ refused q
-  asked_held f q e st h = ap (λ (b : Bool). asked b f) st ∙ h (some f.info, f.type) [] (sheet_stands s f e).stands
+  asked_held f q e st h = ap (λ (b : Bool). asked b f) st ∙ h (Some f.info, f.type) [] (sheet_stands s f e).stands
 
   pub sheet_long : sheet_limit < length s → refused not_sheet ≡ body_as strict s
   sheet_long h = body_refused not_sheet (rw (long_refused field_heading s h))
@@ -96,7 +96,7 @@ module _ (strict : Bool) (s : Bytes) where
     sheet_headless h = body_refused not_sheet (rw (headless_refused field_heading s short h))
 
     module _ (headed : is_headed field_heading s ≡ true) where
-      body : after (heading_line field_heading) s ≡ some (drop start s)
+      body : after (heading_line field_heading) s ≡ Some (drop start s)
       body = headed_body field_heading s headed
 
       pub sheet_broken : (r : Bool) → r ≡ false → Forms s start r → refused bad_lines ≡ body_as strict s
@@ -106,33 +106,33 @@ module _ (strict : Bool) (s : Bytes) where
       pub sheet_tall : Row fields 1 false (drop start s) → TreeDeep fields s start false level_limit → refused too_deep ≡ body_as strict s
       sheet_tall f d = body_refused too_deep (whole_deep fields_lawful field_sheet s start short body f d)
 
-      module _ (q : TreeRead) (k : ReadsTree s start false false level_limit strict q) where
-        told : (p : TreeRead) → q ≡ p → ReadsTree s start false false level_limit strict p
-        told p e = subst (λ (x : TreeRead). ReadsTree s start false false level_limit strict x) e k
+      module _ (q : Result ℕ NoTree) (k : ReadsTree s start false false level_limit strict q) where
+        told : (p : Result ℕ NoTree) → q ≡ p → ReadsTree s start false false level_limit strict p
+        told p e = subst (λ (x : Result ℕ NoTree). ReadsTree s start false false level_limit strict x) e k
 
-        pub sheet_bad : q ≡ Read.Bad → refused bad_lines ≡ body_as strict s
-        sheet_bad e = body_refused bad_lines (whole_bad fields_lawful field_sheet s start short body (told Read.Bad e))
+        pub sheet_bad : q ≡ (Err Read.Bad) → refused bad_lines ≡ body_as strict s
+        sheet_bad e = body_refused bad_lines (whole_bad fields_lawful field_sheet s start short body (told (Err Read.Bad) e))
 
-        pub sheet_deep : q ≡ Read.Deep → Row fields 1 false (drop start s) → refused too_deep ≡ body_as strict s
-        sheet_deep e f = sheet_tall f (told Read.Deep e)
+        pub sheet_deep : q ≡ (Err Read.Deep) → Row fields 1 false (drop start s) → refused too_deep ≡ body_as strict s
+        sheet_deep e f = sheet_tall f (told (Err Read.Deep) e)
 
         -- a strict export refuses the tree, and 2 and 3 do not come before
-        pub sheet_held : (r : Reason) → q ≡ Read.Held r → Row fields 1 false (drop start s) → (next : ℕ) → TreeTo fields s start false level_limit next → refused (refusal_of r) ≡ body_as strict s
+        pub sheet_held : (r : Reason) → q ≡ Err (Read.Held r) → Row fields 1 false (drop start s) → (next : ℕ) → TreeTo fields s start false level_limit next → refused (refusal_of r) ≡ body_as strict s
         sheet_held r e f next d =
-            let t = told (Read.Held r) e in
+            let t = told (Err (Read.Held r)) e in
             let g = whole_field s (drop start s) (whole_formed fields_lawful field_sheet s start short body f next d) in
             body_asked g.0 (refused (refusal_of r)) g.3 (asked_held g.0 (refusal_of r) g.3 t.0 t.1)
 
         -- the tree ends where the sheet does, or something is left over
-        module _ (next : ℕ) (e : q ≡ Read.To next) where
+        module _ (next : ℕ) (e : q ≡ Ok next) where
           pub sheet_whole : length s ≤ next → given start ≡ body_as strict s
           sheet_whole h =
-              let r = told (Read.To next) e in
+              let r = told (Ok next) e in
               let f = whole_field s (drop start s) (whole_good fields_lawful field_sheet s start short body next r.0 r.1 h) in
               body_asked f.0 (given tt) f.3 (asked_told f.0 f.3 r.2)
 
           pub sheet_left : next < length s → refused bad_lines ≡ body_as strict s
-          sheet_left h = body_refused bad_lines (whole_left fields_lawful field_sheet s start short body next (told (Read.To next) e).0 h)
+          sheet_left h = body_refused bad_lines (whole_left fields_lawful field_sheet s start short body next (told (Ok next) e).0 h)
 
 -- ── what was read
 

@@ -1,5 +1,6 @@
 -- Skipping trees of a field sheet: the laws of walks over trees of lines (`TreeWalks`) for the line that `field_line_at` shows and the answer that `skip` gives.
 -- Assumes nothing.
+use Rattle.std.specs.Prelude.{Option, Some, None}
 use mathlib.Core.Path.{◌≡◌, refl, sym, ap, subst, ◌∙◌}
 use mathlib.Core.Bool.{Bool}
 use mathlib.Core.List.{List}
@@ -18,9 +19,9 @@ use Rattle.sheets.proofs.TreeWalks.{below_to, below_deep, below_row}
 use Rattle.sheets.proofs.TreeWalks as Walks
 use Rattle.read_field_line.specs.FieldLines.{FieldLineAt}
 use Rattle.read_field_line.specs.declared.FieldLine.{FieldLine}
-use Rattle.field_sheet.specs.Subtrees.{skip_answer, SkipsTree, SkipsRow}
-use Rattle.field_sheet.specs.declared.subtrees.Skipped.{Skipped}
-use Rattle.field_sheet.specs.declared.subtrees.Skipped.TheVariants.{To, Deep}
+use Rattle.field_sheet.specs.Subtrees.{SkipsTree, SkipsRow}
+use Rattle.sheets.specs.Answer.{found}
+use Rattle.sheets.specs.Refusal.{too_deep}
 use Rattle.field_sheet.proofs.LevelLaws.{cost_low, extension_is}
 
 -- ── a tree
@@ -47,24 +48,24 @@ module _ {s : Bytes} {at : ℕ} (l : FieldLine) (k : FieldLineAt s at l) where
         below_to fields_lawful k.there inside levels (levels - cost) next left_is
         (subst (λ (c : ℕ). RowTo fields s l.end (is_extension k.line.shape) (levels - cost) c next) k.shows.children (subst (λ (y : Bool). RowTo fields s l.end y (levels - cost) l.children next) below_is h))
 
-    pub tree_skipped : (r : Skipped) → SkipsRow s l.end l.children e (levels - cost) (skip_answer r) → SkipsTree s at inside levels (skip_answer r)
-    tree_skipped (To next) h = row_to next h
-    tree_skipped Deep h = (refl, row_deep h.1)
+    pub tree_skipped : (r : Option ℕ) → SkipsRow s l.end l.children e (levels - cost) (found too_deep r) → SkipsTree s at inside levels (found too_deep r)
+    tree_skipped (Some next) h = row_to next h
+    tree_skipped None h = (refl, row_deep h.1)
 
 -- ── a row, with the answer for its next tree
 
 abbrev pub Going : Bytes → Bool → ℕ → ℕ → ℕ → List Entry → List Entry → Type 0
 Going s inside most here left us ts = Walks.Going fields_lawful s inside most here left us ts
 
-module _ {s : Bytes} {inside : Bool} {most here left : ℕ} {us ts : List Entry} (g : Going s inside most here left us ts) (l : 0 < left) (r : Skipped) (f : SkipsTree s here inside most (skip_answer r)) where
-  told : (q : Skipped) → r ≡ q → SkipsTree s here inside most (skip_answer q)
-  told q e = subst (λ (x : Skipped). SkipsTree s here inside most (skip_answer x)) e f
+module _ {s : Bytes} {inside : Bool} {most here left : ℕ} {us ts : List Entry} (g : Going s inside most here left us ts) (l : 0 < left) (r : Option ℕ) (f : SkipsTree s here inside most (found too_deep r)) where
+  told : (q : Option ℕ) → r ≡ q → SkipsTree s here inside most (found too_deep q)
+  told q e = subst (λ (x : Option ℕ). SkipsTree s here inside most (found too_deep x)) e f
 
-  pub going_next : (next : ℕ) → r ≡ To next → (here < next) × (next ≤ length s)
-  going_next next e = Walks.going_next fields_lawful g l next (told (To next) e)
+  pub going_next : (next : ℕ) → r ≡ Some next → (here < next) × (next ≤ length s)
+  going_next next e = Walks.going_next fields_lawful g l next (told (Some next) e)
 
-  pub going_more : (next : ℕ) → r ≡ To next → Going s inside most next (left - 1) us ts
-  going_more next e = Walks.going_more fields_lawful g l next (told (To next) e)
+  pub going_more : (next : ℕ) → r ≡ Some next → Going s inside most next (left - 1) us ts
+  going_more next e = Walks.going_more fields_lawful g l next (told (Some next) e)
 
-  pub going_deep : r ≡ Deep → most < tallest (entry_levels inside) us
-  going_deep e = Walks.going_deep fields_lawful g l (told Deep e).1
+  pub going_deep : r ≡ None → most < tallest (entry_levels inside) us
+  going_deep e = Walks.going_deep fields_lawful g l (told None e).1

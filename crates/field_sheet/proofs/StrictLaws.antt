@@ -3,7 +3,7 @@
 use mathlib.Core.Path.{◌≡◌, refl, sym, ap, subst, ◌∙◌}
 use mathlib.Core.Bool.{Bool, true, false, not, ◌&&◌, ◌||◌, not-not}
 use mathlib.Core.List.{List, [], ◌∷◌, ◌++◌}
-use mathlib.Core.Option.{Option, none, some}
+use Rattle.std.specs.Prelude.{Option, None, Some}
 use Prim.Native.Nat.{ℕ, ◌-◌, ◌≤◌, ◌<◌}
 use native.Mathlib.Omega.{arith}
 use lib.Dec.{eqb}
@@ -92,16 +92,16 @@ last_told (given u) = refl
 fields_told : (fs : Fields) → lines_return (fields_heads fs) ≡ row_returns (push_fields fs [])
 fields_told nil = refl
 fields_told (add i t fs) =
-    lines_append (type_heads t (some i)) (fields_heads fs)
-    ∙ ap (λ (a : Told). lines_return (type_heads t (some i)) >>= λ _. a) (fields_told fs)
+    lines_append (type_heads t (Some i)) (fields_heads fs)
+    ∙ ap (λ (a : Told). lines_return (type_heads t (Some i)) >>= λ _. a) (fields_told fs)
 
 -- a tree is its first line and the row below it
 tree_opened : (i : Option Info) (t : ArrowDataType) → tree_returns (i, t) ≡ (line_returns (entry_head (i, t)) >>= λ _. row_returns (type_below t))
 tree_opened i (scalar s) = refl
-tree_opened i (nested n j t) = ap (λ (a : Told). line_returns (entry_head (i, nested n j t)) >>= λ _. a) (sym (last_told (tree_returns (some j, t))))
+tree_opened i (nested n j t) = ap (λ (a : Told). line_returns (entry_head (i, nested n j t)) >>= λ _. a) (sym (last_told (tree_returns (Some j, t))))
 tree_opened i (grouped g fs) = ap (λ (a : Told). line_returns (entry_head (i, grouped g fs)) >>= λ _. a) (fields_told fs)
-tree_opened i (dictionary ix ordered t) = ap (λ (a : Told). line_returns (entry_head (i, dictionary ix ordered t)) >>= λ _. a) (sym (last_told (tree_returns (none, t))))
-tree_opened i (extension n m t) = ap (λ (a : Told). line_returns (entry_head (i, extension n m t)) >>= λ _. a) (sym (last_told (tree_returns (none, t))))
+tree_opened i (dictionary ix ordered t) = ap (λ (a : Told). line_returns (entry_head (i, dictionary ix ordered t)) >>= λ _. a) (sym (last_told (tree_returns (None, t))))
+tree_opened i (extension n m t) = ap (λ (a : Told). line_returns (entry_head (i, extension n m t)) >>= λ _. a) (sym (last_told (tree_returns (None, t))))
 
 module _ {s : Bytes} {at end : ℕ} {x : Head} (k : LineAt fields s at x end) where
   -- the tree of this line

@@ -6,9 +6,7 @@ use Rattle.sheets.specs.Sheet.{heading_line}
 use Rattle.sheets.specs.Field.{Field}
 use Rattle.sheets.specs.FieldSheet.{field_heading, read_field_sheet}
 use Rattle.sheets.specs.Strict.{field_returns}
-use Rattle.refusal.specs.Refusals.{refusal_of}
-use Rattle.field_sheet.specs.declared.SheetRead.{SheetRead}
-use Rattle.field_sheet.specs.declared.SheetRead.TheVariants.{Body, Refused}
+use Rattle.refusal.specs.Refusals.{refusal_of, Refusing}
 
 -- what is asked of a field that was read, where the reading is strict
 abbrev pub asked : Bool → Field → Answer (Unit {0})
@@ -21,8 +19,3 @@ body_as strict s = read_field_sheet s >>= λ f. asked strict f >>= λ _. given (
 
 abbrev pub sheet_body : Bytes → Answer ℕ
 sheet_body s = body_as false s
-
--- what `SheetRead` says
-abbrev pub sheet_answer : SheetRead → Answer ℕ
-sheet_answer (Body at) = given at
-sheet_answer (Refused r) = refused (refusal_of r)

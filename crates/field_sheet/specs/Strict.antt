@@ -1,6 +1,6 @@
 -- What a strict reading tells of a line and of trees of a field sheet: what a strict export answers of their lines (`Strict`), by the first that has a cause.
 -- Assumes nothing.
-use Rattle.std.specs.Prelude.{◌≡◌, Bool, true, ◌&&◌, ◌||◌, List, [], ◌∷◌, ◌++◌, ℕ, eqb, length, drop}
+use Rattle.std.specs.Prelude.{◌≡◌, Bool, true, ◌&&◌, ◌||◌, List, [], ◌∷◌, ◌++◌, ℕ, eqb, length, drop, Ok, Err}
 use Rattle.sheets.specs.Rule.{Meets}
 use Rattle.sheets.specs.Bytes.{Bytes}
 use Rattle.sheets.specs.Answer.{Answer, refused, given, ◌>>=◌}
@@ -10,11 +10,9 @@ use Rattle.sheets.specs.FieldSheet.{Entry}
 use Rattle.sheets.specs.LineTrees.{Standing}
 use Rattle.sheets.specs.FieldTrees.{Head, fields}
 use Rattle.sheets.specs.Strict.{line_returns, type_heads, lines_return}
-use Rattle.refusal.specs.Refusals.{refusal_of}
+use Rattle.refusal.specs.Refusals.{refusal_of, Refusing}
 use Rattle.read_field_line.specs.FieldLines.{Shows}
 use Rattle.read_field_line.specs.declared.FieldLine.{FieldLine}
-use Rattle.field_sheet.specs.declared.strict.LineReturns.{LineReturns}
-use Rattle.field_sheet.specs.declared.strict.LineReturns.TheVariants.{Yes, No}
 
 -- ── a line
 
@@ -27,11 +25,11 @@ abbrev pub LineShown : Bytes → FieldLine → Type 0
 LineShown s l = (h : Head) × Shows s l h × Meets (fields.own h)
 
 -- nothing is tested where the reading is not strict
-abbrev pub Tested : Bool → Head → LineReturns → Type 0
-Tested strict h Yes = strict ≡ true → line_returns h ≡ given tt
-Tested strict h (No q) = (strict ≡ true) × (line_returns h ≡ refused (refusal_of q))
+abbrev pub Tested : Bool → Head → Refusing (Unit {0}) → Type 0
+Tested strict h (Ok tt) = strict ≡ true → line_returns h ≡ given tt
+Tested strict h (Err q) = (strict ≡ true) × (line_returns h ≡ refused (refusal_of q))
 
-abbrev pub LineTested : Bool → Bytes → FieldLine → LineReturns → Type 0
+abbrev pub LineTested : Bool → Bytes → FieldLine → Refusing (Unit {0}) → Type 0
 LineTested strict s l r = (h : Head) → Shows s l h → Meets (fields.own h) → Tested strict h r
 
 -- ── trees

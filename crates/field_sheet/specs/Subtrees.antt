@@ -1,18 +1,11 @@
 -- Trees of a field sheet that are known to stand one after the other: what skipping them tells (`TreeWalks`). `inside` says that they stand directly in an
 -- extension. Assumes nothing.
-use Rattle.std.specs.Prelude.{◌≡◌, Bool, ℕ}
+use Rattle.std.specs.Prelude.{◌≡◌, Bool, ℕ, Option, Some, None}
 use Rattle.sheets.specs.Refusal.{too_deep}
 use Rattle.sheets.specs.Bytes.{Bytes}
 use Rattle.sheets.specs.Answer.{Answer, refused, given}
 use Rattle.sheets.specs.FieldTrees.{fields}
 use Rattle.sheets.specs.TreeWalks.{TreeTo, TreeDeep, RowTo, RowDeep}
-use Rattle.field_sheet.specs.declared.subtrees.Skipped.{Skipped}
-use Rattle.field_sheet.specs.declared.subtrees.Skipped.TheVariants.{To, Deep}
-
--- what `Skipped` says
-abbrev pub skip_answer : Skipped → Answer ℕ
-skip_answer (To next) = given next
-skip_answer Deep = refused too_deep
 
 -- the end of the tree that stands here; or it has more levels than `most`
 abbrev pub SkipsTree : Bytes → ℕ → Bool → ℕ → Answer ℕ → Type 0

@@ -9,10 +9,10 @@ pub mod trees;
 ghost use Rattle.std.specs.Prelude.{◌≡◌};
 ghost use Rattle.sheets.specs.FieldSheet.{field_heading};
 ghost use Rattle.sheets.specs.Sheet.{is_headed};
-ghost use Rattle.field_sheet.specs.Sheets.{sheet_body, body_as, sheet_answer};
+ghost use Rattle.field_sheet.specs.Sheets.{sheet_body, body_as};
+ghost use Rattle.refusal.specs.Refusals.{answer_of};
 
-use crate::subtrees::Skipped;
-use crate::trees::TreeRead;
+use crate::trees::NoTree;
 use refusal::Refusal;
 
 // A sheet has at most so many bytes.
@@ -23,13 +23,6 @@ pub const LEVELS: usize = 32;
 
 // The heading and its byte 10 have so many bytes.
 const HEADING: usize = 48;
-
-// The place of the first line, or why the sheet is refused.
-#[derive(Drop)]
-pub enum SheetRead {
-    Body(usize),
-    Refused(Refusal),
-}
 
 // Whether the sheet begins with the heading and its byte 10.
 fn has_heading(s: &[u8]) -> bool
@@ -42,47 +35,48 @@ fn has_heading(s: &[u8]) -> bool
     buffer::same(&s[..heading.len()], heading)
 }
 
-// 1, 2 and 3 over the whole sheet in that order; where the reading is strict, then what a strict export asks of the lines.
-pub fn read_as(s: &[u8], strict: bool) -> SheetRead
-    ensures { sheet_answer result ≡ body_as strict s.now }
+// 1, 2 and 3 over the whole sheet in that order; where the reading is strict, then what a strict export asks of the lines. The place of the first line, or why
+// the sheet is refused.
+pub fn read_as(s: &[u8], strict: bool) -> Result<usize, Refusal>
+    ensures { answer_of result ≡ body_as strict s.now }
 {
     if SHEET_LIMIT < s.len() {
-        return SheetRead::Refused(Refusal::NotSheet);
+        return Err(Refusal::NotSheet);
     }
     if !has_heading(s) {
-        return SheetRead::Refused(Refusal::NotSheet);
+        return Err(Refusal::NotSheet);
     }
     match crate::trees::read_tree(s, HEADING, false, false, LEVELS, strict) {
-        TreeRead::Bad => SheetRead::Refused(Refusal::BadLines),
+        Err(NoTree::Bad) => Err(Refusal::BadLines),
         // 2 comes before 3, wherever in the sheet it is
-        TreeRead::Deep => {
+        Err(NoTree::Deep) => {
             if crate::trees::form(s, HEADING) {
-                return SheetRead::Refused(Refusal::TooDeep);
+                return Err(Refusal::TooDeep);
             }
-            SheetRead::Refused(Refusal::BadLines)
+            Err(Refusal::BadLines)
         }
-        TreeRead::To(end) => {
+        Ok(end) => {
             if end < s.len() {
-                return SheetRead::Refused(Refusal::BadLines);
+                return Err(Refusal::BadLines);
             }
-            SheetRead::Body(HEADING)
+            Ok(HEADING)
         }
         // 2 and 3 come before, wherever in the sheet they are
-        TreeRead::Held(r) => {
+        Err(NoTree::Held(r)) => {
             if !crate::trees::form(s, HEADING) {
-                return SheetRead::Refused(Refusal::BadLines);
+                return Err(Refusal::BadLines);
             }
             match crate::subtrees::skip(s, HEADING, false, LEVELS) {
-                Skipped::Deep => SheetRead::Refused(Refusal::TooDeep),
-                Skipped::To(_) => SheetRead::Refused(r),
+                None => Err(Refusal::TooDeep),
+                Some(_) => Err(r),
             }
         }
     }
 }
 
 // 1, 2 and 3 over the whole sheet in that order.
-pub fn read_sheet(s: &[u8]) -> SheetRead
-    ensures { sheet_answer result ≡ sheet_body s.now }
+pub fn read_sheet(s: &[u8]) -> Result<usize, Refusal>
+    ensures { answer_of result ≡ sheet_body s.now }
 {
     read_as(s, false)
 }

@@ -12,13 +12,6 @@ const INT128: u64 = 4;
 
 const UINT128: u64 = 9;
 
-// Nothing stands against the line, or this.
-#[derive(Drop)]
-pub enum LineReturns {
-    Yes,
-    No(Refusal),
-}
-
 // Whether the line's column `p` is an index of 128 bits. Int128 and UInt128 as types have kinds of their own.
 fn is_wide(kind: u64, p: u64) -> bool
     ensures { result ≡ is_wide kind p }
@@ -30,13 +23,13 @@ fn is_wide(kind: u64, p: u64) -> bool
 }
 
 // The key first. Nothing is asked of the line where the reading is not strict.
-pub fn line_returns(s: &[u8], l: FieldLine, strict: bool) -> LineReturns
+pub fn line_returns(s: &[u8], l: FieldLine, strict: bool) -> Result<(), Refusal>
     requires s_len_bound { length s.now ≤ sheet_limit }
     requires line_shown { LineShown s.now l }
     ensures { LineTested strict s.now l result }
 {
     if !strict {
-        return LineReturns::Yes;
+        return Ok(());
     }
     let pairs = l.pairs;
     let start = pairs.start;
@@ -44,10 +37,10 @@ pub fn line_returns(s: &[u8], l: FieldLine, strict: bool) -> LineReturns
     let reserved = field_pairs::has_reserved(&s[start..end]);
     let wide = is_wide(l.kind, l.p);
     if reserved {
-        return LineReturns::No(Refusal::ReservedKey);
+        return Err(Refusal::ReservedKey);
     }
     if wide {
-        return LineReturns::No(Refusal::WideIndex);
+        return Err(Refusal::WideIndex);
     }
-    LineReturns::Yes
+    Ok(())
 }

@@ -1,28 +1,21 @@
 // Trees of a field sheet that are known to stand: skipped by a recursion on the levels left.
 ghost use Rattle.sheets.specs.FieldTrees.{fields};
 ghost use Rattle.sheets.specs.TreeWalks.{HasTree, HasRow};
-ghost use Rattle.field_sheet.specs.Subtrees.{skip_answer, SkipsTree, SkipsRow};
-
-use field_leaf::FieldLeaf;
-
-// The end of a tree, or that it has too many levels.
-#[derive(Drop)]
-pub enum Skipped {
-    To(usize),
-    Deep,
-}
+ghost use Rattle.field_sheet.specs.Subtrees.{SkipsTree, SkipsRow};
+ghost use Rattle.sheets.specs.Answer.{found};
+ghost use Rattle.sheets.specs.Refusal.{too_deep};
 
 // The end of the tree from place at on, unless it has more levels than `most`; `inside` says that it stands directly in an extension.
 #[cycle(skip_skip_row)]
-pub fn skip(s: &[u8], at: usize, inside: bool, most: usize) -> Skipped
+pub fn skip(s: &[u8], at: usize, inside: bool, most: usize) -> Option<usize>
     requires { HasTree fields s.now at }
-    ensures { SkipsTree s.now at inside most (skip_answer result) }
+    ensures { SkipsTree s.now at inside most (found too_deep result) }
 {
     if most == 0 {
-        return Skipped::Deep;
+        return None;
     }
-    if let FieldLeaf::Line(_, _, e, _) = field_leaf::leaf_at(s, at) {
-        return Skipped::To(e + field_leaf::AFTER_NAME);
+    if let Some(leaf) = field_leaf::leaf_at(s, at) {
+        return Some(leaf.end + field_leaf::AFTER_NAME);
     }
     let l = read_field_line::field_line_at(s, at);
     let extension = crate::levels::is_extension(l.kind);
@@ -32,18 +25,13 @@ pub fn skip(s: &[u8], at: usize, inside: bool, most: usize) -> Skipped
 
 // The end of `count` trees from place at on, unless one of them has more levels than `most`.
 #[cycle(skip_skip_row)]
-pub fn skip_row(s: &[u8], at: usize, count: u64, inside: bool, most: usize) -> Skipped
+pub fn skip_row(s: &[u8], at: usize, count: u64, inside: bool, most: usize) -> Option<usize>
     requires { HasRow fields s.now at count }
-    ensures { SkipsRow s.now at count inside most (skip_answer result) }
+    ensures { SkipsRow s.now at count inside most (found too_deep result) }
 {
     let mut here = at;
-    let mut left = count;
-    while 0 < left {
-        let Skipped::To(next) = skip(s, here, inside, most) else {
-            return Skipped::Deep;
-        };
-        here = next;
-        left -= 1;
+    for i in 0..count {
+        here = skip(s, here, inside, most)?;
     }
-    Skipped::To(here)
+    Some(here)
 }

@@ -4,15 +4,11 @@ ghost use Rattle.std.specs.Prelude.{◌≤◌, length};
 ghost use Rattle.sheets.specs.Sheet.{sheet_limit};
 ghost use Rattle.field_sheet.specs.Trees.{Alone, Forms, ReadsTree, ReadsRow};
 
-use crate::strict::LineReturns;
-use field_leaf::FieldLeaf;
-use read_field_line::LineRead;
 use refusal::Refusal;
 
 // The end of a tree whose lines were tested; that it has too many levels; that there is none; why a strict export refuses it, by its first line with a cause.
 #[derive(Drop)]
-pub enum TreeRead {
-    To(usize),
+pub enum NoTree {
     Deep,
     Bad,
     Held(Refusal),
@@ -27,7 +23,7 @@ pub fn form(s: &[u8], at: usize) -> bool
     let mut due: usize = 1;
     let mut bare = false;
     while 0 < due {
-        let LineRead::Line(l) = read_field_line::read_field_line(s, here) else {
+        let Some(l) = read_field_line::read_field_line(s, here) else {
             return false;
         };
         if l.bare != bare {
@@ -58,31 +54,31 @@ pub fn read_tree(
     inside: bool,
     levels: usize,
     strict: bool,
-) -> TreeRead
+) -> Result<usize, NoTree>
     requires { length s.now ≤ sheet_limit }
     ensures { ReadsTree s.now at bare inside levels strict result }
 {
     if levels == 0 {
-        return TreeRead::Deep;
+        return Err(NoTree::Deep);
     }
     if !bare {
-        if let FieldLeaf::Line(_, _, e, _) = field_leaf::leaf_at(s, at) {
-            return TreeRead::To(e + field_leaf::AFTER_NAME);
+        if let Some(leaf) = field_leaf::leaf_at(s, at) {
+            return Ok(leaf.end + field_leaf::AFTER_NAME);
         }
     }
-    let LineRead::Line(l) = read_field_line::read_field_line(s, at) else {
-        return TreeRead::Bad;
+    let Some(l) = read_field_line::read_field_line(s, at) else {
+        return Err(NoTree::Bad);
     };
     if l.bare != bare {
-        return TreeRead::Bad;
+        return Err(NoTree::Bad);
     }
     // no more than there are bytes
     if s.len() - l.end < l.children as usize {
-        return TreeRead::Bad;
+        return Err(NoTree::Bad);
     }
     match crate::strict::line_returns(s, l, strict) {
-        LineReturns::No(r) => TreeRead::Held(r),
-        LineReturns::Yes => {
+        Err(r) => Err(NoTree::Held(r)),
+        Ok(()) => {
             let extension = crate::levels::is_extension(l.kind);
             let left = levels - crate::levels::line_cost(inside, extension);
             let below = field_kinds::is_bare_below(l.kind);
@@ -101,26 +97,17 @@ fn read_row(
     inside: bool,
     levels: usize,
     strict: bool,
-) -> TreeRead
+) -> Result<usize, NoTree>
     requires s_len_bound { length s.now ≤ sheet_limit }
     requires at_in_bounds { at ≤ length s.now }
     requires alone { Alone bare count }
     ensures { ReadsRow s.now at count bare inside levels strict result }
 {
     let mut here = at;
-    let mut due = count;
     let mut next = bare;
-    while due != 0 {
-        match read_tree(s, here, next, inside, levels, strict) {
-            TreeRead::Deep => return TreeRead::Deep,
-            TreeRead::Bad => return TreeRead::Bad,
-            TreeRead::Held(r) => return TreeRead::Held(r),
-            TreeRead::To(end) => {
-                here = end;
-                due -= 1;
-                next = false;
-            }
-        }
+    for i in 0..count {
+        here = read_tree(s, here, next, inside, levels, strict)?;
+        next = false;
     }
-    TreeRead::To(here)
+    Ok(here)
 }

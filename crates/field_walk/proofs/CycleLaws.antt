@@ -2,7 +2,7 @@
 use mathlib.Core.Path.{◌≡◌, subst}
 use mathlib.Core.Bool.{Bool}
 use mathlib.Core.List.{List}
-use mathlib.Core.Option.{Option, none, some}
+use Rattle.std.specs.Prelude.{Option, None, Some}
 use Prim.Native.Nat.{ℕ}
 use Rattle.sheets.specs.Bytes.{Bytes}
 use Rattle.sheets.specs.Refusal.{Refusal}
@@ -24,8 +24,8 @@ module _ {S : Type 0} (step : S → Head → Answer (Step S)) (s : Bytes) (at le
   begun_refused a q e h last = subst (λ (x : Answer (Begun S)). TypeBegins step s at levels inside σ out out' x) e h
 
   -- a leaf was written at once, or nothing was
-  pub leaf_put : (o : Option (ℕ × ℕ)) (next len : ℕ) → o ≡ some (next, len) → LeafWrote step s at levels inside σ out out' o → TypeWrote step s at levels inside σ out out' (given (next, one_line len))
+  pub leaf_put : (o : Option (ℕ × ℕ)) (next len : ℕ) → o ≡ Some (next, len) → LeafWrote step s at levels inside σ out out' o → TypeWrote step s at levels inside σ out out' (given (next, one_line len))
   leaf_put o next len e h = subst (λ (x : Option (ℕ × ℕ)). LeafWrote step s at levels inside σ out out' x) e h
 
-  pub leaf_other : (o : Option (ℕ × ℕ)) → o ≡ none → LeafWrote step s at levels inside σ out out' o → out' ≡ out
+  pub leaf_other : (o : Option (ℕ × ℕ)) → o ≡ None → LeafWrote step s at levels inside σ out out' o → out' ≡ out
   leaf_other o e h = subst (λ (x : Option (ℕ × ℕ)). LeafWrote step s at levels inside σ out out' x) e h

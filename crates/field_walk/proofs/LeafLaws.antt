@@ -2,7 +2,7 @@
 use mathlib.Core.Path.{◌≡◌, refl, sym, ap, ap₂, subst, ◌∙◌}
 use mathlib.Core.Bool.{Bool, true, false, not, ◌&&◌, cond, true≢false}
 use mathlib.Core.List.{List, [], ◌∷◌, ◌++◌}
-use mathlib.Core.Option.{Option, none, some}
+use Rattle.std.specs.Prelude.{Option, None, Some}
 use Prim.Native.Nat.{ℕ, ◌+◌, ◌*◌, ◌≤◌}
 use native.Mathlib.Omega.{arith}
 use lib.Dec.{eqb, ltb}
@@ -42,8 +42,6 @@ use Rattle.mapping_line.specs.declared.change.LineChange.{LineChange}
 use Rattle.mapping_line.specs.declared.change.LineChange.TheVariants.{Stays}
 use Rattle.mapping_line.proofs.ChangeLaws.{stays_under}
 use Rattle.walks.specs.Places.{own_limit, TypeAt, WroteAs, LeafWrote, one_line}
-use Rattle.walks.specs.Answers.{put_option}
-use Rattle.walks.specs.declared.LeafPut.{LeafPut}
 use Rattle.walks.specs.declared.Subtree.{Subtree}
 use Rattle.field_walk.specs.declared.Call.{Call}
 use Rattle.field_walk.specs.declared.Call.TheVariants.{Export, Plain, ToStorageRecursive, UnderlyingPhysicalType, Page}
@@ -66,7 +64,7 @@ own k = is_short k && is_copied false k
 
 own_stays : (k : ℕ) → own k ≡ true → underlying_kind k 0 ≡ Stays
 own_stays k h =
-    let n : first_at (λ (w : ℕ × LineChange). w.0) k changed_kinds ≡ none = apart (λ (w : ℕ × LineChange). w.0) own k h changed_kinds refl in
+    let n : first_at (λ (w : ℕ × LineChange). w.0) k changed_kinds ≡ None = apart (λ (w : ℕ × LineChange). w.0) own k h changed_kinds refl in
     rw (ne_eqb k Kind.Interval (λ e. true≢false (sym h ∙ ap own e)), ne_eqb k Kind.Dictionary (λ e. true≢false (sym h ∙ ap own e)), n)
 
 short_under : (k : ℕ) → is_short k ≡ true → is_copied false k ≡ true → leaf_under k 0 ≡ given (scalar (leaf k 0))
@@ -87,7 +85,7 @@ module _ {s : Bytes} {at kind from e n : ℕ} (k : FieldLeafAt s at kind from e 
   is_type : t ≡ scalar (leaf kind 0)
   is_type = scalar_shape_lem t (leaf kind 0) (ap (λ (h : Head). h.shape) below.0)
 
-  is_info_lem : i ≡ some (leaf_info k.bytes n)
+  is_info_lem : i ≡ Some (leaf_info k.bytes n)
   is_info_lem = ap (λ (h : Head). h.info) below.0
 
   rest_stands : (next : ℕ) → next ≡ e + 7 → Standing fields (drop next s) es
@@ -115,61 +113,61 @@ same_dates e = cc
 
 module _ (s : Bytes) (at levels : ℕ) (inside : Bool) (out out' : Bytes) where
   -- export: the schema line of the leaf
-  leaf_exported : (big : Bool) (o : Option (ℕ × ℕ)) → SchemaLeafTold s at out out' o → LeafWrote (schema_step big) s at levels inside none out out' o
-  leaf_exported big none w = w.1
-  leaf_exported big (some (next, len)) w =
+  leaf_exported : (big : Bool) (o : Option (ℕ × ℕ)) → SchemaLeafTold s at out out' o → LeafWrote (schema_step big) s at levels inside None out out' o
+  leaf_exported big None w = w.1
+  leaf_exported big (Some (next, len)) w =
       λ i t es h.
       let k = w.leaf in
       let ls = schema_lines (schema w.node end absent) in
       let is =
-      ap₂ (λ (u : ArrowDataType) (j : Option Info). type_walk (schema_step big) u j none) (is_type k i t es h.stands) (is_info_lem k i t es h.stands)
-      ∙ type_exported big (scalar (leaf w.kind 0)) (some (leaf_info k.bytes w.nullable)) none
+      ap₂ (λ (u : ArrowDataType) (j : Option Info). type_walk (schema_step big) u j None) (is_type k i t es h.stands) (is_info_lem k i t es h.stands)
+      ∙ type_exported big (scalar (leaf w.kind 0)) (Some (leaf_info k.bytes w.nullable)) None
       ∙ ap (λ (a : Answer Schema). a >>= λ x. given (schema_lines x)) (w.made big) in
-      leaf_wrote k i t es h.stands (schema_step big) none ls is next len out out' w.after w.put (omega (arith, w.short, w.after, k.begins, k.long))
+      leaf_wrote k i t es h.stands (schema_step big) None ls is next len out out' w.after w.put (omega (arith, w.short, w.after, k.begins, k.long))
 
   -- plain form: the line itself
   leaf_plain : (o : Option (ℕ × ℕ)) → LeafCopyTold s at true out out' o → LeafWrote plain_step s at levels inside inside out out' o
-  leaf_plain none w = w.1
-  leaf_plain (some (next, len)) w =
+  leaf_plain None w = w.1
+  leaf_plain (Some (next, len)) w =
       λ i t es h.
       let k = w.leaf in
       let f = plain (leaf_field w.kind k.bytes w.nullable) in
-      let ls = type_lines f.type (some f.info) in
+      let ls = type_lines f.type (Some f.info) in
       let is =
       ap₂ (λ (u : ArrowDataType) (j : Option Info). type_walk plain_step u j inside) (is_type k i t es h.stands) (is_info_lem k i t es h.stands) in
       leaf_wrote k i t es h.stands plain_step inside ls is next len out out' w.after w.put (omega (arith, w.short, w.after, k.begins, k.long))
 
   -- `to_storage_recursive`: the line itself
-  leaf_stored : (o : Option (ℕ × ℕ)) → LeafCopyTold s at true out out' o → LeafWrote (change_step storage_change) s at levels inside none out out' o
-  leaf_stored none w = w.1
-  leaf_stored (some (next, len)) w =
+  leaf_stored : (o : Option (ℕ × ℕ)) → LeafCopyTold s at true out out' o → LeafWrote (change_step storage_change) s at levels inside None out out' o
+  leaf_stored None w = w.1
+  leaf_stored (Some (next, len)) w =
       λ i t es h.
       let k = w.leaf in
       let f = plain (leaf_field w.kind k.bytes w.nullable) in
-      let ls = type_lines f.type (some f.info) in
+      let ls = type_lines f.type (Some f.info) in
       let is =
-      ap₂ (λ (u : ArrowDataType) (j : Option Info). type_walk (change_step storage_change) u j none) (is_type k i t es h.stands) (is_info_lem k i t es h.stands) in
-      leaf_wrote k i t es h.stands (change_step storage_change) none ls is next len out out' w.after w.put (omega (arith, w.short, w.after, k.begins, k.long))
+      ap₂ (λ (u : ArrowDataType) (j : Option Info). type_walk (change_step storage_change) u j None) (is_type k i t es h.stands) (is_info_lem k i t es h.stands) in
+      leaf_wrote k i t es h.stands (change_step storage_change) None ls is next len out out' w.after w.put (omega (arith, w.short, w.after, k.begins, k.long))
 
   -- `underlying_physical_type`: the line itself, of a leaf that is no date's
-  leaf_underlying : (o : Option (ℕ × ℕ)) → LeafCopyTold s at false out out' o → LeafWrote (change_step underlying_change) s at levels inside none out out' o
-  leaf_underlying none w = w.1
-  leaf_underlying (some (next, len)) w =
+  leaf_underlying : (o : Option (ℕ × ℕ)) → LeafCopyTold s at false out out' o → LeafWrote (change_step underlying_change) s at levels inside None out out' o
+  leaf_underlying None w = w.1
+  leaf_underlying (Some (next, len)) w =
       λ i t es h.
       let k = w.leaf in
       let f = plain (leaf_field w.kind k.bytes w.nullable) in
-      let ls = type_lines f.type (some f.info) in
+      let ls = type_lines f.type (Some f.info) in
       let is =
-      ap₂ (λ (u : ArrowDataType) (j : Option Info). type_walk (change_step underlying_change) u j none) (is_type k i t es h.stands) (is_info_lem k i t es h.stands)
-      ∙ type_underlying (scalar (leaf w.kind 0)) (some (leaf_info k.bytes w.nullable)) none
-      ∙ ap (λ (a : Answer ArrowDataType). a >>= λ u. given (type_lines u (some (leaf_info k.bytes w.nullable)))) (short_under w.kind k.short w.copied) in
-      leaf_wrote k i t es h.stands (change_step underlying_change) none ls is next len out out' w.after w.put (omega (arith, w.short, w.after, k.begins, k.long))
+      ap₂ (λ (u : ArrowDataType) (j : Option Info). type_walk (change_step underlying_change) u j None) (is_type k i t es h.stands) (is_info_lem k i t es h.stands)
+      ∙ type_underlying (scalar (leaf w.kind 0)) (Some (leaf_info k.bytes w.nullable)) None
+      ∙ ap (λ (a : Answer ArrowDataType). a >>= λ u. given (type_lines u (Some (leaf_info k.bytes w.nullable)))) (short_under w.kind k.short w.copied) in
+      leaf_wrote k i t es h.stands (change_step underlying_change) None ls is next len out out' w.after w.put (omega (arith, w.short, w.after, k.begins, k.long))
 
 -- the page: its line of the leaf
 leaf_paged : (s : Bytes) (tree : Subtree) (out out' : Bytes) (o : Option (ℕ × ℕ)) → PageLeafTold s tree out out' o
     → LeafWrote page_step s tree.at tree.levels tree.inside (tree.levels, tree.inside) out out' o
-leaf_paged s tree out out' none w = w.1
-leaf_paged s tree out out' (some (next, len)) w =
+leaf_paged s tree out out' None w = w.1
+leaf_paged s tree out out' (Some (next, len)) w =
     λ i t es h.
     let k = w.leaf in
     let ls = page_line (level_of tree.levels tree.inside false) (leaf_head w.kind k.bytes w.nullable) ∷ [] in
@@ -179,24 +177,24 @@ leaf_paged s tree out out' (some (next, len)) w =
 
 -- ── by the call
 
-module _ (s : Bytes) (t : Subtree) (out out' : Bytes) (r : LeafPut) where
-  pub schema_written_lem : (c : Call) → leaf_line_of c ≡ L.Schema → SchemaLeafTold s t.at out out' (put_option r) → CallLeafWrote c s t out out' r
-  schema_written_lem (Export big strict) e w = leaf_exported s t.at t.levels t.inside out out' big (put_option r) w
+module _ (s : Bytes) (t : Subtree) (out out' : Bytes) (r : Option (ℕ × ℕ)) where
+  pub schema_written_lem : (c : Call) → leaf_line_of c ≡ L.Schema → SchemaLeafTold s t.at out out' r → CallLeafWrote c s t out out' r
+  schema_written_lem (Export big strict) e w = leaf_exported s t.at t.levels t.inside out out' big r w
   schema_written_lem Plain e w = absurd (not_schema e)
   schema_written_lem ToStorageRecursive e w = absurd (not_schema e)
   schema_written_lem UnderlyingPhysicalType e w = absurd (not_schema e)
   schema_written_lem Page e w = absurd (page_schema e)
 
-  pub same_written_lem : (c : Call) (dates : Bool) → leaf_line_of c ≡ L.Same dates → LeafCopyTold s t.at dates out out' (put_option r) → CallLeafWrote c s t out out' r
+  pub same_written_lem : (c : Call) (dates : Bool) → leaf_line_of c ≡ L.Same dates → LeafCopyTold s t.at dates out out' r → CallLeafWrote c s t out out' r
   same_written_lem (Export big strict) d e w = absurd (not_schema (sym e))
-  same_written_lem Plain d e w = leaf_plain s t.at t.levels t.inside out out' (put_option r) (subst (λ (x : Bool). LeafCopyTold s t.at x out out' (put_option r)) (sym (same_dates e)) w)
-  same_written_lem ToStorageRecursive d e w = leaf_stored s t.at t.levels t.inside out out' (put_option r) (subst (λ (x : Bool). LeafCopyTold s t.at x out out' (put_option r)) (sym (same_dates e)) w)
-  same_written_lem UnderlyingPhysicalType d e w = leaf_underlying s t.at t.levels t.inside out out' (put_option r) (subst (λ (x : Bool). LeafCopyTold s t.at x out out' (put_option r)) (sym (same_dates e)) w)
+  same_written_lem Plain d e w = leaf_plain s t.at t.levels t.inside out out' r (subst (λ (x : Bool). LeafCopyTold s t.at x out out' r) (sym (same_dates e)) w)
+  same_written_lem ToStorageRecursive d e w = leaf_stored s t.at t.levels t.inside out out' r (subst (λ (x : Bool). LeafCopyTold s t.at x out out' r) (sym (same_dates e)) w)
+  same_written_lem UnderlyingPhysicalType d e w = leaf_underlying s t.at t.levels t.inside out out' r (subst (λ (x : Bool). LeafCopyTold s t.at x out out' r) (sym (same_dates e)) w)
   same_written_lem Page d e w = absurd (page_same e)
 
-  pub page_written : (c : Call) → leaf_line_of c ≡ L.Page → PageLeafTold s t out out' (put_option r) → CallLeafWrote c s t out out' r
+  pub page_written : (c : Call) → leaf_line_of c ≡ L.Page → PageLeafTold s t out out' r → CallLeafWrote c s t out out' r
   page_written (Export big strict) e w = absurd (page_schema (sym e))
   page_written Plain e w = absurd (page_same (sym e))
   page_written ToStorageRecursive e w = absurd (page_same (sym e))
   page_written UnderlyingPhysicalType e w = absurd (page_same (sym e))
-  page_written Page e w = leaf_paged s t out out' (put_option r) w
+  page_written Page e w = leaf_paged s t out out' r w

@@ -1,6 +1,5 @@
 -- The calls that answer lines for those of a field sheet: each has a step (sheets/specs/Walk) for a line, and what it tells is told of its step. Assumes nothing.
-use Rattle.std.specs.Prelude.{Bool, true, false, ◌&&◌, ℕ, eqb}
-use Rattle.std.proofs.Math.Option.{Option, none}
+use Rattle.std.specs.Prelude.{Bool, true, false, ◌&&◌, ℕ, eqb, Option, None}
 use Rattle.sheets.specs.Bytes.{Bytes}
 use Rattle.sheets.specs.Answer.{Answer}
 use Rattle.sheets.specs.FieldTrees.{Head}
@@ -10,16 +9,16 @@ use Rattle.sheets.specs.PlainSteps.{plain_step}
 use Rattle.sheets.specs.MappingSteps.{Borne, storage_change, underlying_change, change_step}
 use Rattle.sheets.specs.PageSteps.{page_step}
 use Rattle.walks.specs.Places.{TypeBegins, LeafWrote, TypeWrote, RowWrote}
-use Rattle.walks.specs.Answers.{begun_answer, put_option, step_answer}
-use Rattle.walks.specs.declared.LeafPut.{LeafPut}
-use Rattle.walks.specs.declared.LineBegun.{LineBegun}
-use Rattle.walks.specs.declared.Step.{Step as Stepped}
+use Rattle.walks.specs.Answers.{begun_answer}
 use Rattle.walks.specs.declared.Subtree.{Subtree}
 use Rattle.walks.specs.declared.Subtrees.{Subtrees}
 use Rattle.field_walk.specs.declared.Call.{Call}
 use Rattle.field_walk.specs.declared.Call.TheVariants.{Export, Plain, ToStorageRecursive, UnderlyingPhysicalType, Page}
 use Rattle.field_walk.specs.declared.LeafLine.{LeafLine}
+use Rattle.refusal.specs.Refusals.{Refusing, answer_of}
 use Rattle.field_walk.specs.declared.LeafLine.TheVariants.{Schema, Same, Page as PageLine}
+use Rattle.walks.specs.declared.LineBegun.{LineBegun}
+use Rattle.outcome.specs.declared.Size.{Size}
 
 -- what a call carries from a line to those below it
 abbrev pub StateOf : Call → Type 0
@@ -40,10 +39,10 @@ step_of Page = page_step
 -- the state at a line with so many levels left, its own among them, that stands directly in an extension, or not. Export and the mappings pass all
 -- extensions around a type at their first line, so they visit none in a state.
 abbrev pub state_of : (c : Call) → ℕ → Bool → StateOf c
-state_of (Export big strict) levels inside = none
+state_of (Export big strict) levels inside = None
 state_of Plain levels inside = inside
-state_of ToStorageRecursive levels inside = none
-state_of UnderlyingPhysicalType levels inside = none
+state_of ToStorageRecursive levels inside = None
+state_of UnderlyingPhysicalType levels inside = None
 state_of Page levels inside = (levels, inside)
 
 -- what it writes for a leaf's short line: a schema line, a line of the page, or the line as it stands; a date's is another line underneath
@@ -60,14 +59,14 @@ is_inner w = w.inside && eqb w.count 1
 
 -- ── what the functions of the walk tell
 
-abbrev pub CallBegins : Call → Bytes → Subtree → Bytes → Bytes → LineBegun → Type 0
+abbrev pub CallBegins : Call → Bytes → Subtree → Bytes → Bytes → Refusing LineBegun → Type 0
 CallBegins c s t out out' r = TypeBegins (step_of c) s t.at t.levels t.inside (state_of c t.levels t.inside) out out' (begun_answer (state_of c) r)
 
-abbrev pub CallLeafWrote : Call → Bytes → Subtree → Bytes → Bytes → LeafPut → Type 0
-CallLeafWrote c s t out out' r = LeafWrote (step_of c) s t.at t.levels t.inside (state_of c t.levels t.inside) out out' (put_option r)
+abbrev pub CallLeafWrote : Call → Bytes → Subtree → Bytes → Bytes → Option (ℕ × ℕ) → Type 0
+CallLeafWrote c s t out out' r = LeafWrote (step_of c) s t.at t.levels t.inside (state_of c t.levels t.inside) out out' r
 
-abbrev pub CallWrote : Call → Bytes → Subtree → Bytes → Bytes → Stepped → Type 0
-CallWrote c s t out out' r = TypeWrote (step_of c) s t.at t.levels t.inside (state_of c t.levels t.inside) out out' (step_answer r)
+abbrev pub CallWrote : Call → Bytes → Subtree → Bytes → Bytes → Refusing (ℕ × Size) → Type 0
+CallWrote c s t out out' r = TypeWrote (step_of c) s t.at t.levels t.inside (state_of c t.levels t.inside) out out' (answer_of r)
 
-abbrev pub CallRowWrote : Call → Bytes → Subtrees → Bytes → Bytes → Stepped → Type 0
-CallRowWrote c s w out out' r = RowWrote (step_of c) s w.at w.count w.levels w.inside (state_of c w.levels w.inside) out out' (step_answer r)
+abbrev pub CallRowWrote : Call → Bytes → Subtrees → Bytes → Bytes → Refusing (ℕ × Size) → Type 0
+CallRowWrote c s w out out' r = RowWrote (step_of c) s w.at w.count w.levels w.inside (state_of c w.levels w.inside) out out' (answer_of r)

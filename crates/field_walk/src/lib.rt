@@ -8,7 +8,8 @@ ghost use Rattle.field_walk.specs.Calls.{is_inner, leaf_line_of, CallBegins, Cal
 
 use mapping_line::change::Change;
 use outcome::Size;
-use walks::{LeafPut, LineBegun, Pending, Step, Subtree, Subtrees};
+use refusal::Refusal;
+use walks::{LineBegun, Subtree, Subtrees};
 
 // Which lines are written. Export takes the order of the metadata, big-endian or not, and whether the sheet was read strictly, which changes no line.
 #[derive(Clone, Copy)]
@@ -21,7 +22,7 @@ pub enum Call {
 }
 
 // A call is one case here: what it writes for the line at `at`, and what is left to be visited below.
-fn begin_one(call: Call, s: &[u8], tree: Subtree, out: &mut [u8]) -> LineBegun
+fn begin_one(call: Call, s: &[u8], tree: Subtree, out: &mut [u8]) -> Result<LineBegun, Refusal>
     requires { HasType s.now tree.at tree.levels tree.inside }
     ensures { CallBegins call s.now tree out.old out.new result }
 {
@@ -50,38 +51,34 @@ fn is_inner(row: Subtrees) -> bool
 }
 
 // The same; after an extension's line that of its inner type is written at once, so that the recursion goes down one level for both.
-fn begin_line(call: Call, s: &[u8], tree: Subtree, out: &mut [u8]) -> LineBegun
+fn begin_line(call: Call, s: &[u8], tree: Subtree, out: &mut [u8]) -> Result<LineBegun, Refusal>
     requires { HasType s.now tree.at tree.levels tree.inside }
     ensures { CallBegins call s.now tree out.old out.new result }
 {
-    match begin_one(call, s, tree, out) {
-        LineBegun::Refused(r) => LineBegun::Refused(r),
-        LineBegun::Below(row, size, pending) => match pending {
-            Pending::Refused(r) => LineBegun::Below(row, size, Pending::Refused(r)),
-            Pending::Nothing => {
-                if !is_inner(row) {
-                    return LineBegun::Below(row, size, Pending::Nothing);
-                }
-                let w = buffer::within(size.len, out.len());
-                let inner = Subtree {
-                    at: row.at,
-                    levels: row.levels,
-                    inside: row.inside,
-                };
-                match begin_one(call, s, inner, &mut out[w..]) {
-                    LineBegun::Refused(r) => LineBegun::Refused(r),
-                    LineBegun::Below(next, more, later) => LineBegun::Below(
-                        next,
-                        Size {
-                            len: size.len + more.len,
-                            lines: size.lines + more.lines,
-                        },
-                        later,
-                    ),
-                }
-            }
-        },
+    let begun = begin_one(call, s, tree, out)?;
+    if begun.pending.is_err() {
+        return Ok(begun);
     }
+    if !is_inner(begun.row) {
+        return Ok(begun);
+    }
+    let size = begun.size;
+    let w = buffer::within(size.len, out.len());
+    let inner = Subtree {
+        at: begun.row.at,
+        levels: begun.row.levels,
+        inside: begun.row.inside,
+    };
+    let next = begin_one(call, s, inner, &mut out[w..])?;
+    let more = next.size;
+    Ok(LineBegun {
+        row: next.row,
+        size: Size {
+            len: size.len + more.len,
+            lines: size.lines + more.lines,
+        },
+        pending: next.pending,
+    })
 }
 
 // What a call writes for a leaf's short line: a schema line, a line of the page, or the line as it stands, that of a date among them or not.
@@ -105,7 +102,7 @@ fn leaf_line(call: Call) -> LeafLine
 }
 
 // The line of a leaf at once, where it is of the short kind and fits; else nothing is written. `copy_leaf` has one caller, so that it stands in the loop.
-fn put_leaf(call: Call, s: &[u8], tree: Subtree, out: &mut [u8]) -> LeafPut
+fn put_leaf(call: Call, s: &[u8], tree: Subtree, out: &mut [u8]) -> Option<(usize, usize)>
     ensures { CallLeafWrote call s.now tree out.old out.new result }
 {
     match leaf_line(call) {
@@ -117,83 +114,69 @@ fn put_leaf(call: Call, s: &[u8], tree: Subtree, out: &mut [u8]) -> LeafPut
 
 // The same as `walk_type`; the line of a leaf is written at once, where it can be.
 #[cycle(next_type_walk_row_walk_type)]
-fn next_type(call: Call, s: &[u8], tree: Subtree, out: &mut [u8]) -> Step
+fn next_type(call: Call, s: &[u8], tree: Subtree, out: &mut [u8]) -> Result<(usize, Size), Refusal>
     requires { HasType s.now tree.at tree.levels tree.inside }
     ensures { CallWrote call s.now tree out.old out.new result }
 {
     match put_leaf(call, s, tree, out) {
-        LeafPut::Put(next, len) => Step::Done {
-            next,
-            size: Size { len, lines: 1 },
-        },
-        LeafPut::Other => walk_type(call, s, tree, out),
+        Some((next, len)) => Ok((next, Size { len, lines: 1 })),
+        None => walk_type(call, s, tree, out),
     }
 }
 
 // Writes the lines for the type that stands at `at`, as far as they fit.
 #[cycle(next_type_walk_row_walk_type)]
-fn walk_type(call: Call, s: &[u8], tree: Subtree, out: &mut [u8]) -> Step
+fn walk_type(call: Call, s: &[u8], tree: Subtree, out: &mut [u8]) -> Result<(usize, Size), Refusal>
     requires { HasType s.now tree.at tree.levels tree.inside }
     ensures { CallWrote call s.now tree out.old out.new result }
 {
-    match begin_line(call, s, tree, out) {
-        LineBegun::Refused(r) => Step::Refused(r),
-        LineBegun::Below(row, size, pending) => {
-            let w = buffer::within(size.len, out.len());
-            match walk_row(call, s, row, &mut out[w..]) {
-                Step::Refused(r) => Step::Refused(r),
-                Step::Done { next, size: below } => {
-                    let both = Size {
-                        len: size.len + below.len,
-                        lines: size.lines + below.lines,
-                    };
-                    walks::end_line(pending, next, both)
-                }
-            }
-        }
-    }
+    let LineBegun { row, size, pending } = begin_line(call, s, tree, out)?;
+    let w = buffer::within(size.len, out.len());
+    let (next, below) = walk_row(call, s, row, &mut out[w..])?;
+    let both = Size {
+        len: size.len + below.len,
+        lines: size.lines + below.lines,
+    };
+    walks::end_line(pending, next, both)
 }
 
 // Writes the lines for types that stand one after the other, as far as they fit.
 #[cycle(next_type_walk_row_walk_type)]
-fn walk_row(call: Call, s: &[u8], row: Subtrees, out: &mut [u8]) -> Step
+fn walk_row(call: Call, s: &[u8], row: Subtrees, out: &mut [u8]) -> Result<(usize, Size), Refusal>
     requires { HasRow s.now row.at row.count row.levels row.inside }
     ensures { CallRowWrote call s.now row out.old out.new result }
 {
     let mut here = row.at;
     let mut sum = 0;
     let mut seen = 0;
-    let mut i = 0;
-    while i < row.count {
+    for i in 0..row.count {
         let w = buffer::within(sum, out.len());
         let tree = Subtree {
             at: here,
             levels: row.levels,
             inside: row.inside,
         };
-        match next_type(call, s, tree, &mut out[w..]) {
-            Step::Refused(r) => {
-                return Step::Refused(r);
-            }
-            Step::Done { next, size } => {
-                here = next;
-                sum = sum + size.len;
-                seen = seen + size.lines;
-            }
-        }
-        i += 1;
+        let (next, size) = next_type(call, s, tree, &mut out[w..])?;
+        here = next;
+        sum = sum + size.len;
+        seen = seen + size.lines;
     }
-    Step::Done {
-        next: here,
-        size: Size {
+    Ok((
+        here,
+        Size {
             len: sum,
             lines: seen,
         },
-    }
+    ))
 }
 
 // The same as `walk_type`, by a row of one type: so a sheet that is one leaf is written at once too, and `next_type` has one caller.
-pub fn walk_first(call: Call, s: &[u8], tree: Subtree, out: &mut [u8]) -> Step
+pub fn walk_first(
+    call: Call,
+    s: &[u8],
+    tree: Subtree,
+    out: &mut [u8],
+) -> Result<(usize, Size), Refusal>
     requires { HasType s.now tree.at tree.levels tree.inside }
     ensures { CallWrote call s.now tree out.old out.new result }
 {

@@ -3,7 +3,7 @@ use mathlib.Core.Path.{◌≡◌, refl, sym, ◌∙◌, ap}
 use mathlib.Core.Logic.{◌≢◌}
 use mathlib.Core.Bool.{Bool, true, false, ◌&&◌, ◌||◌, cond}
 use mathlib.Core.List.{List, [], ◌∷◌}
-use mathlib.Core.Option.{Option, none, some}
+use Rattle.std.specs.Prelude.{Option, None, Some}
 use Prim.Native.Nat.{ℕ, ◌≤◌}
 use native.Mathlib.Omega.{arith}
 use lib.Dec.{leb}
@@ -51,23 +51,23 @@ rows_index : Indexes fixed_rows
 unfolding fixed_rows
 rows_index = (refl, (refl, (refl, (refl, (refl, (refl, (refl, (refl, (refl, (refl, (refl, (refl, (refl, (refl, (refl, (refl, (refl, (refl, (refl, (refl, (refl, (refl, (refl, (refl, (refl, (refl, (refl, (refl, (refl, (refl, (refl, (refl, (refl, (refl, (refl, (refl, (refl, (refl, tt))))))))))))))))))))))))))))))))))))))
 
-index_row : (b : Bytes) (l : List FormatRow) → Indexes l → (r : FormatRow) → row_named b l ≡ some r → to_integer_type b ≡ index_of r.kind
+index_row : (b : Bytes) (l : List FormatRow) → Indexes l → (r : FormatRow) → row_named b l ≡ Some r → to_integer_type b ≡ index_of r.kind
 index_row b [] h r e = not_some e
 index_row b (x ∷ l) h r e = pick (same b x.name) refl e (index_row b l h.1 r)
   where
-    pick : (t : Bool) → same b x.name ≡ t → cond t (some x) (row_named b l) ≡ some r → (row_named b l ≡ some r → to_integer_type b ≡ index_of r.kind) → to_integer_type b ≡ index_of r.kind
+    pick : (t : Bool) → same b x.name ≡ t → cond t (Some x) (row_named b l) ≡ Some r → (row_named b l ≡ Some r → to_integer_type b ≡ index_of r.kind) → to_integer_type b ≡ index_of r.kind
     pick true s g next =
         let q : x ≡ r = cc in
         ap to_integer_type (same_eq b x.name s) ∙ h.0 ∙ ap (λ (y : FormatRow). index_of y.kind) q
     pick false s g next = next g
 
 -- what a name's kind says
-pub index_named : (b : Bytes) (k u : ℕ) → some (k, u) ≡ leaf_of (row_named b fixed_rows) → to_integer_type b ≡ index_of k
+pub index_named : (b : Bytes) (k u : ℕ) → Some (k, u) ≡ leaf_of (row_named b fixed_rows) → to_integer_type b ≡ index_of k
 index_named b k u e = pick (row_named b fixed_rows) refl e
   where
-    pick : (o : Option FormatRow) → row_named b fixed_rows ≡ o → some (k, u) ≡ leaf_of o → to_integer_type b ≡ index_of k
-    pick none n e = not_some (sym e)
-    pick (some r) n e =
+    pick : (o : Option FormatRow) → row_named b fixed_rows ≡ o → Some (k, u) ≡ leaf_of o → to_integer_type b ≡ index_of k
+    pick None n e = not_some (sym e)
+    pick (Some r) n e =
         let q : ◌≡◌ {A = ℕ × ℕ} (k, u) (r.kind, r.unit) = cc in
         index_row b fixed_rows rows_index r n ∙ ap (λ (x : ℕ × ℕ). index_of x.0) (sym q)
 
@@ -77,15 +77,15 @@ abbrev NoneNamed : Bytes → List FormatRow → Type 0
 NoneNamed b [] = Unit {0}
 NoneNamed b (r ∷ l) = (same b r.name ≡ false) × NoneNamed b l
 
-none_named : (b : Bytes) (l : List FormatRow) → none ≡ leaf_of (row_named b l) → NoneNamed b l
+none_named : (b : Bytes) (l : List FormatRow) → None ≡ leaf_of (row_named b l) → NoneNamed b l
 none_named b [] e = tt
 none_named b (x ∷ l) e = pick (same b x.name) refl e (none_named b l)
   where
-    pick : (t : Bool) → same b x.name ≡ t → none ≡ leaf_of (cond t (some x) (row_named b l)) → (none ≡ leaf_of (row_named b l) → NoneNamed b l) → NoneNamed b (x ∷ l)
+    pick : (t : Bool) → same b x.name ≡ t → None ≡ leaf_of (cond t (Some x) (row_named b l)) → (None ≡ leaf_of (row_named b l) → NoneNamed b l) → NoneNamed b (x ∷ l)
     pick true s g next = not_some g
     pick false s g next = (s, next g)
 
-pub no_index : (b : Bytes) → none ≡ leaf_of (row_named b fixed_rows) → refused bad_index ≡ to_integer_type b
+pub no_index : (b : Bytes) → None ≡ leaf_of (row_named b fixed_rows) → refused bad_index ≡ to_integer_type b
 unfolding fixed_rows
 no_index b e =
     let n = (none_named b fixed_rows e).1.1 in

@@ -2,7 +2,7 @@
 use mathlib.Core.Path.{◌≡◌, refl, ◌∙◌, ap, ap₂}
 use mathlib.Core.Bool.{Bool, true, false}
 use mathlib.Core.List.{[], ◌∷◌}
-use mathlib.Core.Option.{Option, none, some}
+use Rattle.std.specs.Prelude.{Option, None, Some}
 use Prim.Native.Nat.{ℕ, suc, ◌+◌, ◌*◌, ◌-◌, ◌/◌, ◌≤◌, ◌<◌}
 use native.Mathlib.Nat.{not-suc-le-zero}
 use native.Mathlib.Numerals.{add-one}
@@ -21,10 +21,10 @@ use Rattle.format.specs.Parts.{format_part}
 -- ── the first colon
 
 abbrev Cuts : Bytes → ℕ → Type 0
-Cuts b k = (k < length b → cut b ≡ some (take k b, drop (suc k) b)) × (length b ≤ k → cut b ≡ none)
+Cuts b k = (k < length b → cut b ≡ Some (take k b, drop (suc k) b)) × (length b ≤ k → cut b ≡ None)
 
 abbrev cut_step : ℕ → Bytes → Option (Bytes × Bytes) → Bool → Option (Bytes × Bytes)
-cut_step x b o t = elim t [ true ↦ some ([], b) | false ↦ elim o [ none ↦ none | some hr ↦ some (x ∷ hr.0, hr.1) ] ]
+cut_step x b o t = elim t [ true ↦ Some ([], b) | false ↦ elim o [ None ↦ None | Some hr ↦ Some (x ∷ hr.0, hr.1) ] ]
 
 cut_step_lem : (x : ℕ) (b : Bytes) → cut (x ∷ b) ≡ cut_step x b (cut b) (eqb x 58)
 cut_step_lem x b = refl
@@ -37,10 +37,10 @@ cuts (x ∷ b) = pick (eqb x 58) refl (cuts b)
     pick true e h = rw e (λ l. cut_step_lem x b ∙ ap (cut_step x b (cut b)) e, λ l. absurd (omega arith))
     pick false e h = rw e (λ l. cut_step_lem x b ∙ ap₂ (cut_step x b) (h.0 (omega arith)) e, λ l. cut_step_lem x b ∙ ap₂ (cut_step x b) (h.1 (omega arith)) e)
 
-pub cut_at : (b : Bytes) (k : ℕ) → k ≡ bytes_before 58 b → k < length b → cut b ≡ some (take k b, drop (k + 1) b)
+pub cut_at : (b : Bytes) (k : ℕ) → k ≡ bytes_before 58 b → k < length b → cut b ≡ Some (take k b, drop (k + 1) b)
 cut_at b k e h = rw (add-one k, e) ((cuts b).0 (rw e at h))
 
-pub cut_none : (b : Bytes) (k : ℕ) → k ≡ bytes_before 58 b → length b ≤ k → cut b ≡ none
+pub cut_none : (b : Bytes) (k : ℕ) → k ≡ bytes_before 58 b → length b ≤ k → cut b ≡ None
 cut_none b k e h = (cuts b).1 (rw e at h)
 
 -- ── the text of a part

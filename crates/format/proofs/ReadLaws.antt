@@ -2,31 +2,32 @@
 use mathlib.Core.Path.{◌≡◌, refl, sym, ◌∙◌, ap, ap₂}
 use mathlib.Core.Bool.{Bool, true, false, cond}
 use mathlib.Core.List.{List, [], ◌∷◌}
-use mathlib.Core.Option.{Option, none, some}
+use Rattle.std.specs.Prelude.{Option, None, Some}
 use Prim.Native.Nat.{ℕ, ◌+◌, ◌≤◌, ◌<◌}
 use native.Mathlib.Omega.{arith}
 use lib.ListN.{length, drop}
 use Rattle.sheets.specs.Refusal.{bad_number, bad_decimal, unsupported_format}
 use Rattle.sheets.specs.Bytes.{Bytes, ascii, comma, same, split}
 use Rattle.sheets.specs.Answer.{Answer, refused, given, ◌>>=◌}
-use Rattle.sheets.specs.Field.{Width, bits128, decimal_type, fixed_size_binary, list, large_list, fixed_size_list, map, struct}
-use Rattle.sheets.specs.Format.{Format, of_scalar, of_nesting, of_grouping, FormatRow, rows, row_named, read_size, width_of, cut, read_cut, read_other, read_format}
+use Rattle.sheets.specs.Field.{Width, bits128, decimal_type, fixed_size_binary, fixed_size_list}
+use Rattle.sheets.specs.Format.{Format, of_scalar, of_nesting, read_size, width_of, read_cut}
 use Rattle.sheets.proofs.Tests.{not_some}
 use Rattle.sheets.proofs.BytesLaws.{same_eq}
 use Rattle.datatypes.specs.declared.units.TimeUnit.{TimeUnit}
 use Rattle.datatypes.specs.declared.units.TimeUnit.TheVariants as TimeUnits
 use Rattle.datatypes.specs.declared.units.UnionMode.{UnionMode}
 use Rattle.datatypes.specs.declared.units.UnionMode.TheVariants as UnionModes
-use Rattle.format_names.specs.Names.{leaf_of, leaf_named, head_unit, head_mode}
+use Rattle.format_names.specs.Names.{head_unit, head_mode}
 use Rattle.sheets.specs.Parts.{parts_from}
 use Rattle.format.specs.Parts.{format_part}
 use Rattle.format.specs.Formats.{timestamp_format, union_format, Reads, decimal_of, decimal_format}
-use Rattle.format.specs.declared.read.FormatRead.{FormatRead}
 use Rattle.sheets.proofs.PartLaws.{PartEnds, parts_here, last_part}
+use Rattle.refusal.specs.Refusals.{Refusing}
+use Rattle.format.specs.declared.read.Format.{Format as Said}
 use Rattle.sheets.proofs.InverseLaws.{split_some}
 
 -- the same answer was read
-pub reads_as : (f : Bytes) (r : FormatRead) (a b : Answer Format) → a ≡ b → Reads f a r → Reads f b r
+pub reads_as : (f : Bytes) (r : Refusing Said) (a b : Answer Format) → a ≡ b → Reads f a r → Reads f b r
 reads_as f r a b e h = (h.0 ∙ e, h.1)
 
 -- ── decimals
@@ -84,7 +85,7 @@ cut_decimal h r e = ap (λ (n : Bytes). read_cut n r) (sym (same_eq h (ascii "d"
 -- ── the unit and the mode of a head
 
 abbrev units : Bool → Bool → Bool → Bool → Option TimeUnit
-units s m u n = cond s (some TimeUnits.Second) (cond m (some TimeUnits.Millisecond) (cond u (some TimeUnits.Microsecond) (cond n (some TimeUnits.Nanosecond) none)))
+units s m u n = cond s (Some TimeUnits.Second) (cond m (Some TimeUnits.Millisecond) (cond u (Some TimeUnits.Microsecond) (cond n (Some TimeUnits.Nanosecond) None)))
 
 abbrev unit_head : TimeUnit → Bytes
 unit_head TimeUnits.Second = ascii "tss"
@@ -98,7 +99,7 @@ unit_cut TimeUnits.Millisecond r = refl
 unit_cut TimeUnits.Microsecond r = refl
 unit_cut TimeUnits.Nanosecond r = refl
 
-no_units : (s m u n : Bool) → units s m u n ≡ none → (s ≡ false) × (m ≡ false) × (u ≡ false) × (n ≡ false)
+no_units : (s m u n : Bool) → units s m u n ≡ None → (s ≡ false) × (m ≡ false) × (u ≡ false) × (n ≡ false)
 no_units true m u n e = not_some (sym e)
 no_units false true u n e = not_some (sym e)
 no_units false false true n e = not_some (sym e)
@@ -106,7 +107,7 @@ no_units false false false true e = not_some (sym e)
 no_units false false false false e = (refl, refl, refl, refl)
 
 abbrev modes : Bool → Bool → Option UnionMode
-modes d s = cond d (some UnionModes.Dense) (cond s (some UnionModes.Sparse) none)
+modes d s = cond d (Some UnionModes.Dense) (cond s (Some UnionModes.Sparse) None)
 
 abbrev mode_head : UnionMode → Bytes
 mode_head UnionModes.Dense = ascii "+ud"
@@ -116,37 +117,37 @@ mode_cut : (m : UnionMode) (r : Bytes) → union_format m r ≡ read_cut (mode_h
 mode_cut UnionModes.Dense r = refl
 mode_cut UnionModes.Sparse r = refl
 
-no_modes : (d s : Bool) → modes d s ≡ none → (d ≡ false) × (s ≡ false)
+no_modes : (d s : Bool) → modes d s ≡ None → (d ≡ false) × (s ≡ false)
 no_modes true s e = not_some (sym e)
 no_modes false true e = not_some (sym e)
 no_modes false false e = (refl, refl)
 
 module _ (h r : Bytes) where
-  unit_head_lem : (u : TimeUnit) → some u ≡ head_unit h → h ≡ unit_head u
+  unit_head_lem : (u : TimeUnit) → Some u ≡ head_unit h → h ≡ unit_head u
   unit_head_lem v e = pick (same h (ascii "tss")) (same h (ascii "tsm")) (same h (ascii "tsu")) (same h (ascii "tsn")) refl refl refl refl e
     where
-      pick : (s m u n : Bool) → same h (ascii "tss") ≡ s → same h (ascii "tsm") ≡ m → same h (ascii "tsu") ≡ u → same h (ascii "tsn") ≡ n → some v ≡ units s m u n → h ≡ unit_head v
+      pick : (s m u n : Bool) → same h (ascii "tss") ≡ s → same h (ascii "tsm") ≡ m → same h (ascii "tsu") ≡ u → same h (ascii "tsn") ≡ n → Some v ≡ units s m u n → h ≡ unit_head v
       pick true m u n a b c d e = same_eq h (ascii "tss") a ∙ ap unit_head (let q : TimeUnits.Second ≡ v = cc in q)
       pick false true u n a b c d e = same_eq h (ascii "tsm") b ∙ ap unit_head (let q : TimeUnits.Millisecond ≡ v = cc in q)
       pick false false true n a b c d e = same_eq h (ascii "tsu") c ∙ ap unit_head (let q : TimeUnits.Microsecond ≡ v = cc in q)
       pick false false false true a b c d e = same_eq h (ascii "tsn") d ∙ ap unit_head (let q : TimeUnits.Nanosecond ≡ v = cc in q)
       pick false false false false a b c d e = not_some (sym e)
 
-  pub cut_unit : (u : TimeUnit) → some u ≡ head_unit h → given (timestamp_format u r) ≡ read_cut h r
+  pub cut_unit : (u : TimeUnit) → Some u ≡ head_unit h → given (timestamp_format u r) ≡ read_cut h r
   cut_unit u e = unit_cut u r ∙ ap (λ (n : Bytes). read_cut n r) (sym (unit_head_lem u e))
 
-  mode_head_lem : (m : UnionMode) → some m ≡ head_mode h → h ≡ mode_head m
+  mode_head_lem : (m : UnionMode) → Some m ≡ head_mode h → h ≡ mode_head m
   mode_head_lem v e = pick (same h (ascii "+ud")) (same h (ascii "+us")) refl refl e
     where
-      pick : (d s : Bool) → same h (ascii "+ud") ≡ d → same h (ascii "+us") ≡ s → some v ≡ modes d s → h ≡ mode_head v
+      pick : (d s : Bool) → same h (ascii "+ud") ≡ d → same h (ascii "+us") ≡ s → Some v ≡ modes d s → h ≡ mode_head v
       pick true s a b e = same_eq h (ascii "+ud") a ∙ ap mode_head (let q : UnionModes.Dense ≡ v = cc in q)
       pick false true a b e = same_eq h (ascii "+us") b ∙ ap mode_head (let q : UnionModes.Sparse ≡ v = cc in q)
       pick false false a b e = not_some (sym e)
 
-  pub cut_mode : (m : UnionMode) → some m ≡ head_mode h → union_format m r ≡ read_cut h r
+  pub cut_mode : (m : UnionMode) → Some m ≡ head_mode h → union_format m r ≡ read_cut h r
   cut_mode m e = mode_cut m r ∙ ap (λ (n : Bytes). read_cut n r) (sym (mode_head_lem m e))
 
-  pub cut_other : head_unit h ≡ none → head_mode h ≡ none → false ≡ same h (ascii "w") → false ≡ same h (ascii "+w") → false ≡ same h (ascii "d") → refused unsupported_format ≡ read_cut h r
+  pub cut_other : head_unit h ≡ None → head_mode h ≡ None → false ≡ same h (ascii "w") → false ≡ same h (ascii "+w") → false ≡ same h (ascii "d") → refused unsupported_format ≡ read_cut h r
   cut_other u m a b c =
       let x = no_units (same h (ascii "tss")) (same h (ascii "tsm")) (same h (ascii "tsu")) (same h (ascii "tsn")) u in
       let y = no_modes (same h (ascii "+ud")) (same h (ascii "+us")) m in

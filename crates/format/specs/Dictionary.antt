@@ -1,17 +1,16 @@
 -- A dictionary's index type. Assumes nothing.
-use Rattle.std.specs.Prelude.{Bool, ◌||◌, ◌&&◌, cond, ℕ, ◌-◌, leb}
+use Rattle.std.specs.Prelude.{Bool, ◌||◌, ◌&&◌, cond, ℕ, ◌-◌, leb, Ok, Err}
 use Rattle.sheets.specs.Refusal.{bad_index}
 use Rattle.sheets.specs.Answer.{Answer, refused, given}
 use Rattle.sheets.specs.Kind
-use Rattle.refusal.specs.Refusals.{refusal_of}
+use Rattle.refusal.specs.Refusals.{refusal_of, Refusing}
 use Rattle.datatypes.specs.Places.{integer_place}
-use Rattle.format.specs.declared.dictionary.IndexRead.{IndexRead}
-use Rattle.format.specs.declared.dictionary.IndexRead.TheVariants as Index
+use Rattle.datatypes.specs.declared.IntegerType.{IntegerType}
 
 -- the index type's place in `IntegerType`
-abbrev pub index_answer : IndexRead → Answer ℕ
-index_answer (Index.Index t) = given (integer_place t)
-index_answer (Index.Refused r) = refused (refusal_of r)
+abbrev pub index_answer : Refusing IntegerType → Answer ℕ
+index_answer (Ok t) = given (integer_place t)
+index_answer (Err r) = refused (refusal_of r)
 
 -- integers of at most 64 bits
 abbrev pub is_index_kind : ℕ → Bool

@@ -1,11 +1,10 @@
 -- What the code reads of a format, by the cases of its answer. Assumes nothing.
-use Rattle.std.specs.Prelude.{◌≡◌, true, List, ℕ, ◌≤◌, length, drop}
-use Rattle.std.proofs.Math.Option.{none, some}
+use Rattle.std.specs.Prelude.{◌≡◌, true, List, ℕ, ◌≤◌, length, drop, None, Some, Ok, Err}
 use Rattle.sheets.specs.Bytes.{Bytes}
 use Rattle.sheets.specs.Answer.{Answer, refused, given, ◌>>=◌}
 use Rattle.sheets.specs.Field.{leaf, timestamp, fixed_size_binary, decimal_type, list, large_list, fixed_size_list, map, struct, union}
 use Rattle.sheets.specs.Format.{Format, of_scalar, of_nesting, of_grouping, read_size, width_of, decimal_parts, zone}
-use Rattle.refusal.specs.Refusals.{refusal_of}
+use Rattle.refusal.specs.Refusals.{refusal_of, Refusing}
 use Rattle.hexadecimal.specs.Hex.{is_hex, bytes_of}
 use Rattle.datatypes.specs.Places.{time_unit, is_sparse}
 use Rattle.datatypes.specs.declared.units.TimeUnit.{TimeUnit}
@@ -13,9 +12,8 @@ use Rattle.datatypes.specs.declared.units.UnionMode.{UnionMode}
 use Rattle.format_names.specs.Names.{head_unit, head_mode}
 use Rattle.format.specs.Parts.{read_ids}
 use Rattle.format.specs.declared.read.Textless.{Textless}
-use Rattle.format.specs.declared.read.Textless.TheVariants as Textless
-use Rattle.format.specs.declared.read.FormatRead.{FormatRead}
-use Rattle.format.specs.declared.read.FormatRead.TheVariants as Read
+use Rattle.format.specs.declared.read.Format.{Format as Said}
+use Rattle.format.specs.declared.read.Format.TheVariants as Read
 
 abbrev pub textless_format : Textless → Format
 textless_format (Textless.Leaf kind unit) = of_scalar (leaf kind unit)
@@ -33,26 +31,26 @@ timestamp_format u b = of_scalar (timestamp (time_unit u) (zone b))
 
 -- a union, with what follows the colon
 abbrev pub union_format : UnionMode → Bytes → Answer Format
-union_format m b = read_ids b >>= λ zs. given (of_grouping (union (is_sparse m) (some zs)))
+union_format m b = read_ids b >>= λ zs. given (of_grouping (union (is_sparse m) (Some zs)))
 
 -- the answer for each case, where the format's text is f
-abbrev pub format_answer : Bytes → FormatRead → Answer Format
-format_answer f (Read.Numbers t) = given (textless_format t)
-format_answer f (Read.Timestamp u k) = given (timestamp_format u (bytes_of (drop k f)))
-format_answer f (Read.Union m k) = union_format m (bytes_of (drop k f))
-format_answer f (Read.Refused r) = refused (refusal_of r)
+abbrev pub format_answer : Bytes → Refusing Said → Answer Format
+format_answer f (Ok (Read.Numbers t)) = given (textless_format t)
+format_answer f (Ok (Read.Timestamp u k)) = given (timestamp_format u (bytes_of (drop k f)))
+format_answer f (Ok (Read.Union m k)) = union_format m (bytes_of (drop k f))
+format_answer f (Err r) = refused (refusal_of r)
 
 -- pairs of digits from digit k on
 abbrev pub HasRest : Bytes → ℕ → Type 0
 HasRest f k = (is_hex (drop k f) ≡ true) × (k ≤ length f)
 
-abbrev pub HasText : Bytes → FormatRead → Type 0
-HasText f (Read.Numbers t) = Unit {0}
-HasText f (Read.Timestamp u k) = HasRest f k
-HasText f (Read.Union m k) = HasRest f k
-HasText f (Read.Refused r) = Unit {0}
+abbrev pub HasText : Bytes → Refusing Said → Type 0
+HasText f (Ok (Read.Numbers t)) = Unit {0}
+HasText f (Ok (Read.Timestamp u k)) = HasRest f k
+HasText f (Ok (Read.Union m k)) = HasRest f k
+HasText f (Err r) = Unit {0}
 
-abbrev pub Reads : Bytes → Answer Format → FormatRead → Type 0
+abbrev pub Reads : Bytes → Answer Format → Refusing Said → Type 0
 Reads f a r = (format_answer f r ≡ a) × HasText f r
 
 -- a decimal of a width, from the texts of its precision and its scale
@@ -65,5 +63,5 @@ decimal_format ps = decimal_parts ps >>= λ s. given (of_scalar s)
 -- the text of a head that names neither a unit nor a mode
 pub record IsOtherHead (h : Bytes) : Type 0 where
   pub is_text : is_hex h ≡ true
-  pub no_unit : head_unit (bytes_of h) ≡ none
-  pub no_mode : head_mode (bytes_of h) ≡ none
+  pub no_unit : head_unit (bytes_of h) ≡ None
+  pub no_mode : head_mode (bytes_of h) ≡ None

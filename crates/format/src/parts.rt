@@ -10,14 +10,12 @@ pub fn place_of(f: &[u8], from: usize, b: u8) -> usize
     ensures { result ≡ from + bytes_before b (drop from (bytes_of f.now)) }
 {
     let n = f.len() / 2;
-    let mut k = from;
-    while k < n {
+    for k in from..n {
         if hexadecimal::byte_at(f, k) == b {
             return k;
         }
-        k += 1;
     }
-    k
+    from.max(n)
 }
 
 // The text of the bytes from `from` on and before `to`.

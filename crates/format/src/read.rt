@@ -9,9 +9,8 @@ ghost use Rattle.format.specs.Formats.{textless_format, Reads, decimal_of, decim
 
 use crate::parts;
 use datatypes::kind;
-use datatypes::units::{TimeUnit, TimeUnitAt, UnionMode, UnionModeAt};
+use datatypes::units::{TimeUnit, UnionMode};
 use format_names::NameRead;
-use parse::Size;
 use refusal::Refusal;
 
 // A type that needs no text.
@@ -32,55 +31,54 @@ pub enum Textless {
 
 // What a format says; of a timestamp and of a union the place in its hexadecimal text where the timezone and the ids begin.
 #[derive(Drop)]
-pub enum FormatRead {
+pub enum Format {
     Numbers(Textless),
     Timestamp(TimeUnit, usize),
     Union(UnionMode, usize),
-    Refused(Refusal),
 }
 
 // The width of a decimal whose format has none.
 const WIDTH: u64 = 128;
 
 // A decimal whose precision stands before byte i, its scale after it and before byte e.
-fn decimal_of(f: &[u8], width: u64, at: usize, i: usize, e: usize) -> FormatRead
+fn decimal_of(f: &[u8], width: u64, at: usize, i: usize, e: usize) -> Result<Format, Refusal>
     requires { HasPart f.now at i × HasPart f.now (i + 1) e }
     ensures { Reads f.now (decimal_of width (format_part at i (bytes_of f.now)) (format_part (i + 1) e (bytes_of f.now))) result }
 {
-    let Size::Value(precision) = parse::parse_usize(parts::part_of(f, at, i)) else {
-        return FormatRead::Refused(Refusal::BadNumber);
+    let Some(precision) = parse::parse_usize(parts::part_of(f, at, i)) else {
+        return Err(Refusal::BadNumber);
     };
-    let Size::Value(scale) = parse::parse_usize(parts::part_of(f, i + 1, e)) else {
-        return FormatRead::Refused(Refusal::BadNumber);
+    let Some(scale) = parse::parse_usize(parts::part_of(f, i + 1, e)) else {
+        return Err(Refusal::BadNumber);
     };
-    FormatRead::Numbers(Textless::Decimal(width, precision, scale))
+    Ok(Format::Numbers(Textless::Decimal(width, precision, scale)))
 }
 
 // A decimal of three parts: the width, from byte j + 1 on, is read first.
-fn wide_decimal(f: &[u8], at: usize, i: usize, j: usize) -> FormatRead
+fn wide_decimal(f: &[u8], at: usize, i: usize, j: usize) -> Result<Format, Refusal>
     requires { HasPart f.now at i × HasPart f.now (i + 1) j × HasBytes f.now (j + 1) }
     ensures { Reads f.now (decimal_format (format_part at i (bytes_of f.now) ∷ format_part (i + 1) j (bytes_of f.now) ∷ parts_from (bytes_of f.now) (j + 1))) result }
 {
     let n = f.len() / 2;
     let end = parts::place_of(f, j + 1, b',');
     if end == n {
-        let Size::Value(width) = parse::parse_usize(parts::part_of(f, j + 1, end)) else {
-            return FormatRead::Refused(Refusal::BadNumber);
+        let Some(width) = parse::parse_usize(parts::part_of(f, j + 1, end)) else {
+            return Err(Refusal::BadNumber);
         };
         return decimal_of(f, width, at, i, j);
     }
-    FormatRead::Refused(Refusal::BadDecimal)
+    Err(Refusal::BadDecimal)
 }
 
 // A decimal whose parts stand from byte `at` on: two or three.
-fn read_decimal(f: &[u8], at: usize) -> FormatRead
+fn read_decimal(f: &[u8], at: usize) -> Result<Format, Refusal>
     requires { HasBytes f.now at }
     ensures { Reads f.now (decimal_format (parts_from (bytes_of f.now) at)) result }
 {
     let n = f.len() / 2;
     let i = parts::place_of(f, at, b',');
     if n <= i {
-        return FormatRead::Refused(Refusal::BadDecimal);
+        return Err(Refusal::BadDecimal);
     }
     let j = parts::place_of(f, i + 1, b',');
     if n <= j {
@@ -90,51 +88,51 @@ fn read_decimal(f: &[u8], at: usize) -> FormatRead
 }
 
 // A format with the head h before its colon, which names no unit and no mode, and with numbers from byte `at` on.
-fn read_sizes(f: &[u8], at: usize, h: &[u8]) -> FormatRead
+fn read_sizes(f: &[u8], at: usize, h: &[u8]) -> Result<Format, Refusal>
     requires { HasBytes f.now at × IsOtherHead h.now }
     ensures { Reads f.now (read_cut (bytes_of h.now) (drop at (bytes_of f.now))) result }
 {
     let n = f.len() / 2;
     if hexadecimal::says(h, b"w") {
-        let Size::Value(size) = parse::parse_usize(parts::part_of(f, at, n)) else {
-            return FormatRead::Refused(Refusal::BadNumber);
+        let Some(size) = parse::parse_usize(parts::part_of(f, at, n)) else {
+            return Err(Refusal::BadNumber);
         };
-        return FormatRead::Numbers(Textless::FixedSizeBinary(size));
+        return Ok(Format::Numbers(Textless::FixedSizeBinary(size)));
     }
     if hexadecimal::says(h, b"+w") {
-        let Size::Value(size) = parse::parse_usize(parts::part_of(f, at, n)) else {
-            return FormatRead::Refused(Refusal::BadNumber);
+        let Some(size) = parse::parse_usize(parts::part_of(f, at, n)) else {
+            return Err(Refusal::BadNumber);
         };
-        return FormatRead::Numbers(Textless::FixedSizeList(size));
+        return Ok(Format::Numbers(Textless::FixedSizeList(size)));
     }
     if hexadecimal::says(h, b"d") {
         return read_decimal(f, at);
     }
-    FormatRead::Refused(Refusal::UnsupportedFormat)
+    Err(Refusal::UnsupportedFormat)
 }
 
 // A format whose first colon is byte k.
-fn read_cut(f: &[u8], k: usize) -> FormatRead
+fn read_cut(f: &[u8], k: usize) -> Result<Format, Refusal>
     requires { HasBytes f.now (k + 1) }
     ensures { Reads f.now (read_cut (take k (bytes_of f.now)) (drop (k + 1) (bytes_of f.now))) result }
 {
     let h = parts::part_of(f, 0, k);
-    if let TimeUnitAt::Is(unit) = format_names::head_unit(h) {
-        return FormatRead::Timestamp(unit, 2 * k + 2);
+    if let Some(unit) = format_names::head_unit(h) {
+        return Ok(Format::Timestamp(unit, 2 * k + 2));
     }
-    if let UnionModeAt::Is(mode) = format_names::head_mode(h) {
-        return FormatRead::Union(mode, 2 * k + 2);
+    if let Some(mode) = format_names::head_mode(h) {
+        return Ok(Format::Union(mode, 2 * k + 2));
     }
     read_sizes(f, k + 1, h)
 }
 
-fn read_other(f: &[u8]) -> FormatRead
+fn read_other(f: &[u8]) -> Result<Format, Refusal>
     requires { is_hex f.now ≡ true }
     ensures { Reads f.now (read_other (cut (bytes_of f.now))) result }
 {
     let k = parts::place_of(f, 0, b':');
     if k == f.len() / 2 {
-        return FormatRead::Refused(Refusal::UnsupportedFormat);
+        return Err(Refusal::UnsupportedFormat);
     }
     read_cut(f, k)
 }
@@ -153,13 +151,13 @@ fn nested_type(kind: u64, sorted: bool) -> Textless
 }
 
 // What a format says, but for a dictionary's. `sorted` says that the keys of a map are.
-pub fn read_format(f: &[u8], sorted: bool) -> FormatRead
+pub fn read_format(f: &[u8], sorted: bool) -> Result<Format, Refusal>
     requires { is_hex f.now ≡ true }
     ensures { Reads f.now (read_format sorted (bytes_of f.now)) result }
 {
     match format_names::fixed_name(f) {
-        NameRead::Leaf(kind, unit) => FormatRead::Numbers(Textless::Leaf(kind, unit)),
-        NameRead::Nested(kind) => FormatRead::Numbers(nested_type(kind, sorted)),
+        NameRead::Leaf(kind, unit) => Ok(Format::Numbers(Textless::Leaf(kind, unit))),
+        NameRead::Nested(kind) => Ok(Format::Numbers(nested_type(kind, sorted))),
         NameRead::Other => read_other(f),
     }
 }

@@ -4,7 +4,7 @@ use mathlib.Core.Path.{◌≡◌, refl, sym, ap, subst, ◌∙◌}
 use mathlib.Core.Logic.{◌≢◌, inl, inr}
 use mathlib.Core.Bool.{Bool, true, false, ◌&&◌, ◌||◌, cond}
 use mathlib.Core.List.{List, [], ◌∷◌}
-use mathlib.Core.Option.{none, some}
+use Rattle.std.specs.Prelude.{None, Some}
 use Prim.Native.Nat.{ℕ, ◌/◌, ◌≤◌, ◌<◌}
 use native.Mathlib.Omega.{arith}
 use lib.Dec.{eqb}
@@ -13,7 +13,7 @@ use lib.Seq.{take_all}
 use denote.Enum.Declared.{tag_of}
 use types.Run.{OneOf}
 use borrow.Author.Tests.{eqb-true, ne_eqb, ltb-true, not-true}
-use Rattle.sheets.specs.Rule.{Rule, is, each, Meets}
+use Rattle.sheets.specs.Rule.{is, each, Meets}
 use Rattle.sheets.specs.Bytes.{Bytes, all, is_byte, same}
 use Rattle.sheets.specs.Text.{hex}
 use Rattle.sheets.specs.Metadata.{little_value}
@@ -114,12 +114,12 @@ two_here : (w : ℕ) → length (low_bytes 2 w) / 2 ≡ 1
 two_here w = ap (λ (n : ℕ). n / 2) (length_low 2 w)
 
 -- the one name that the first byte is
-pub one_kind : (w kind : ℕ) (r : Candidates) → AreCandidates 1 (bytes_of (low_bytes 2 w)) r → r ≡ C.One kind → some kind ≡ kind_among (low_bytes 2 w) short_rows
+pub one_kind : (w kind : ℕ) (r : Candidates) → AreCandidates 1 (bytes_of (low_bytes 2 w)) r → r ≡ C.One kind → Some kind ≡ kind_among (low_bytes 2 w) short_rows
 one_kind w kind r c e =
     let c1 = subst (AreCandidates 1 (bytes_of (low_bytes 2 w))) e c in
     ap first_kind c1.chosen ∙ sym (kind_first (low_bytes 2 w) (two_here w))
 
-pub no_kind : (w : ℕ) (r : Candidates) → AreCandidates 1 (bytes_of (low_bytes 2 w)) r → r ≡ C.Nothing → none ≡ kind_among (low_bytes 2 w) short_rows
+pub no_kind : (w : ℕ) (r : Candidates) → AreCandidates 1 (bytes_of (low_bytes 2 w)) r → r ≡ C.Nothing → None ≡ kind_among (low_bytes 2 w) short_rows
 no_kind w r c e =
     let c1 = subst (AreCandidates 1 (bytes_of (low_bytes 2 w))) e c in
     ap first_kind c1.chosen ∙ sym (kind_first (low_bytes 2 w) (two_here w))
@@ -129,7 +129,7 @@ pub no_rows_of_one : {A : Type 0} (f : Bytes) (r : Candidates) (row count : ℕ)
 no_rows_of_one f r row count c e = never (subst (AreCandidates 1 f) e c).placed.0
 
 -- what is none of these is no name
-pub not_one : (w : ℕ) (r : Candidates) → AreCandidates 1 (bytes_of (low_bytes 2 w)) r → OneOf (0 ∷ 2 ∷ []) (tag_of the_type r) → none ≡ kind_among (low_bytes 2 w) short_rows
+pub not_one : (w : ℕ) (r : Candidates) → AreCandidates 1 (bytes_of (low_bytes 2 w)) r → OneOf (0 ∷ 2 ∷ []) (tag_of the_type r) → None ≡ kind_among (low_bytes 2 w) short_rows
 not_one w C.Nothing c o = no_kind w C.Nothing c refl
 not_one w (C.One kind) c (inl e) = absurd (omega (arith, e))
 not_one w (C.One kind) c (inr e) = absurd (omega (arith, e))
@@ -166,22 +166,22 @@ module _ {f : Bytes} {r : Candidates} (k : Chosen f r) where
       (subst (λ (n : ℕ). Meets (each (has_length n) (compared_with (bytes_of f)))) (length_bytes f k.is_text) (chosen_length (length (bytes_of f)) (bytes_of f)))
 
 -- a format that is empty finds none
-pub none_empty : (b : Bytes) → length b ≡ 0 → none ≡ leaf_named b
+pub none_empty : (b : Bytes) → length b ≡ 0 → None ≡ leaf_named b
 none_empty [] e = sym (ap leaf_of (found_compared [] ∙ ap (row_named []) compared_none))
 none_empty (x ∷ b) e = absurd (omega arith)
 
-pub named_nothing : {f : Bytes} (r : Candidates) → Chosen f r → r ≡ C.Nothing → none ≡ leaf_named (bytes_of f)
+pub named_nothing : {f : Bytes} (r : Candidates) → Chosen f r → r ≡ C.Nothing → None ≡ leaf_named (bytes_of f)
 named_nothing {f} r k e = among_candidates (subst (Chosen f) e k)
 
 -- a name that is its first byte is the format
-pub named_one : {f : Bytes} (r : Candidates) (kind : ℕ) → Chosen f r → r ≡ C.One kind → (some (kind, 0) ≡ leaf_named (bytes_of f)) × (is_nested kind ≡ false)
+pub named_one : {f : Bytes} (r : Candidates) (kind : ℕ) → Chosen f r → r ≡ C.One kind → (Some (kind, 0) ≡ leaf_named (bytes_of f)) × (is_nested kind ≡ false)
 named_one {f} r kind k e =
     let b = bytes_of f in
     let k1 = subst (Chosen f) e k in
     let size : length (take 1 b) ≡ length f / 2 = eqb-true (length (take 1 b)) (length f / 2) (candidates_length k1).0 in
     let whole : take 1 b ≡ b = take_all 1 b (omega (arith, length-take 1 b, length_bytes f k.is_text, k.some)) in
     let same_name : same b (take 1 b) ≡ true = ap (same b) whole ∙ same_refl b in
-    (ap (λ (u : Bool). leaf_of (cond u (some (record { name = take 1 b; kind = kind; unit = 0 })) none)) (sym same_name) ∙ among_candidates k1, k1.are.placed)
+    (ap (λ (u : Bool). leaf_of (cond u (Some (record { name = take 1 b; kind = kind; unit = 0 })) None)) (sym same_name) ∙ among_candidates k1, k1.are.placed)
 
 pub has_rows : {f : Bytes} (r : Candidates) (row count : ℕ) → Chosen f r → r ≡ C.Rows row count → HasRows f row count
 has_rows {f} r row count k e =

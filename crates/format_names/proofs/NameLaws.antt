@@ -4,7 +4,7 @@ use mathlib.Core.Path.{◌≡◌, refl, sym, ◌∙◌, ap, ap₂, subst}
 use mathlib.Core.Bool.{Bool, true, false, not, ◌&&◌, ◌||◌}
 use mathlib.Core.List.{List, [], ◌∷◌, ◌++◌}
 use mathlib.Core.List.{map as map_list}
-use mathlib.Core.Option.{Option, none, some}
+use Rattle.std.specs.Prelude.{Option, None, Some}
 use Prim.Native.Nat.{ℕ, zero, suc, ◌+◌, ◌*◌, ◌/◌, ◌≤◌, ◌<◌, min}
 use native.Mathlib.Nat.{not-suc-le-zero, le_of_suc-le-suc}
 use native.Mathlib.Numerals.{add-one}
@@ -54,13 +54,13 @@ module _ (row count : ℕ) (fit : row + count ≤ table_length) where
   rows_cons : (i : ℕ) → i < count → drop i (rows_from row count) ≡ row_at (row + i) ∷ drop (i + 1) (rows_from row count)
   rows_cons i h = rw (add-one i) (drop-cons (rows_from row count) i no_row (omega (arith, rows_length)) ∙ ap (λ (r : FormatRow). r ∷ drop (suc i) (rows_from row count)) (row_of_lem i h))
 
-  pub rows_found : (b : Bytes) (i : ℕ) → i < count → same b (row_at (row + i)).name ≡ true → row_named b (drop i (rows_from row count)) ≡ some (row_at (row + i))
+  pub rows_found : (b : Bytes) (i : ℕ) → i < count → same b (row_at (row + i)).name ≡ true → row_named b (drop i (rows_from row count)) ≡ Some (row_at (row + i))
   rows_found b i h e = rw (rows_cons i h, e)
 
   pub rows_next : (b : Bytes) (i : ℕ) → i < count → same b (row_at (row + i)).name ≡ false → row_named b (drop i (rows_from row count)) ≡ row_named b (drop (i + 1) (rows_from row count))
   rows_next b i h e = rw (rows_cons i h, e)
 
-  pub rows_end : (b : Bytes) (i : ℕ) → count ≤ i → row_named b (drop i (rows_from row count)) ≡ none
+  pub rows_end : (b : Bytes) (i : ℕ) → count ≤ i → row_named b (drop i (rows_from row count)) ≡ None
   rows_end b i h = rw (drop_of_length-le (rows_from row count) {i = i} (omega (arith, rows_length)))
 
   -- a row's name is as long as all of them
@@ -222,19 +222,19 @@ unit_at_lem i h = get_d_map (λ r. r.unit) fixed_rows i (omega (arith, names_38)
 
 module _ (sorted : Bool) (f : Bytes) where
   -- what its row says
-  pub name_says : (k u : ℕ) → some (k, u) ≡ leaf_named f → given (named_format sorted k u) ≡ read_format sorted f
+  pub name_says : (k u : ℕ) → Some (k, u) ≡ leaf_named f → given (named_format sorted k u) ≡ read_format sorted f
   name_says k u e = pick (row_named f fixed_rows) refl e ∙ read_fixed_lem sorted f
     where
-      pick : (o : Option FormatRow) → row_named f fixed_rows ≡ o → some (k, u) ≡ leaf_of o → given (named_format sorted k u) ≡ read_fixed sorted o (read_other (cut f))
-      pick none n g = not_some (sym g)
-      pick (some r) n g =
+      pick : (o : Option FormatRow) → row_named f fixed_rows ≡ o → Some (k, u) ≡ leaf_of o → given (named_format sorted k u) ≡ read_fixed sorted o (read_other (cut f))
+      pick None n g = not_some (sym g)
+      pick (Some r) n g =
           let q : ◌≡◌ {A = ℕ × ℕ} (k, u) (r.kind, r.unit) = cc in
           ap (λ (x : ℕ × ℕ). given (named_format sorted x.0 x.1)) q
 
   -- a format that is no name
-  pub name_other : none ≡ leaf_named f → read_other (cut f) ≡ read_format sorted f
+  pub name_other : None ≡ leaf_named f → read_other (cut f) ≡ read_format sorted f
   name_other e = pick (row_named f fixed_rows) e ∙ read_fixed_lem sorted f
     where
-      pick : (o : Option FormatRow) → none ≡ leaf_of o → read_other (cut f) ≡ read_fixed sorted o (read_other (cut f))
-      pick none g = refl
-      pick (some r) g = not_some g
+      pick : (o : Option FormatRow) → None ≡ leaf_of o → read_other (cut f) ≡ read_fixed sorted o (read_other (cut f))
+      pick None g = refl
+      pick (Some r) g = not_some g

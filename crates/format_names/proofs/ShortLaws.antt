@@ -3,7 +3,7 @@
 use mathlib.Core.Path.{◌≡◌, refl, sym, ap, ◌∙◌}
 use mathlib.Core.Bool.{Bool, true, false, ◌&&◌, cond}
 use mathlib.Core.List.{List, [], ◌∷◌}
-use mathlib.Core.Option.{Option, none, some}
+use Rattle.std.specs.Prelude.{Option, None, Some}
 use Prim.Native.Nat.{ℕ, ◌/◌}
 use native.Mathlib.Omega.{arith}
 use lib.Dec.{eqb}
@@ -75,8 +75,8 @@ unfolding short_rows
 rows_rule = meets (each row_rule short_rows) refl
 
 abbrev pub first_kind : List FormatRow → Option ℕ
-first_kind [] = none
-first_kind (r ∷ rs) = some r.kind
+first_kind [] = None
+first_kind (r ∷ rs) = Some r.kind
 
 module _ (t : Bytes) (n : length t / 2 ≡ 1) where
   -- the name of a row that has one byte
@@ -89,7 +89,7 @@ module _ (t : Bytes) (n : length t / 2 ≡ 1) where
   among_first [] m = refl
   among_first (r ∷ l) m = pick (eqb (length r.name) 1) refl (among_first l m.1)
     where
-      here : (u : Bool) (o : Option ℕ) (rs : List FormatRow) → o ≡ first_kind rs → cond u (some r.kind) o ≡ first_kind (cond u (r ∷ rs) rs)
+      here : (u : Bool) (o : Option ℕ) (rs : List FormatRow) → o ≡ first_kind rs → cond u (Some r.kind) o ≡ first_kind (cond u (r ∷ rs) rs)
       here true o rs e = refl
       here false o rs e = e
 
@@ -109,8 +109,8 @@ among_named : (t : Bytes) → is_hex t ≡ true → (rs : List FormatRow) → Me
 among_named t h [] m = refl
 among_named t h (r ∷ rs) m = rw (same_text t r.name h m.0.0) (pick (same (bytes_of t) r.name) (among_named t h rs m.1))
   where
-    pick : (u : Bool) → without_unit (kind_among t rs) ≡ leaf_of (row_named (bytes_of t) rs) → without_unit (cond u (some r.kind) (kind_among t rs)) ≡ leaf_of (cond u (some r) (row_named (bytes_of t) rs))
-    pick true next = ap (λ (u : ℕ). some (r.kind, u)) (sym (eqb-true r.unit 0 m.0.1))
+    pick : (u : Bool) → without_unit (kind_among t rs) ≡ leaf_of (row_named (bytes_of t) rs) → without_unit (cond u (Some r.kind) (kind_among t rs)) ≡ leaf_of (cond u (Some r) (row_named (bytes_of t) rs))
+    pick true next = ap (λ (u : ℕ). Some (r.kind, u)) (sym (eqb-true r.unit 0 m.0.1))
     pick false next = next
 
 -- a byte finds its row among the names of one byte
@@ -118,8 +118,8 @@ among_short : (b : Bytes) → length b ≡ 1 → (l : List FormatRow) → row_na
 among_short b n [] = refl
 among_short b n (r ∷ l) = pick (eqb (length r.name) 1) refl (among_short b n l)
   where
-    pick : (u : Bool) → eqb (length r.name) 1 ≡ u → row_named b (of_one_byte l) ≡ row_named b l → row_named b (cond u (r ∷ of_one_byte l) (of_one_byte l)) ≡ cond (same b r.name) (some r) (row_named b l)
-    pick true e next = ap (λ (o : Option FormatRow). cond (same b r.name) (some r) o) next
+    pick : (u : Bool) → eqb (length r.name) 1 ≡ u → row_named b (of_one_byte l) ≡ row_named b l → row_named b (cond u (r ∷ of_one_byte l) (of_one_byte l)) ≡ cond (same b r.name) (Some r) (row_named b l)
+    pick true e next = ap (λ (o : Option FormatRow). cond (same b r.name) (Some r) o) next
     pick false e next = rw (lengths_differ b r.name (λ d. eqb-false (length r.name) 1 e (sym d ∙ n))) next
 
 pub short_named : (f : Bytes) → is_hex f ≡ true → length f / 2 ≡ 1 → without_unit (kind_among f short_rows) ≡ leaf_named (bytes_of f)

@@ -1,7 +1,6 @@
 -- The fixed names of formats as the code has them: the rows of the one table, each by its place; a format's digits as numbers; and the heads before a colon
 -- that name a unit or a mode. Assumes nothing.
-use Rattle.std.specs.Prelude.{◌≡◌, Bool, true, false, ◌&&◌, ◌||◌, cond, List, [], ℕ, ◌+◌, ◌/◌, ◌≤◌, eqb, length, take, drop, get_or}
-use Rattle.std.proofs.Math.Option.{Option, none, some}
+use Rattle.std.specs.Prelude.{◌≡◌, Bool, true, false, ◌&&◌, ◌||◌, cond, List, [], ℕ, ◌+◌, ◌/◌, ◌≤◌, eqb, length, take, drop, get_or, Option, None, Some}
 use Rattle.sheets.specs.Rule.{each, Meets}
 use Rattle.sheets.specs.Bytes.{Bytes, same, ascii}
 use Rattle.sheets.specs.Text.{hex}
@@ -75,9 +74,9 @@ pub record HasRows (f : Bytes) (row count : ℕ) : Type 0 where
 
 -- the kind and the unit: no type with children has a unit
 abbrev pub name_option : NameRead → Option (ℕ × ℕ)
-name_option (Leaf kind unit) = some (kind, unit)
-name_option (Nested kind) = some (kind, 0)
-name_option Other = none
+name_option (Leaf kind unit) = Some (kind, unit)
+name_option (Nested kind) = Some (kind, 0)
+name_option Other = None
 
 -- which types have children
 abbrev pub Told : NameRead → Type 0
@@ -86,8 +85,8 @@ Told (Nested kind) = is_nested kind ≡ true
 Told Other = Unit {0}
 
 abbrev pub leaf_of : Option FormatRow → Option (ℕ × ℕ)
-leaf_of none = none
-leaf_of (some r) = some (r.kind, r.unit)
+leaf_of None = None
+leaf_of (Some r) = Some (r.kind, r.unit)
 
 -- the kind and the unit of the row that a name finds
 abbrev pub leaf_named : Bytes → Option (ℕ × ℕ)
@@ -98,10 +97,10 @@ leaf_named b = leaf_of (row_named b fixed_rows)
 -- `ts[smun]`
 abbrev pub head_unit : Bytes → Option TimeUnit
 head_unit h =
-    cond (same h (ascii "tss")) (some TimeUnits.Second)
-    (cond (same h (ascii "tsm")) (some TimeUnits.Millisecond)
-    (cond (same h (ascii "tsu")) (some TimeUnits.Microsecond) (cond (same h (ascii "tsn")) (some TimeUnits.Nanosecond) none)))
+    cond (same h (ascii "tss")) (Some TimeUnits.Second)
+    (cond (same h (ascii "tsm")) (Some TimeUnits.Millisecond)
+    (cond (same h (ascii "tsu")) (Some TimeUnits.Microsecond) (cond (same h (ascii "tsn")) (Some TimeUnits.Nanosecond) None)))
 
 -- `+u[ds]`
 abbrev pub head_mode : Bytes → Option UnionMode
-head_mode h = cond (same h (ascii "+ud")) (some UnionModes.Dense) (cond (same h (ascii "+us")) (some UnionModes.Sparse) none)
+head_mode h = cond (same h (ascii "+ud")) (Some UnionModes.Dense) (cond (same h (ascii "+us")) (Some UnionModes.Sparse) None)

@@ -1,12 +1,9 @@
 -- The fixed names of one byte as a short line is recognised by them: by their two digits. Assumes nothing.
-use Rattle.std.specs.Prelude.{cond, List, [], ◌∷◌, ℕ, eqb, length}
-use Rattle.std.proofs.Math.Option.{Option, none, some}
+use Rattle.std.specs.Prelude.{cond, List, [], ◌∷◌, ℕ, eqb, length, Option, None, Some}
 use Rattle.sheets.specs.Bytes.{Bytes, same}
 use Rattle.sheets.specs.Text.{hex}
 use Rattle.sheets.specs.Format.{FormatRow}
 use Rattle.sheets.specs.FixedNames.{fixed_rows}
-use Rattle.format_names.specs.declared.short.ShortName.{ShortName}
-use Rattle.format_names.specs.declared.short.ShortName.TheVariants as Short
 
 abbrev pub of_one_byte : List FormatRow → List FormatRow
 of_one_byte [] = []
@@ -19,14 +16,10 @@ short_rows = of_one_byte fixed_rows
 
 -- the kind of the row whose name the digits t say
 abbrev pub kind_among : Bytes → List FormatRow → Option ℕ
-kind_among t [] = none
-kind_among t (r ∷ rs) = cond (same t (hex r.name)) (some r.kind) (kind_among t rs)
-
-abbrev pub kind_option : ShortName → Option ℕ
-kind_option (Short.Kind kind) = some kind
-kind_option Short.Other = none
+kind_among t [] = None
+kind_among t (r ∷ rs) = cond (same t (hex r.name)) (Some r.kind) (kind_among t rs)
 
 -- the kind and the unit: no name of one byte tells a unit
 abbrev pub without_unit : Option ℕ → Option (ℕ × ℕ)
-without_unit none = none
-without_unit (some kind) = some (kind, 0)
+without_unit None = None
+without_unit (Some kind) = Some (kind, 0)

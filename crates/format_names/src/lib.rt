@@ -7,15 +7,13 @@ pub mod first_byte;
 pub mod names;
 pub mod short;
 
-ghost use Rattle.std.specs.Prelude.{◌≡◌, true, ◌<◌};
-ghost use Rattle.std.proofs.Math.Option.{some};
+ghost use Rattle.std.specs.Prelude.{◌≡◌, true, ◌<◌, Some};
 ghost use Rattle.sheets.specs.Format.{row_named};
 ghost use Rattle.hexadecimal.specs.Hex.{is_hex, bytes_of};
-ghost use Rattle.datatypes.specs.At.{time_unit_option, union_mode_option};
 ghost use Rattle.format_names.specs.Names.{table_length, row_at, rows_from, IsRow, HasDigits, DigitsOf, same_digits, HasRows, name_option, Told, leaf_of, leaf_named, head_unit, head_mode};
 
 use crate::candidates::Candidates;
-use datatypes::units::{TimeUnit, TimeUnitAt, UnionMode, UnionModeAt};
+use datatypes::units::{TimeUnit, UnionMode};
 use datatypes::{kind, unit};
 
 // The kinds of the rows; as bytes, since an array is stored anew wherever it is looked at.
@@ -132,7 +130,7 @@ pub fn row_at(i: usize) -> NameRow
 // The type whose name row i has.
 fn type_at(i: usize) -> NameRead
     requires { i < table_length }
-    ensures { (name_option result ≡ some ((row_at i).kind, (row_at i).unit)) × Told result }
+    ensures { (name_option result ≡ Some ((row_at i).kind, (row_at i).unit)) × Told result }
 {
     let r = row_at(i);
     if names::LIST <= i {
@@ -186,12 +184,10 @@ fn named(f: &[u8], row: usize, count: usize) -> NameRead
     ensures { (name_option result ≡ leaf_of (row_named (bytes_of f.now) (rows_from row count))) × Told result }
 {
     let d = digits_of(f);
-    let mut i = 0;
-    while i < count {
+    for i in 0..count {
         if has_digits(row + i, d) {
             return type_at(row + i);
         }
-        i += 1;
     }
     NameRead::Other
 }
@@ -213,39 +209,39 @@ pub fn fixed_name(f: &[u8]) -> NameRead
 }
 
 // The unit of a timestamp whose head is h: `ts` and the unit's letter.
-pub fn head_unit(h: &[u8]) -> TimeUnitAt
+pub fn head_unit(h: &[u8]) -> Option<TimeUnit>
     requires { is_hex h.now ≡ true }
-    ensures { time_unit_option result ≡ head_unit (bytes_of h.now) }
+    ensures { result ≡ head_unit (bytes_of h.now) }
 {
     if h.len() != 6 {
-        return TimeUnitAt::Nothing;
+        return None;
     }
     if !hexadecimal::says(&h[0..4], b"ts") {
-        return TimeUnitAt::Nothing;
+        return None;
     }
     match hexadecimal::byte_at(h, 2) {
-        b's' => TimeUnitAt::Is(TimeUnit::Second),
-        b'm' => TimeUnitAt::Is(TimeUnit::Millisecond),
-        b'u' => TimeUnitAt::Is(TimeUnit::Microsecond),
-        b'n' => TimeUnitAt::Is(TimeUnit::Nanosecond),
-        _ => TimeUnitAt::Nothing,
+        b's' => Some(TimeUnit::Second),
+        b'm' => Some(TimeUnit::Millisecond),
+        b'u' => Some(TimeUnit::Microsecond),
+        b'n' => Some(TimeUnit::Nanosecond),
+        _ => None,
     }
 }
 
 // The mode of a union whose head is h: `+u` and the mode's letter.
-pub fn head_mode(h: &[u8]) -> UnionModeAt
+pub fn head_mode(h: &[u8]) -> Option<UnionMode>
     requires { is_hex h.now ≡ true }
-    ensures { union_mode_option result ≡ head_mode (bytes_of h.now) }
+    ensures { result ≡ head_mode (bytes_of h.now) }
 {
     if h.len() != 6 {
-        return UnionModeAt::Nothing;
+        return None;
     }
     if !hexadecimal::says(&h[0..4], b"+u") {
-        return UnionModeAt::Nothing;
+        return None;
     }
     match hexadecimal::byte_at(h, 2) {
-        b'd' => UnionModeAt::Is(UnionMode::Dense),
-        b's' => UnionModeAt::Is(UnionMode::Sparse),
-        _ => UnionModeAt::Nothing,
+        b'd' => Some(UnionMode::Dense),
+        b's' => Some(UnionMode::Sparse),
+        _ => None,
     }
 }

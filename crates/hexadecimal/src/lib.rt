@@ -27,10 +27,8 @@ pub fn is_hex(s: &[u8]) -> bool
     ensures { result ≡ is_hex s.now }
 {
     let mut ok = s.len() % 2 == 0;
-    let mut i = 0;
-    while i < s.len() {
-        ok = ok & is_digit(s[i]);
-        i += 1;
+    for &b in s {
+        ok = ok & is_digit(b);
     }
     ok
 }
@@ -61,12 +59,10 @@ pub fn says(s: &[u8], key: &[u8]) -> bool
     if n != key.len() {
         return false;
     }
-    let mut k = 0;
-    while k < n {
-        if byte_at(s, k) != key[k] {
+    for (k, &b) in key.iter().enumerate() {
+        if byte_at(s, k) != b {
             return false;
         }
-        k += 1;
     }
     true
 }

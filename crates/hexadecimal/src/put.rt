@@ -18,6 +18,7 @@ fn put_digits(out: &mut [u8], s: &[u8])
     ensures { out.new ≡ over (hex s.now) out.old }
 {
     let n = buffer::within(2 * s.len(), out.len());
+    // by index: a byte read is two bytes written
     for k in 0..n / 2 {
         out[2 * k] = digit_of(s[k] / 16);
         out[2 * k + 1] = digit_of(s[k] % 16);

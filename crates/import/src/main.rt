@@ -1,12 +1,11 @@
 // Reads a schema sheet on standard input and prints its field sheet, or `refused N`: `import [little|big]`, which is the order of the metadata's lengths.
 #![tactic(auto)]
 
-use endian_word::Asked;
 use std::io;
 
 fn main(rt: HostRuntime) -> io::Result<()> {
     let mut err = rt.stderr();
-    let Asked::Order(big) = endian_word::asked_order(&rt, &mut err, b"import")? else {
+    let Some(big) = endian_word::asked_order(&rt, &mut err, b"import")? else {
         return Ok(());
     };
     // One byte more than a sheet may have, so that a longer input is known as such, however long it is.

@@ -3,7 +3,7 @@
 use mathlib.Core.Path.{◌≡◌, refl, sym, ap, ap₂, subst, ◌∙◌}
 use mathlib.Core.Bool.{Bool}
 use mathlib.Core.List.{List, [], ◌∷◌, ◌++◌}
-use mathlib.Core.Option.{Option}
+use Rattle.std.specs.Prelude.{Option, Ok, Err}
 use Prim.Native.Nat.{ℕ, ◌+◌, ◌<◌}
 use native.Mathlib.Omega.{arith}
 use lib.ListN.{length, drop}
@@ -16,23 +16,19 @@ use Rattle.sheets.specs.FieldSheet.{Shape, field_line, line_of}
 use Rattle.sheets.specs.Import.{format_text}
 use Rattle.sheets.specs.ImportLines.{node_shape, below, type_written, row_written, visited, is_bare}
 use Rattle.sheets.specs.Visits.{below_lines, row_lines}
-use Rattle.sheets.specs.SchemaTrees.{schemas, push_children, Standing}
+use Rattle.sheets.specs.SchemaTrees.{push_children, Standing}
 use Rattle.sheets.proofs.Tests.{first_gave}
 use Rattle.sheets.proofs.ImportLaws.{type_written_lem}
 use Rattle.sheets.proofs.ImportVisits.{visited_below}
 use Rattle.buffer.specs.Over.{PutFirst}
 use Rattle.buffer.proofs.OverLaws.{put_over}
 use Rattle.schema_line.specs.declared.SchemaLine.{SchemaLine}
-use Rattle.schema_sheet.specs.Trees.{tree_answer, ReadsRow}
+use Rattle.schema_sheet.specs.Trees.{ReadsRow}
 use Rattle.schema_sheet.proofs.ReadLaws.{reads_standing}
-use Rattle.schema_sheet.specs.declared.trees.TreeRead.{TreeRead}
-use Rattle.schema_sheet.specs.declared.trees.TreeRead.TheVariants.{To}
 use Rattle.import_type.specs.TypeColumns.{below_of}
 use Rattle.import_type.specs.declared.Below.{Below}
-use Rattle.import_type.specs.declared.FormatPut.{FormatPut}
-use Rattle.import_type.specs.declared.FormatPut.TheVariants as Put
 use Rattle.refusal.specs.declared.Refusal.{Refusal as Reason}
-use Rattle.refusal.specs.Refusals.{refusal_of}
+use Rattle.refusal.specs.Refusals.{refusal_of, Refusing, answer_of}
 use Rattle.node.specs.declared.lines.Shown.{Shown}
 use Rattle.node.specs.Pieces.{info_piece}
 use Rattle.node.specs.Nodes.{column_in, shown_in, NodeIn, line_type, type_text, LineTold, TypeLinePuts}
@@ -63,9 +59,9 @@ line_fits x one sh e =
     let (f, is, told) = first_gave (format_text (node_of x).format) (λ f. node_shape f (node_of x).flags (children_of x) (dictionary_of x)) sh e in
     shape_fits f (node_of x).flags (children_of x) (dictionary_of x) sh one told
 
-module _ (s : Bytes) (l : SchemaLine) (w : Shown) (es : List ℕ) (h : HasLine s l w es) (out mid : Bytes) (r : FormatPut) (puts : TypeLinePuts s l w es out mid r) (len : ℕ) (b : Below) (e : r ≡ Put.Put len b) where
+module _ (s : Bytes) (l : SchemaLine) (w : Shown) (es : List ℕ) (h : HasLine s l w es) (out mid : Bytes) (r : Refusing (ℕ × Below)) (puts : TypeLinePuts s l w es out mid r) (len : ℕ) (b : Below) (e : r ≡ Ok (len, b)) where
   line_told : LineTold (line_type h.line) (children_of h.line) (length (column_in s l.format)) (shown_in s l es w) out mid (given (len, b))
-  line_told = subst (λ (y : FormatPut). TypeLinePuts s l w es out mid y) e puts h.line h.shows
+  line_told = subst (λ (y : Refusing (ℕ × Below)). TypeLinePuts s l w es out mid y) e puts h.line h.shows
 
   line_asks : Fits line_told.0 l.children l.dictionary
   line_asks =
@@ -128,7 +124,7 @@ module _ {s : Bytes} {l : SchemaLine} {levels : ℕ} {x : Line} {cs : Schemas} {
       stands : Standing (drop l.end s) (parts.first ++ next_trees)
       stands = subst (Standing (drop l.end s)) parts.are h.stands
 
-      passed : (k : TreeRead) → ReadsRow s l.end v.first levels (tree_answer k) → (next : ℕ) × (k ≡ To next)
+      passed : (k : Refusing ℕ) → ReadsRow s l.end v.first levels (answer_of k) → (next : ℕ) × (k ≡ Ok next)
       passed k reads = reads_standing s l.end v.first levels parts.first next_trees stands parts.first_count (omega (arith, h.deep, parts.first_deep)) k reads
 
       -- its line is written, and what it passes is read
@@ -162,19 +158,19 @@ module _ {s : Bytes} {l : SchemaLine} {levels : ℕ} {x : Line} {cs : Schemas} {
 
   -- ── what is told of its line
 
-  module _ (w : Shown) (es : List ℕ) (out mid : Bytes) (r : FormatPut) (puts : TypeLinePuts s l w es out mid r) where
+  module _ (w : Shown) (es : List ℕ) (out mid : Bytes) (r : Refusing (ℕ × Below)) (puts : TypeLinePuts s l w es out mid r) where
     -- the type is refused
-    pub type_refused : (q : Reason) → r ≡ Put.Refused q → (j : Option Info) → type_written w.big j (schema (node_of x) cs d) ≡ refused (refusal_of q)
+    pub type_refused : (q : Reason) → r ≡ Err q → (j : Option Info) → type_written w.big j (schema (node_of x) cs d) ≡ refused (refusal_of q)
     type_refused q e j =
-        let told : line_type x ≡ refused (refusal_of q) = subst (λ (y : FormatPut). TypeLinePuts s l w es out mid y) e puts x h.shows in
+        let told : line_type x ≡ refused (refusal_of q) = subst (λ (y : Refusing (ℕ × Below)). TypeLinePuts s l w es out mid y) e puts x h.shows in
         becomes w.big j ∙ ap (λ (a : Answer Shape). a >>= rest w.big j) told
 
-    module _ (len : ℕ) (b : Below) (e : r ≡ Put.Put len b) where
+    module _ (len : ℕ) (b : Below) (e : r ≡ Ok (len, b)) where
       abbrev own : Bytes
       own = shown_in s l es w
 
       told : LineTold (line_type x) (children_of x) (length (column_in s l.format)) own out mid (given (len, b))
-      told = subst (λ (y : FormatPut). TypeLinePuts s l w es out mid y) e puts x h.shows
+      told = subst (λ (y : Refusing (ℕ × Below)). TypeLinePuts s l w es out mid y) e puts x h.shows
 
       abbrev sh : Shape
       sh = told.0
@@ -183,16 +179,16 @@ module _ {s : Bytes} {l : SchemaLine} {levels : ℕ} {x : Line} {cs : Schemas} {
         visit : visit_of (below_of sh) (count_schemas cs) ≡ v
         visit = ap (visit_of (below_of sh)) counted ∙ ap (λ (y : Below). visit_of y l.children) (sym told.3) ∙ sym is_visit
 
-        module _ (k : TreeRead) (reads : ReadsRow s l.end v.first levels (tree_answer k)) where
+        module _ (k : Refusing ℕ) (reads : ReadsRow s l.end v.first levels (answer_of k)) where
           -- the trees before those that are visited are read
-          pub first_to : (next : ℕ) × (k ≡ To next)
+          pub first_to : (next : ℕ) × (k ≡ Ok next)
           first_to = passed sh told.1 v visit k reads
 
           -- the visited trees stand next
-          pub begins : (next : ℕ) → k ≡ To next → (j : Option Info) → own ≡ info_piece j
+          pub begins : (next : ℕ) → k ≡ Ok next → (j : Option Info) → own ≡ info_piece j
               → LineBegins w.big s levels (type_written w.big j (schema (node_of x) cs d)) (below_lines (schema (node_of x) cs d)) ts out mid next len v
           begins next e j shows =
-              let m = subst (λ (y : TreeRead). ReadsRow s l.end v.first levels (tree_answer y)) e reads in
+              let m = subst (λ (y : Refusing ℕ). ReadsRow s l.end v.first levels (answer_of y)) e reads in
               let line_is : type_text sh own (below sh (children_of x)) ≡ ended (first_line w.big j sh ∷ []) = line_text_lem sh j (below sh (children_of x)) own shows in
               begins_with sh told.1 v visit w.big j next len out mid m
               (subst (λ (y : Bytes). PutFirst y len out mid) line_is (put_over (type_text sh own (below sh (children_of x))) out told.2))

@@ -1,5 +1,6 @@
 -- What is known at each place of `to_field`: the node's own lines are written, and what its type visits stands next (`NodeTold`); with what `to_dtype` tells of
 -- that, the tree is read, and its lines are written, or what was pending is refused. Assumes nothing.
+use Rattle.std.specs.Prelude.{Ok, Err}
 use mathlib.Core.Path.{◌≡◌, refl, sym, ap, subst, ◌∙◌}
 use mathlib.Core.List.{List, ◌++◌}
 use Prim.Native.Nat.{ℕ, ◌+◌, ◌-◌, ◌*◌, ◌≤◌, ◌<◌, min}
@@ -17,33 +18,27 @@ use Rattle.buffer.specs.Over.{PutFirst}
 use Rattle.buffer.proofs.OverLaws.{put_lent}
 use Rattle.outcome.specs.declared.Size.{Size}
 use Rattle.refusal.specs.declared.Refusal.{Refusal as Reason}
-use Rattle.refusal.specs.Refusals.{refusal_of}
+use Rattle.refusal.specs.Refusals.{refusal_of, Refusing, answer_of}
 use Rattle.schema_sheet.specs.Trees.{ReadsRow}
-use Rattle.schema_sheet.specs.declared.trees.TreeRead.TheVariants.{To}
 use Rattle.schema_sheet.proofs.ReadLaws.{reads_both, tree_read}
-use Rattle.node.specs.declared.Pending.{Pending}
-use Rattle.node.specs.Nodes.{pending_answer}
 use Rattle.import_field.specs.declared.Tree.{Tree}
 use Rattle.import_field.specs.declared.Trees.{Trees}
 use Rattle.import_field.specs.declared.Visit.{Visit}
 use Rattle.import_field.specs.declared.NodeBegun.{NodeBegun}
-use Rattle.import_field.specs.declared.NodeBegun.TheVariants as Node
-use Rattle.import_field.specs.declared.Step.{Step}
-use Rattle.import_field.specs.declared.Step.TheVariants.{Done, Refused as Turned}
-use Rattle.import_field.specs.Recursion.{FieldAt, step_answer, WroteAs, Wrote, TypeTold, RowRead, FieldRead, FieldTold, ended_field, FieldEnds, NodeRead, NodeBegins, NodeTold}
+use Rattle.import_field.specs.Recursion.{FieldAt, WroteAs, Wrote, TypeTold, RowRead, FieldRead, FieldTold, ended_field, FieldEnds, NodeRead, NodeBegins, NodeTold}
 
 -- the row that a node visits
 abbrev pub row_below : Tree → ℕ → Visit → Trees
 row_below t from v = record { at = from; count = v.count; levels = t.levels - 1; bare = v.bare; big = t.big }
 
-module _ (s : Bytes) (t : Tree) (out mid : Bytes) (b : NodeBegun) (h : NodeTold s t out mid b) where
+module _ (s : Bytes) (t : Tree) (out mid : Bytes) (b : Refusing NodeBegun) (h : NodeTold s t out mid b) where
   -- the node is refused
-  pub field_refused : (q : Reason) → b ≡ Node.Refused q → FieldTold s t out mid (Turned q)
-  field_refused q e = (tt, subst (λ (y : NodeBegun). NodeTold s t out mid y) e h)
+  pub field_refused : (q : Reason) → b ≡ Err q → FieldTold s t out mid (Err q)
+  field_refused q e = (tt, subst (λ (y : Refusing NodeBegun). NodeTold s t out mid y) e h)
 
-  module _ (from len : ℕ) (v : Visit) (pending : Pending) (e : b ≡ Node.Row from len v pending) where
-    told : NodeTold s t out mid (Node.Row from len v pending)
-    told = subst (λ (y : NodeBegun). NodeTold s t out mid y) e h
+  module _ (from len : ℕ) (v : Visit) (pending : Refusing (Unit {0})) (e : b ≡ Ok (record { from = from; len = len; visit = v; pending = pending })) where
+    told : NodeTold s t out mid (Ok (record { from = from; len = len; visit = v; pending = pending }))
+    told = subst (λ (y : Refusing NodeBegun). NodeTold s t out mid y) e h
 
     n : NodeRead s t from len v
     n = told.0
@@ -52,20 +47,20 @@ module _ (s : Bytes) (t : Tree) (out mid : Bytes) (b : NodeBegun) (h : NodeTold 
     pub below_within : from ≤ length s
     below_within = n.first.0.1
 
-    module _ (lent part : Bytes) (r : Step) (k : TypeTold s (row_below t from v) v.last lent part r) where
+    module _ (lent part : Bytes) (r : Refusing (ℕ × Size)) (k : TypeTold s (row_below t from v) v.last lent part r) where
       -- something below is refused
-      pub below_refused : (q : Reason) → r ≡ Turned q → FieldTold s t out out (Turned q)
+      pub below_refused : (q : Reason) → r ≡ Err q → FieldTold s t out out (Err q)
       below_refused q d = (
         tt,
         λ u ts f.
             let g = told.1 u ts f in
-            let z : row_written t.big v.bare g.us ≡ refused (refusal_of q) = (subst (λ (y : Step). TypeTold s (row_below t from v) v.last lent part y) d k).1 g.us g.vs ts g.visited g.others g.low in
+            let z : row_written t.big v.bare g.us ≡ refused (refusal_of q) = (subst (λ (y : Refusing (ℕ × Size)). TypeTold s (row_below t from v) v.last lent part y) d k).1 g.us g.vs ts g.visited g.others g.low in
             g.becomes ∙ ap (λ (m : Answer (List Bytes)). m >>= λ ls. g.own >>= λ a. given (a ++ ls)) z,
       )
 
-      module _ (next : ℕ) (below : Size) (d : r ≡ Done next below) where
+      module _ (next : ℕ) (below : Size) (d : r ≡ Ok (next, below)) where
         rows : RowRead s from (v.count + v.last) (t.levels - 1) (given (next, below))
-        rows = subst (λ (y : Step). RowRead s from (v.count + v.last) (t.levels - 1) (step_answer y)) d k.0
+        rows = subst (λ (y : Refusing (ℕ × Size)). RowRead s from (v.count + v.last) (t.levels - 1) (answer_of y)) d k.0
 
         -- neither sum wraps
         pub field_next : next ≤ length s
@@ -87,25 +82,25 @@ module _ (s : Bytes) (t : Tree) (out mid : Bytes) (b : NodeBegun) (h : NodeTold 
             subst (λ (m : ℕ). ReadsRow s n.line.end m (t.levels - 1) (given next)) same both
 
         -- the tree is read, and its lines are written, or what was pending is refused
-        pub field_told : 0 < t.levels → (w : ℕ) → w ≡ min len (length mid) → lent ≡ take (length mid - w) (drop w mid) → (z : Step) → FieldEnds pending next whole z
+        pub field_told : 0 < t.levels → (w : ℕ) → w ≡ min len (length mid) → lent ≡ take (length mid - w) (drop w mid) → (z : Refusing (ℕ × Size)) → FieldEnds pending next whole z
             → FieldTold s t out (take w mid ++ (part ++ drop (length mid - w) (drop w mid))) z
-        field_told l w e₁ e₂ z ends = (subst (FieldRead s t.at t.levels) (sym ends) (read (pending_answer pending)), λ u ts f. subst (λ (a : Answer (ℕ × Size)). WroteAs s ts (written t.big t.bare u) (import_lines u) out final a) (sym ends) (wrote u ts f))
+        field_told l w e₁ e₂ z ends = (subst (FieldRead s t.at t.levels) (sym ends) (read (answer_of pending)), λ u ts f. subst (λ (a : Answer (ℕ × Size)). WroteAs s ts (written t.big t.bare u) (import_lines u) out final a) (sym ends) (wrote u ts f))
           where
             final : Bytes
             final = take w mid ++ (part ++ drop (length mid - w) (drop w mid))
 
             read : (y : Answer (Unit {0})) → FieldRead s t.at t.levels (ended_field y next whole)
             read (refused q) = tt
-            read (given u) = (tree_read n.line n.there t.levels l (n.line.dictionary + n.line.children) refl (To next) (all_read l), field_long, field_each)
+            read (given u) = (tree_read n.line n.there t.levels l (n.line.dictionary + n.line.children) refl (Ok next) (all_read l), field_long, field_each)
 
-            wrote : (u : Schema) (ts : List Schema) → FieldAt s t.at t.levels u ts → WroteAs s ts (written t.big t.bare u) (import_lines u) out final (ended_field (pending_answer pending) next whole)
-            wrote u ts f = go (pending_answer pending) g.own g.becomes g.pends g.put
+            wrote : (u : Schema) (ts : List Schema) → FieldAt s t.at t.levels u ts → WroteAs s ts (written t.big t.bare u) (import_lines u) out final (ended_field (answer_of pending) next whole)
+            wrote u ts f = go (answer_of pending) g.own g.becomes g.pends g.put
               where
-                g : NodeBegins s t u ts out mid from len v (pending_answer pending)
+                g : NodeBegins s t u ts out mid from len v (answer_of pending)
                 g = told.1 u ts f
 
-                done : Wrote s ts (row_written t.big v.bare g.us) (row_lines g.us) lent part (Done next below)
-                done = (subst (λ (y : Step). TypeTold s (row_below t from v) v.last lent part y) d k).1 g.us g.vs ts g.visited g.others g.low
+                done : Wrote s ts (row_written t.big v.bare g.us) (row_lines g.us) lent part (Ok (next, below))
+                done = (subst (λ (y : Refusing (ℕ × Size)). TypeTold s (row_below t from v) v.last lent part y) d k).1 g.us g.vs ts g.visited g.others g.low
 
                 go : (y : Answer (Unit {0})) (own : Answer (List Bytes)) → written t.big t.bare u ≡ (row_written t.big v.bare g.us >>= λ ls. own >>= λ a. given (a ++ ls))
                     → y ≡ (own >>= λ a. given tt) → ((a : List Bytes) → own ≡ given a → PutFirst (ended a) len out mid)

@@ -1,4 +1,5 @@
 -- What is known in the loop of `to_fields`, which writes the lines of one tree after the other, and a law for each way of a turn. Assumes nothing.
+use Rattle.std.specs.Prelude.{Ok, Err}
 use mathlib.Core.Path.{◌≡◌, refl, sym, ap, subst, ◌∙◌}
 use mathlib.Core.Bool.{Bool}
 use mathlib.Core.List.{List, [], ◌++◌, append_assoc, append-nil}
@@ -17,13 +18,10 @@ use Rattle.buffer.specs.Over.{PutFirst}
 use Rattle.buffer.proofs.OverLaws.{over_nothing, put_lent}
 use Rattle.outcome.specs.declared.Size.{Size}
 use Rattle.refusal.specs.declared.Refusal.{Refusal as Reason}
-use Rattle.refusal.specs.Refusals.{refusal_of}
+use Rattle.refusal.specs.Refusals.{refusal_of, Refusing, answer_of}
 use Rattle.schema_sheet.proofs.ReadLaws.{Reading, reading_none, reading_more, reading_all}
-use Rattle.schema_sheet.specs.declared.trees.TreeRead.TheVariants.{To}
-use Rattle.import_field.specs.Recursion.{FieldAt, FieldsAt, Wrote, FieldWrote, step_answer, RowRead, FieldRead}
+use Rattle.import_field.specs.Recursion.{FieldAt, FieldsAt, Wrote, FieldWrote, RowRead, FieldRead}
 use Rattle.import_field.specs.declared.Tree.{Tree}
-use Rattle.import_field.specs.declared.Step.{Step}
-use Rattle.import_field.specs.declared.Step.TheVariants.{Done, Refused}
 
 none_before : (m : Answer (List Bytes)) → m ≡ (m >>= λ ls. given ([] ++ ls))
 none_before (refused r) = refl
@@ -51,11 +49,11 @@ row_none s at n levels h =
     record { reading = subst (λ (k : ℕ). Reading s at n levels at k) (omega arith) (reading_none s at n levels h); long = omega arith; each = omega arith; past = omega arith }
 
 module _ {s : Bytes} {at n levels here sum seen i : ℕ} (g : RowGoing s at n levels here sum seen i) where
-  pub row_more : i < n → (r : Step) (next : ℕ) (size : Size) → r ≡ Done next size → FieldRead s here levels (step_answer r) → RowGoing s at n levels next (sum + size.len) (seen + size.lines) (i + 1)
+  pub row_more : i < n → (r : Refusing (ℕ × Size)) (next : ℕ) (size : Size) → r ≡ Ok (next, size) → FieldRead s here levels (answer_of r) → RowGoing s at n levels next (sum + size.len) (seen + size.lines) (i + 1)
   row_more l r next size e f =
-      let (t, long, each) = subst (λ (y : Step). FieldRead s here levels (step_answer y)) e f in
+      let (t, long, each) = subst (λ (y : Refusing (ℕ × Size)). FieldRead s here levels (answer_of y)) e f in
       record {
-        reading = subst (λ (k : ℕ). Reading s at n levels next k) (omega arith) (reading_more g.reading (omega arith) (To next) t next refl);
+        reading = subst (λ (k : ℕ). Reading s at n levels next k) (omega arith) (reading_more g.reading (omega arith) t);
         long = omega (arith, long, g.long);
         each = omega (arith, each, g.each);
         past = omega (arith, t.0.0, g.past);
@@ -99,7 +97,7 @@ module _ (s : Bytes) (at n levels : ℕ) (bare big : Bool) (out₀ : Bytes) (us 
     first_at t vs h = record { stands = h.stands; deep = omega (arith, h.deep); short = h.short }
 
     -- it is written
-    pub going_more : i < n → (w : ℕ) → w ≡ min sum (length out) → (part : Bytes) (r : Step) (next : ℕ) (size : Size) → r ≡ Done next size
+    pub going_more : i < n → (w : ℕ) → w ≡ min sum (length out) → (part : Bytes) (r : Refusing (ℕ × Size)) (next : ℕ) (size : Size) → r ≡ Ok (next, size)
         → FieldWrote s (tree_at here levels bare big) (take (length out - w) (drop w out)) part r
         → Going s at n levels bare big out₀ (take w out ++ (part ++ drop (length out - w) (drop w out))) next (sum + size.len) (seen + size.lines) (i + 1) us ts
     going_more l w e part r next size is_done wrote = go g.vs g.left g.becomes g.counted
@@ -108,8 +106,8 @@ module _ (s : Bytes) (at n levels : ℕ) (bare big : Bool) (out₀ : Bytes) (us 
             → Going s at n levels bare big out₀ (take w out ++ (part ++ drop (length out - w) (drop w out))) next (sum + size.len) (seen + size.lines) (i + 1) us ts
         go end h b m = absurd (omega (arith, h.counted))
         go (t & vs) h b m =
-            let f : FieldWrote s (tree_at here levels bare big) (take (length out - w) (drop w out)) part (Done next size) =
-            subst (λ (x : Step). FieldWrote s (tree_at here levels bare big) (take (length out - w) (drop w out)) part x) is_done wrote in
+            let f : FieldWrote s (tree_at here levels bare big) (take (length out - w) (drop w out)) part (Ok (next, size)) =
+            subst (λ (x : Refusing (ℕ × Size)). FieldWrote s (tree_at here levels bare big) (take (length out - w) (drop w out)) part x) is_done wrote in
             let (ls, is, put, there, within, lines) = f t (push_children vs ts) (first_at t vs h) in
             record {
               vs = vs;
@@ -124,7 +122,7 @@ module _ (s : Bytes) (at n levels : ℕ) (bare big : Bool) (out₀ : Bytes) (us 
             }
 
     -- it is refused
-    pub going_refused : i < n → (lent part : Bytes) (r : Step) (q : Reason) → r ≡ Refused q → FieldWrote s (tree_at here levels bare big) lent part r
+    pub going_refused : i < n → (lent part : Bytes) (r : Refusing (ℕ × Size)) (q : Reason) → r ≡ Err q → FieldWrote s (tree_at here levels bare big) lent part r
         → row_written big bare us ≡ refused (refusal_of q)
     going_refused l lent part r q is_refused wrote = go g.vs g.left g.becomes
       where
@@ -132,14 +130,14 @@ module _ (s : Bytes) (at n levels : ℕ) (bare big : Bool) (out₀ : Bytes) (us 
             → row_written big bare us ≡ refused (refusal_of q)
         go end h b = absurd (omega (arith, h.counted))
         go (t & vs) h b =
-            let f : FieldWrote s (tree_at here levels bare big) lent part (Refused q) = subst (λ (x : Step). FieldWrote s (tree_at here levels bare big) lent part x) is_refused wrote in
+            let f : FieldWrote s (tree_at here levels bare big) lent part (Err q) = subst (λ (x : Refusing (ℕ × Size)). FieldWrote s (tree_at here levels bare big) lent part x) is_refused wrote in
             b ∙ ap (λ (o : Answer (List Bytes)). (o >>= λ a. row_written big bare vs >>= λ b. given (a ++ b)) >>= λ b. given (g.lines ++ b)) (f t (push_children vs ts) (first_at t vs h))
 
     -- all are written
-    pub going_all : n ≤ i → Wrote s ts (row_written big bare us) (row_lines us) out₀ out (Done here (record { len = sum; lines = seen }))
+    pub going_all : n ≤ i → Wrote s ts (row_written big bare us) (row_lines us) out₀ out (Ok (here, record { len = sum; lines = seen }))
     going_all l = go g.vs g.left g.becomes g.counted
       where
         go : (vs : Schemas) → FieldsAt s here (n - i) levels vs ts → row_written big bare us ≡ (row_written big bare vs >>= λ ls. given (g.lines ++ ls)) → row_lines us ≡ seen + row_lines vs
-            → Wrote s ts (row_written big bare us) (row_lines us) out₀ out (Done here (record { len = sum; lines = seen }))
+            → Wrote s ts (row_written big bare us) (row_lines us) out₀ out (Ok (here, record { len = sum; lines = seen }))
         go end h b m = (g.lines, b ∙ ap given (append-nil g.lines), g.put, h.stands, h.within, omega (arith, m))
         go (t & vs) h b m = absurd (omega (arith, h.counted))

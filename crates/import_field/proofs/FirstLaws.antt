@@ -10,12 +10,12 @@ use Rattle.sheets.specs.Schema.{Schema, end, ◌&◌}
 use Rattle.sheets.proofs.FormLaws.{standing_row, row_many}
 use Rattle.sheets.specs.ImportLines.{written}
 use Rattle.sheets.specs.Visits.{import_lines, row_lines}
-use Rattle.import_field.specs.Recursion.{FieldAt, FieldsAt, Wrote, FieldWrote, FieldsWrote, step_answer, RowRead, RowPast, FieldRead, FieldTold, FieldsTold}
+use Rattle.import_field.specs.Recursion.{FieldAt, FieldsAt, Wrote, FieldWrote, FieldsWrote, RowRead, RowPast, FieldRead, FieldTold, FieldsTold}
 use Rattle.outcome.specs.declared.Size.{Size}
 use Rattle.schema_sheet.proofs.ReadLaws.{row_one}
 use Rattle.import_field.specs.declared.Tree.{Tree}
+use Rattle.refusal.specs.Refusals.{Refusing, answer_of}
 use Rattle.import_field.specs.declared.Trees.{Trees}
-use Rattle.import_field.specs.declared.Step.{Step}
 
 -- the row of one tree
 abbrev pub row_of : Tree → Trees
@@ -39,7 +39,7 @@ module _ (s : Bytes) (t : Tree) where
   one_counted : (u : Schema) → row_lines (u & end) ≡ import_lines u
   one_counted u = omega arith
 
-  row_wrote : (out out' : Bytes) (r : Step) → FieldsWrote s (row_of t) out out' r → FieldWrote s t out out' r
+  row_wrote : (out out' : Bytes) (r : Refusing (ℕ × Size)) → FieldsWrote s (row_of t) out out' r → FieldWrote s t out out' r
   row_wrote out out' r h u ts f =
       subst (λ (n : ℕ). Wrote s ts (written t.big t.bare u) n out out' r) (one_counted u)
       (subst (λ (o : Answer (List Bytes)). Wrote s ts o (row_lines (u & end)) out out' r) (one_written (written t.big t.bare u)) (h (u & end) ts (row_at u ts f)))
@@ -49,5 +49,5 @@ module _ (s : Bytes) (t : Tree) where
   one_read (refused q) h p = tt
   one_read (given (next, size)) (h, long, each) p = (row_one s t.at t.levels next (omega arith) h, omega (arith, long), each)
 
-  pub row_told : (out out' : Bytes) (r : Step) → FieldsTold s (row_of t) out out' r → FieldTold s t out out' r
-  row_told out out' r h = (one_read (step_answer r) h.0 h.1, row_wrote out out' r h.2)
+  pub row_told : (out out' : Bytes) (r : Refusing (ℕ × Size)) → FieldsTold s (row_of t) out out' r → FieldTold s t out out' r
+  row_told out out' r h = (one_read (answer_of r) h.0 h.1, row_wrote out out' r h.2)

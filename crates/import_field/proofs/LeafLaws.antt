@@ -2,7 +2,7 @@
 use mathlib.Core.Path.{◌≡◌, sym, ap, subst, ◌∙◌}
 use mathlib.Core.Bool.{Bool, true, false}
 use mathlib.Core.List.{List, [], ◌∷◌}
-use mathlib.Core.Option.{none, some}
+use Rattle.std.specs.Prelude.{None, Some, Option, Ok}
 use Prim.Native.Nat.{ℕ, ◌+◌, ◌*◌, ◌/◌, ◌%◌, ◌≤◌, ◌<◌}
 use native.Mathlib.Omega.{arith}
 use lib.IntN.{pos}
@@ -29,26 +29,23 @@ use Rattle.field_leaf.proofs.LeafLaws.{line_text_lem}
 use Rattle.outcome.specs.declared.Size.{Size}
 use Rattle.put_leaf.proofs.LineLaws.{short_length}
 use Rattle.put_leaf.specs.Written.{LeafWritten, is_put, LeafPuts}
-use Rattle.put_leaf.specs.declared.LeafPut.{LeafPut}
-use Rattle.put_leaf.specs.declared.LeafPut.TheVariants.{Put, Other}
 use Rattle.schema_sheet.specs.Trees.{ReadsTree}
 use Rattle.schema_sheet.proofs.ReadLaws.{leaf_read}
 use Rattle.import_field.specs.Recursion.{FieldWrote, Wrote, FieldRead, FieldTold}
 use Rattle.import_field.specs.declared.Tree.{Tree}
+use Rattle.refusal.specs.Refusals.{Refusing}
 use Rattle.import_field.proofs.FieldsLaws.{tree_at}
-use Rattle.import_field.specs.declared.Step.{Step}
-use Rattle.import_field.specs.declared.Step.TheVariants.{Done}
 
 -- the field that a leaf becomes
 abbrev info : Bytes → ℕ → Info
-info name flags = record { name = name; nullable = nullable (pos flags); pairs = none }
+info name flags = record { name = name; nullable = nullable (pos flags); pairs = None }
 
 abbrev field_text : ℕ → Bytes → ℕ → Bytes
-field_text kind name flags = field_line.write (line_of (scalar_shape (leaf kind 0)) (some (info name flags)) 0)
+field_text kind name flags = field_line.write (line_of (scalar_shape (leaf kind 0)) (Some (info name flags)) 0)
 
 -- what import makes of the node
 leaf_becomes : (big : Bool) (f n : Bytes) (kind flags : ℕ) → is_utf8 f ≡ true → is_utf8 n ≡ true → ((sorted : Bool) → read_format sorted f ≡ given (of_scalar (leaf kind 0)))
-    → written big false (schema (record { format = some f; name = some n; flags = pos flags; metadata = none }) end absent) ≡ given (field_text kind n flags ∷ [])
+    → written big false (schema (record { format = Some f; name = Some n; flags = pos flags; metadata = None }) end absent) ≡ given (field_text kind n flags ∷ [])
 leaf_becomes big f n kind flags hf hn means = rw (hf, means (is_sorted (pos flags)), hn)
 
 -- one line is visited
@@ -74,7 +71,7 @@ module _ {s : Bytes} {at : ℕ} {out out' : Bytes} {next len : ℕ} (big : Bool)
     node x = schema (node_of x) end absent
 
     opened : (cs : Schemas) (d : Dictionary) → count_schemas cs ≡ 0 → count_dictionary d ≡ 0 → t ≡ schema (node_of w.leaf.line.line) cs d
-        → Standing (drop (w.e + 9) s) (push_children cs (push_dictionary d ts)) → Wrote s ts (written big false t) (import_lines t) out out' (Done next (size_of len))
+        → Standing (drop (w.e + 9) s) (push_children cs (push_dictionary d ts)) → Wrote s ts (written big false t) (import_lines t) out out' (Ok (next, size_of len))
     opened (c & cs) d n m e h = absurd (omega arith)
     opened end (present c) n m e h = absurd (omega arith)
     opened end absent n m e h =
@@ -89,7 +86,7 @@ module _ {s : Bytes} {at : ℕ} {out out' : Bytes} {next len : ℕ} (big : Bool)
         )
 
   -- all that `to_field` tells
-  pub leaf_field_lem : (levels : ℕ) → FieldWrote s (tree_at at levels false big) out out' (Done next (size_of len))
+  pub leaf_field_lem : (levels : ℕ) → FieldWrote s (tree_at at levels false big) out out' (Ok (next, size_of len))
   leaf_field_lem levels t ts f =
       let p = w.leaf.line in
       let q = p.stands in
@@ -103,15 +100,15 @@ module _ {s : Bytes} {at : ℕ} {out out' : Bytes} {next len : ℕ} (big : Bool)
 
 -- ── at the places of `next_field`
 
-module _ (s : Bytes) (t : Tree) (out mid : Bytes) (r : LeafPut) (h : LeafPuts s t.at t.bare out mid r) where
-  pub leaf_done : (next len : ℕ) → r ≡ Put next len → 0 < t.levels → FieldTold s t out mid (Done next (size_of len))
+module _ (s : Bytes) (t : Tree) (out mid : Bytes) (r : Option (ℕ × ℕ)) (h : LeafPuts s t.at t.bare out mid r) where
+  pub leaf_done : (next len : ℕ) → r ≡ Some (next, len) → 0 < t.levels → FieldTold s t out mid (Ok (next, size_of len))
   leaf_done next len e l =
       let p : (t.bare ≡ false) × LeafWritten s t.at out mid next len = subst (LeafPuts s t.at t.bare out mid) e h in (
         leaf_tree t.big p.1 t.levels l,
-        subst (λ (b : Bool). FieldWrote s (tree_at t.at t.levels b t.big) out mid (Done next (size_of len))) (sym p.0) (leaf_field_lem t.big p.1 t.levels),
+        subst (λ (b : Bool). FieldWrote s (tree_at t.at t.levels b t.big) out mid (Ok (next, size_of len))) (sym p.0) (leaf_field_lem t.big p.1 t.levels),
       )
 
-  pub leaf_other : r ≡ Other → (last : Bytes) (z : Step) → FieldTold s t mid last z → FieldTold s t out last z
+  pub leaf_other : r ≡ None → (last : Bytes) (z : Refusing (ℕ × Size)) → FieldTold s t mid last z → FieldTold s t out last z
   leaf_other e last z f =
       let p : (is_put s t.at t.bare out ≡ false) × (mid ≡ out) = subst (LeafPuts s t.at t.bare out mid) e h in
       subst (λ (b : Bytes). FieldTold s t b last z) p.1 f

@@ -2,9 +2,9 @@
 -- (`BeginLaws`), since such a line has no metadata, and its name is UTF-8. Assumes nothing.
 use mathlib.Core.Path.{◌≡◌, refl, sym, ap, subst, ◌∙◌}
 use mathlib.Core.Bool.{Bool, false}
-use mathlib.Core.List.{List, [], ◌∷◌, ◌++◌}
-use mathlib.Core.Option.{none, some}
-use Prim.Native.Nat.{ℕ, ◌+◌, ◌*◌, ◌-◌, ◌/◌, ◌%◌, ◌≤◌, ◌<◌, min}
+use mathlib.Core.List.{List, [], ◌∷◌}
+use Rattle.std.specs.Prelude.{None, Some, Option, Ok}
+use Prim.Native.Nat.{ℕ, ◌+◌, ◌*◌, ◌-◌, ◌/◌, ◌%◌, ◌≤◌, ◌<◌}
 use native.Mathlib.Omega.{arith}
 use lib.IntN.{pos}
 use Rattle.sheets.specs.Bytes.{Bytes}
@@ -27,17 +27,15 @@ use Rattle.leaf_line.specs.Short.{short_line}
 use Rattle.leaf_line.specs.Nested.{NestedType, list_type, large_list_type, struct_type, nested_shape, nested_kind}
 use Rattle.leaf_line.proofs.ShortLaws.{short_says}
 use Rattle.node.specs.Nodes.{line_type}
-use Rattle.put_leaf.specs.Written.{NestedWritten, is_nested_put, NestedPuts}
 use Rattle.put_leaf.specs.declared.NestedPut.{NestedPut}
-use Rattle.put_leaf.specs.declared.NestedPut.TheVariants.{Put, Other}
+use Rattle.put_leaf.specs.Written.{NestedWritten, is_nested_put, NestedPuts}
 use Rattle.put_leaf.proofs.LineLaws.{short_length, nested_info, nested_text, nested_shape_lem}
 use Rattle.import_field.specs.declared.Tree.{Tree}
 use Rattle.import_field.specs.declared.Visit.{Visit}
 use Rattle.import_field.specs.declared.NodeBegun.{NodeBegun}
-use Rattle.import_field.specs.declared.NodeBegun.TheVariants.{Row}
-use Rattle.node.specs.declared.Pending.TheVariants.{Nothing}
 use Rattle.import_field.specs.Recursion.{FieldAt, visit_of, NodeBegins, NodeTold}
 use Rattle.import_field.proofs.BeginLaws.{counted, begins_with}
+use Rattle.refusal.specs.Refusals.{Refusing}
 use Rattle.import_field.proofs.OwnLaws.{opened, type_at}
 
 -- the type visits so many of its children, and leaves the last ones
@@ -81,28 +79,28 @@ module _ {s : Bytes} {at : ℕ} {out mid : Bytes} {next len count last : ℕ} (w
   unfolding line_type
   line_type_lem =
       let k = w.nested.short in
-      let text : format_text (some k.format) ≡ given k.format = rw k.names.utf8 in
+      let text : format_text (Some k.format) ≡ given k.format = rw k.names.utf8 in
       ap (λ (x : Line). format_text (node_of x).format >>= λ f. node_shape f (node_of x).flags (children_of x) x.1.1.1.1.1.0) (short_says k)
       ∙ ap (λ (a : Answer Bytes). a >>= λ f. node_shape f (pos w.flags) w.children 0) text
       ∙ nested_shape_lem w
 
-  own : (big : Bool) → own_of big (node_of p.line) ≡ given (nested_info w, none)
+  own : (big : Bool) → own_of big (node_of p.line) ≡ given (nested_info w, None)
   own big = let k = w.nested.short in ap (λ (x : Line). own_of big (node_of x)) (short_says k) ∙ rw k.utf8
 
-  own_put : PutFirst (ended (field_line.write (line_of (nested_shape w.type) (some (nested_info w)) (below (nested_shape w.type) (children_of p.line))) ∷ [])) len out mid
+  own_put : PutFirst (ended (field_line.write (line_of (nested_shape w.type) (Some (nested_info w)) (below (nested_shape w.type) (children_of p.line))) ∷ [])) len out mid
   own_put =
       let same : count ≡ below (nested_shape w.type) (children_of p.line) = w.visited ∙ ap (below (nested_shape w.type)) p.shows.children in
-      subst (λ (n : ℕ). PutFirst (ended (field_line.write (line_of (nested_shape w.type) (some (nested_info w)) n) ∷ [])) len out mid) same (subst (λ (b : Bytes). PutFirst b len out mid) (nested_text w) w.put)
+      subst (λ (n : ℕ). PutFirst (ended (field_line.write (line_of (nested_shape w.type) (Some (nested_info w)) n) ∷ [])) len out mid) same (subst (λ (b : Bytes). PutFirst b len out mid) (nested_text w) w.put)
 
 -- ── at the places of `begin_node`
 
-module _ (s : Bytes) (t : Tree) (out mid : Bytes) (r : NestedPut) (h : NestedPuts s t.at t.bare out mid r) where
-  pub nested_other : r ≡ Other → (last : Bytes) (b : NodeBegun) → NodeTold s t mid last b → NodeTold s t out last b
+module _ (s : Bytes) (t : Tree) (out mid : Bytes) (r : Option NestedPut) (h : NestedPuts s t.at t.bare out mid r) where
+  pub nested_other : r ≡ None → (last : Bytes) (b : Refusing NodeBegun) → NodeTold s t mid last b → NodeTold s t out last b
   nested_other e last b f =
       let p : (is_nested_put s t.at t.bare out ≡ false) × (mid ≡ out) = subst (NestedPuts s t.at t.bare out mid) e h in
       subst (λ (y : Bytes). NodeTold s t y last b) p.1 f
 
-  module _ (next len count last : ℕ) (e : r ≡ Put next len count last) where
+  module _ (next len count last : ℕ) (e : r ≡ Some (record { next = next; len = len; count = count; last = last })) where
     there : (t.bare ≡ false) × NestedWritten s t.at out mid next len count last
     there = subst (NestedPuts s t.at t.bare out mid) e h
 
@@ -120,8 +118,8 @@ module _ (s : Bytes) (t : Tree) (out mid : Bytes) (r : NestedPut) (h : NestedPut
         let sh = nested_shape w.type in
         let k = type_at p f in
         let v = ap (visit_of (below_of sh)) (counted k) ∙ visit_same w.type w.children count last w.visited w.all in
-        let g = begins_with k sh (line_type_lem w) (visit w) v t.big (some (nested_info w)) next len out mid (none_first w (t.levels - 1)) (own_put w) in
-        let plain : written t.big false u ≡ type_written t.big (some (nested_info w)) (schema (node_of p.line) o.children o.dictionary) =
+        let g = begins_with k sh (line_type_lem w) (visit w) v t.big (Some (nested_info w)) next len out mid (none_first w (t.levels - 1)) (own_put w) in
+        let plain : written t.big false u ≡ type_written t.big (Some (nested_info w)) (schema (node_of p.line) o.children o.dictionary) =
         ap (written t.big false) o.is_node ∙ own_plain t.big false (node_of p.line) o.children o.dictionary (nested_info w) (own w t.big) in
         record {
           us = g.us;
@@ -136,7 +134,7 @@ module _ (s : Bytes) (t : Tree) (out mid : Bytes) (r : NestedPut) (h : NestedPut
           put = λ a q. subst (λ (y : List Bytes). PutFirst (ended y) len out mid) (given_same (g.line ∷ []) a q) g.put;
         }
 
-    pub nested_told : NodeTold s t out mid (Row next len (record { first = 0; count = count; bare = false; last = last }) Nothing)
+    pub nested_told : NodeTold s t out mid (Ok (record { from = next; len = len; visit = record { first = 0; count = count; bare = false; last = last }; pending = Ok tt }))
     nested_told = (
       record { line = line w; there = w.nested.short.line; first = none_first w (t.levels - 1); all = omega (arith, w.all); long = text_short w },
       begun,

@@ -3,11 +3,11 @@
 use mathlib.Core.Path.{◌≡◌, refl, sym, ap, subst, ◌∙◌}
 use mathlib.Core.Bool.{Bool}
 use mathlib.Core.List.{List, [], ◌∷◌, ◌++◌, append_assoc}
-use mathlib.Core.Option.{Option, none, some}
-use Prim.Native.Nat.{ℕ, ◌+◌, ◌-◌, ◌*◌, ◌^◌, ◌≤◌, ◌<◌, min}
+use Rattle.std.specs.Prelude.{Option, None, Some, Ok, Err}
+use Prim.Native.Nat.{ℕ, ◌+◌, ◌-◌, ◌^◌, ◌≤◌, ◌<◌, min}
 use native.Mathlib.Omega.{arith}
 use lib.ListN.{length, take, drop, length-append, length-drop}
-use Rattle.sheets.specs.Refusal.{Refusal, bad_lines}
+use Rattle.sheets.specs.Refusal.{bad_lines}
 use Rattle.sheets.specs.Bytes.{Bytes}
 use Rattle.sheets.specs.Answer.{Answer, refused, given, ◌>>=◌}
 use Rattle.sheets.specs.Sheet.{ended}
@@ -29,7 +29,7 @@ use Rattle.sheets.proofs.ImportVisits.{own_line}
 use Rattle.buffer.specs.Over.{PutFirst}
 use Rattle.buffer.proofs.OverLaws.{put_lent}
 use Rattle.refusal.specs.declared.Refusal.{Refusal as Reason}
-use Rattle.refusal.specs.Refusals.{refusal_of}
+use Rattle.refusal.specs.Refusals.{refusal_of, Refusing, answer_of}
 use Rattle.columns.specs.Columns.{part}
 use Rattle.schema_line.specs.declared.SchemaLine.{SchemaLine}
 use Rattle.schema_line.specs.Lines.{read_line, TextAt, LineAt}
@@ -37,13 +37,10 @@ use Rattle.schema_line.proofs.KnownLaws.{line_refused}
 use Rattle.node.specs.declared.Begun.{Begun}
 use Rattle.node.specs.Pieces.{info_piece}
 use Rattle.node.specs.Info.{HasEntries}
-use Rattle.node.specs.Nodes.{column_in, shown_in, NodeIn, pending_answer, OwnTold, OwnBegins, FieldBegins}
+use Rattle.node.specs.Nodes.{column_in, shown_in, NodeIn, OwnTold, OwnBegins, FieldBegins}
 use Rattle.import_field.specs.declared.Tree.{Tree}
 use Rattle.import_field.specs.declared.Visit.{Visit}
 use Rattle.import_field.specs.declared.TypeBegun.{TypeBegun}
-use Rattle.import_field.specs.declared.TypeBegun.TheVariants as Begun
-use Rattle.import_field.specs.declared.Step.{Step}
-use Rattle.import_field.specs.declared.Step.TheVariants.{Refused as Turned}
 use Rattle.import_field.specs.Recursion.{FieldAt, TypeAt, HasLine, FieldWrote, type_length, begun_answer, LineBegins, BeginsAs, TypeBegins, FirstRead, NodeRead, NodeBegins}
 
 -- ── the length of a line
@@ -66,10 +63,10 @@ room_kept h e f = record { entries = omega (arith, h.entries, e); spare = omega 
 
 -- ── where no line of a tree is read, none stands
 
-pub no_level : (s : Bytes) (t : Tree) → t.levels ≡ 0 → (out out' : Bytes) (r : Reason) → FieldWrote s t out out' (Turned r)
+pub no_level : (s : Bytes) (t : Tree) → t.levels ≡ 0 → (out out' : Bytes) (r : Reason) → FieldWrote s t out out' (Err r)
 no_level s t e out out' r (schema n cs d) ts f = absurd (omega (arith, f.deep, e))
 
-pub no_line : (s : Bytes) (t : Tree) → read_line s t.at ≡ refused bad_lines → length s < 2 ^ 64 → (out out' : Bytes) (r : Reason) → FieldWrote s t out out' (Turned r)
+pub no_line : (s : Bytes) (t : Tree) → read_line s t.at ≡ refused bad_lines → length s < 2 ^ 64 → (out out' : Bytes) (r : Reason) → FieldWrote s t out out' (Err r)
 no_line s t bad fits out out' r u ts f = absurd (line_refused s t.at bad fits (length ts) (standing_row f.stands))
 
 module _ {s : Bytes} {at : ℕ} {l : SchemaLine} (p : LineAt s at l) where
@@ -155,7 +152,7 @@ module _ (s : Bytes) (t : Tree) (l : SchemaLine) (p : LineAt s t.at l) (es : Lis
       pub head : Answer (List Bytes)
       pub shows : own ≡ info_piece j
       pub becomes : written t.big t.bare u ≡ (type_written t.big j tree >>= λ ls. head >>= λ a. given (a ++ ls))
-      pub pends : pending_answer b.pending ≡ (head >>= λ a. given tt)
+      pub pends : answer_of b.pending ≡ (head >>= λ a. given tt)
       pub put : (a : List Bytes) → head ≡ given a → PutFirst (ended a) b.len out mid
 
     given_same : {A : Type 0} (x y : A) → given x ≡ given y → x ≡ y
@@ -166,19 +163,19 @@ module _ (s : Bytes) (t : Tree) (l : SchemaLine) (p : LineAt s t.at l) (es : Lis
     nothing_before (given ls) = refl
 
     front : Front
-    front = go (pending_answer b.pending) refl k.told
+    front = go (answer_of b.pending) refl k.told
       where
-        go : (y : Answer (Unit {0})) → pending_answer b.pending ≡ y → OwnTold t.bare t.big p.line own out mid b.len y → Front
+        go : (y : Answer (Unit {0})) → answer_of b.pending ≡ y → OwnTold t.bare t.big p.line own out mid b.len y → Front
         go (refused q) e (is, len, shows) =
             record {
-              j = none;
+              j = None;
               head = refused q;
               shows = shows;
-              becomes = ap (written t.big t.bare) (opened p f).is_node ∙ own_refused t.big t.bare (node_of p.line) (opened p f).children (opened p f).dictionary q is none;
+              becomes = ap (written t.big t.bare) (opened p f).is_node ∙ own_refused t.big t.bare (node_of p.line) (opened p f).children (opened p f).dictionary q is None;
               pends = e;
               put = λ a h. let z : ◌≡◌ {A = ℕ} 0 1 = cc in absurd (omega arith);
             }
-        go (given x) e (i, none, is, (put, shows)) =
+        go (given x) e (i, None, is, (put, shows)) =
             record {
               j = shown t.bare i;
               head = given [];
@@ -187,9 +184,9 @@ module _ (s : Bytes) (t : Tree) (l : SchemaLine) (p : LineAt s t.at l) (es : Lis
               pends = e;
               put = λ a h. subst (λ (c : List Bytes). PutFirst (ended c) b.len out mid) (given_same [] a h) put;
             }
-        go (given x) e (i, some ex, is, (put, shows)) =
+        go (given x) e (i, Some ex, is, (put, shows)) =
             record {
-              j = none;
+              j = None;
               head = given (field_line.write (line_of (of_extension ex.0 ex.1) (shown t.bare i) 1) ∷ []);
               shows = shows;
               becomes = ap (written t.big t.bare) (opened p f).is_node ∙ own_extended t.big t.bare (node_of p.line) (opened p f).children (opened p f).dictionary i ex is;
@@ -197,22 +194,22 @@ module _ (s : Bytes) (t : Tree) (l : SchemaLine) (p : LineAt s t.at l) (es : Lis
               put = λ a h. subst (λ (c : List Bytes). PutFirst (ended c) b.len out mid) (given_same (field_line.write (line_of (of_extension ex.0 ex.1) (shown t.bare i) 1) ∷ []) a h) put;
             }
 
-    module _ (lent last : Bytes) (r : TypeBegun) (w : TypeBegins s l b.shown (t.levels - 1) es lent last r) where
+    module _ (lent last : Bytes) (r : Refusing TypeBegun) (w : TypeBegins s l b.shown (t.levels - 1) es lent last r) where
       told : BeginsAs t.big s (t.levels - 1) (type_written t.big front.j tree) (below_lines tree) ts lent last (begun_answer r)
       told =
           subst (λ (y : Bool). BeginsAs y s (t.levels - 1) (type_written y front.j tree) (below_lines tree) ts lent last (begun_answer r)) k.order
           (w p.line (opened p f).children (opened p f).dictionary ts front.j (type_at p f) front.shows)
 
       -- the type is refused
-      pub node_refused : (q : Reason) → r ≡ Begun.Refused q → written t.big t.bare u ≡ refused (refusal_of q)
+      pub node_refused : (q : Reason) → r ≡ Err q → written t.big t.bare u ≡ refused (refusal_of q)
       node_refused q e =
           let z : type_written t.big front.j tree ≡ refused (refusal_of q) =
-          subst (λ (y : TypeBegun). BeginsAs t.big s (t.levels - 1) (type_written t.big front.j tree) (below_lines tree) ts lent last (begun_answer y)) e told in
+          subst (λ (y : Refusing TypeBegun). BeginsAs t.big s (t.levels - 1) (type_written t.big front.j tree) (below_lines tree) ts lent last (begun_answer y)) e told in
           front.becomes ∙ ap (λ (m : Answer (List Bytes)). m >>= λ ls. front.head >>= λ a. given (a ++ ls)) z
 
       -- its line is written after that of the extension, if there is one
-      pub node_begins : (from len : ℕ) (v : Visit) → r ≡ Begun.Row from len v → (n : ℕ) → n ≡ min b.len (length mid) → lent ≡ take (length mid - n) (drop n mid)
-          → NodeBegins s t u ts out (take n mid ++ (last ++ drop (length mid - n) (drop n mid))) from (b.len + len) v (pending_answer b.pending)
+      pub node_begins : (from len : ℕ) (v : Visit) → r ≡ Ok (record { from = from; len = len; visit = v }) → (n : ℕ) → n ≡ min b.len (length mid) → lent ≡ take (length mid - n) (drop n mid)
+          → NodeBegins s t u ts out (take n mid ++ (last ++ drop (length mid - n) (drop n mid))) from (b.len + len) v (answer_of b.pending)
       node_begins from len v e n e₁ e₂ =
           record {
             us = g.us;
@@ -231,7 +228,7 @@ module _ (s : Bytes) (t : Tree) (l : SchemaLine) (p : LineAt s t.at l) (es : Lis
           }
         where
           g : LineBegins t.big s (t.levels - 1) (type_written t.big front.j tree) (below_lines tree) ts lent last from len v
-          g = subst (λ (y : TypeBegun). BeginsAs t.big s (t.levels - 1) (type_written t.big front.j tree) (below_lines tree) ts lent last (begun_answer y)) e told
+          g = subst (λ (y : Refusing TypeBegun). BeginsAs t.big s (t.levels - 1) (type_written t.big front.j tree) (below_lines tree) ts lent last (begun_answer y)) e told
 
           go : (head : Answer (List Bytes)) → ((a : List Bytes) → head ≡ given a → PutFirst (ended a) b.len out mid)
               → (a : List Bytes) → (head >>= λ a. given (a ++ (g.line ∷ []))) ≡ given a → PutFirst (ended a) (b.len + len) out (take n mid ++ (last ++ drop (length mid - n) (drop n mid)))

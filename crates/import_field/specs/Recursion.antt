@@ -1,7 +1,6 @@
 -- What the functions of a field's import ask and tell. The trees that they read are those that stand at a place of the sheet; what they write is what
 -- import makes of these trees, laid over the lent buffer. Assumes nothing.
-use Rattle.std.specs.Prelude.{◌≡◌, Bool, true, false, List, [], ◌∷◌, ◌++◌, ℕ, ◌+◌, ◌*◌, ◌-◌, ◌≤◌, ◌<◌, max, length, drop}
-use Rattle.std.proofs.Math.Option.{Option}
+use Rattle.std.specs.Prelude.{◌≡◌, Bool, true, false, List, [], ◌∷◌, ◌++◌, ℕ, ◌+◌, ◌*◌, ◌-◌, ◌≤◌, ◌<◌, max, length, drop, Option, Ok, Err}
 use Rattle.sheets.specs.Bytes.{Bytes}
 use Rattle.sheets.specs.Answer.{Answer, refused, given, ◌>>=◌}
 use Rattle.sheets.specs.Sheet.{ended}
@@ -11,7 +10,7 @@ use Rattle.sheets.specs.SchemaTrees.{push_children, push_dictionary, Standing}
 use Rattle.sheets.specs.Field.{Info}
 use Rattle.sheets.specs.ImportLines.{written, type_written, row_written}
 use Rattle.sheets.specs.Visits.{import_lines, below_lines, row_lines}
-use Rattle.refusal.specs.Refusals.{refusal_of}
+use Rattle.refusal.specs.Refusals.{refusal_of, Refusing, answer_of}
 use Rattle.buffer.specs.Over.{PutFirst}
 use Rattle.outcome.specs.declared.Size.{Size}
 use Rattle.schema_line.specs.declared.SchemaLine.{SchemaLine}
@@ -20,18 +19,13 @@ use Rattle.schema_sheet.specs.Trees.{ReadsTree, ReadsRow}
 use Rattle.import_type.specs.declared.Below.{Below}
 use Rattle.import_type.specs.declared.Below.TheVariants.{Nothing, First, All, Values}
 use Rattle.node.specs.declared.lines.Shown.{Shown}
-use Rattle.node.specs.declared.Pending.{Pending}
 use Rattle.node.specs.Pieces.{info_piece, CanShow}
-use Rattle.node.specs.Nodes.{column_in, metadata_in, shown_in, pending_answer}
+use Rattle.node.specs.Nodes.{column_in, metadata_in, shown_in}
 use Rattle.import_field.specs.declared.Tree.{Tree}
 use Rattle.import_field.specs.declared.Trees.{Trees}
 use Rattle.import_field.specs.declared.Visit.{Visit}
-use Rattle.import_field.specs.declared.TypeBegun.{TypeBegun as Begun}
-use Rattle.import_field.specs.declared.TypeBegun.TheVariants as BegunCase
+use Rattle.import_field.specs.declared.TypeBegun.{TypeBegun}
 use Rattle.import_field.specs.declared.NodeBegun.{NodeBegun}
-use Rattle.import_field.specs.declared.NodeBegun.TheVariants as Node
-use Rattle.import_field.specs.declared.Step.{Step}
-use Rattle.import_field.specs.declared.Step.TheVariants as Step
 
 -- ── what stands at a place of a sheet
 
@@ -79,11 +73,6 @@ pub record HasLine (s : Bytes) (l : SchemaLine) (w : Shown) (es : List ℕ) : Ty
 
 -- ── what is told
 
--- where the reading goes on, how many bytes were written and for how many lines, or the refusal
-abbrev pub step_answer : Step → Answer (ℕ × Size)
-step_answer (Step.Done next size) = given (next, size)
-step_answer (Step.Refused r) = refused (refusal_of r)
-
 -- The lines o were to be written, for what stands before `next`, n lines of it visited, and then ts stands.
 abbrev pub WroteAs : Bytes → List Schema → Answer (List Bytes) → ℕ → Bytes → Bytes → Answer (ℕ × Size) → Type 0
 WroteAs s ts o n out out' (refused q) = o ≡ refused q
@@ -95,19 +84,19 @@ WroteAs s ts o n out out' (given (next, size)) =
     × (next ≤ length s)
     × (size.lines ≡ n)
 
-abbrev pub Wrote : Bytes → List Schema → Answer (List Bytes) → ℕ → Bytes → Bytes → Step → Type 0
-Wrote s ts o n out out' r = WroteAs s ts o n out out' (step_answer r)
+abbrev pub Wrote : Bytes → List Schema → Answer (List Bytes) → ℕ → Bytes → Bytes → Refusing (ℕ × Size) → Type 0
+Wrote s ts o n out out' r = WroteAs s ts o n out out' (answer_of r)
 
-abbrev pub FieldWrote : Bytes → Tree → Bytes → Bytes → Step → Type 0
+abbrev pub FieldWrote : Bytes → Tree → Bytes → Bytes → Refusing (ℕ × Size) → Type 0
 FieldWrote s t out out' r =
     (u : Schema) (ts : List Schema) → FieldAt s t.at t.levels u ts → Wrote s ts (written t.big t.bare u) (import_lines u) out out' r
 
-abbrev pub FieldsWrote : Bytes → Trees → Bytes → Bytes → Step → Type 0
+abbrev pub FieldsWrote : Bytes → Trees → Bytes → Bytes → Refusing (ℕ × Size) → Type 0
 FieldsWrote s w out out' r =
     (us : Schemas) (ts : List Schema) → FieldsAt s w.at w.count w.levels us ts → Wrote s ts (row_written w.big w.bare us) (row_lines us) out out' r
 
 -- of the fields of a type and of the subtrees vs after them, so many, which it does not visit
-abbrev pub TypeWrote : Bytes → Trees → ℕ → Bytes → Bytes → Step → Type 0
+abbrev pub TypeWrote : Bytes → Trees → ℕ → Bytes → Bytes → Refusing (ℕ × Size) → Type 0
 TypeWrote s w last out out' r =
     (us : Schemas) (vs ts : List Schema) → FieldsAt s w.at w.count w.levels us (vs ++ ts) → length vs ≡ last → tallest schema_levels vs ≤ w.levels
     → Wrote s ts (row_written w.big w.bare us) (row_lines us) out out' r
@@ -132,21 +121,21 @@ FieldRead s at levels (given (next, size)) =
     × (size.lines + at ≤ next)
 
 -- What a function tells: of the sheet, and, if a tree stands there, of what is written for it. Where none does, it answers some refusal.
-abbrev pub FieldTold : Bytes → Tree → Bytes → Bytes → Step → Type 0
-FieldTold s t out out' r = FieldRead s t.at t.levels (step_answer r) × FieldWrote s t out out' r
+abbrev pub FieldTold : Bytes → Tree → Bytes → Bytes → Refusing (ℕ × Size) → Type 0
+FieldTold s t out out' r = FieldRead s t.at t.levels (answer_of r) × FieldWrote s t out out' r
 
 -- each tree has a byte
 abbrev pub RowPast : ℕ → ℕ → Answer (ℕ × Size) → Type 0
 RowPast from count (refused q) = Unit {0}
 RowPast from count (given (next, size)) = count + from ≤ next
 
-abbrev pub FieldsTold : Bytes → Trees → Bytes → Bytes → Step → Type 0
+abbrev pub FieldsTold : Bytes → Trees → Bytes → Bytes → Refusing (ℕ × Size) → Type 0
 FieldsTold s w out out' r =
-    RowRead s w.at w.count w.levels (step_answer r) × RowPast w.at w.count (step_answer r) × FieldsWrote s w out out' r
+    RowRead s w.at w.count w.levels (answer_of r) × RowPast w.at w.count (answer_of r) × FieldsWrote s w out out' r
 
 -- the subtrees that are visited and the last ones were read
-abbrev pub TypeTold : Bytes → Trees → ℕ → Bytes → Bytes → Step → Type 0
-TypeTold s w last out out' r = RowRead s w.at (w.count + last) w.levels (step_answer r) × TypeWrote s w last out out' r
+abbrev pub TypeTold : Bytes → Trees → ℕ → Bytes → Bytes → Refusing (ℕ × Size) → Type 0
+TypeTold s w last out out' r = RowRead s w.at (w.count + last) w.levels (answer_of r) × TypeWrote s w last out out' r
 
 -- ── the subtrees below a node
 
@@ -164,9 +153,9 @@ HasFirst First c = 1 ≤ c
 HasFirst All c = Unit {0}
 HasFirst Values c = Unit {0}
 
-abbrev pub begun_answer : Begun → Answer (ℕ × (ℕ × Visit))
-begun_answer (BegunCase.Row from len v) = given (from, (len, v))
-begun_answer (BegunCase.Refused r) = refused (refusal_of r)
+abbrev pub begun_answer : Refusing TypeBegun → Answer (ℕ × (ℕ × Visit))
+begun_answer (Ok b) = given (b.from, (b.len, b.visit))
+begun_answer (Err r) = refused (refusal_of r)
 
 -- The type's line is written, and, with metadata in that order, from `from` on stand the trees us that it visits, then vs that it does not, then ts; for the
 -- trees us n lines are visited.
@@ -185,7 +174,7 @@ abbrev pub BeginsAs : Bool → Bytes → ℕ → Answer (List Bytes) → ℕ →
 BeginsAs big s levels o n ts out out' (given (from, (len, v))) = LineBegins big s levels o n ts out out' from len v
 BeginsAs big s levels o n ts out out' (refused q) = o ≡ refused q
 
-abbrev pub TypeBegins : Bytes → SchemaLine → Shown → ℕ → List ℕ → Bytes → Bytes → Begun → Type 0
+abbrev pub TypeBegins : Bytes → SchemaLine → Shown → ℕ → List ℕ → Bytes → Bytes → Refusing TypeBegun → Type 0
 TypeBegins s l w levels es out out' r =
     (x : Line) (cs : Schemas) (d : Dictionary) (ts : List Schema) (j : Option Info) → TypeAt s l levels x cs d ts → shown_in s l es w ≡ info_piece j
     → BeginsAs w.big s levels (type_written w.big j (schema (node_of x) cs d)) (below_lines (schema (node_of x) cs d)) ts out out' (begun_answer r)
@@ -202,7 +191,7 @@ FirstRead s l levels most (given (from, (len, v))) =
     × (v.first + v.count + v.last ≡ l.dictionary + l.children)
     × (len ≤ most)
 
-abbrev pub BegunTold : Bytes → SchemaLine → Shown → ℕ → List ℕ → Bytes → Bytes → Begun → Type 0
+abbrev pub BegunTold : Bytes → SchemaLine → Shown → ℕ → List ℕ → Bytes → Bytes → Refusing TypeBegun → Type 0
 BegunTold s l w levels es out out' r = FirstRead s l levels (type_length s l w es) (begun_answer r) × TypeBegins s l w levels es out out' r
 
 -- ── what is left
@@ -212,31 +201,31 @@ abbrev pub Ends : Bytes → ℕ → Size → List Schema → Answer (ℕ × Size
 Ends s at size ts (refused q) = ⊥
 Ends s at size ts (given (next, size')) = (size' ≡ size) × Standing (drop next s) ts × (at ≤ next) × (next ≤ length s)
 
-abbrev pub TypeEnds : Bytes → ℕ → ℕ → ℕ → Size → Step → Type 0
-TypeEnds s at count levels size r = (us ts : List Schema) → LeftAt s at count levels us ts → Ends s at size ts (step_answer r)
+abbrev pub TypeEnds : Bytes → ℕ → ℕ → ℕ → Size → Refusing (ℕ × Size) → Type 0
+TypeEnds s at count levels size r = (us ts : List Schema) → LeftAt s at count levels us ts → Ends s at size ts (answer_of r)
 
 -- what is left was read
 abbrev pub LastRead : Bytes → ℕ → ℕ → ℕ → Size → Answer (ℕ × Size) → Type 0
 LastRead s at count levels size (refused q) = Unit {0}
 LastRead s at count levels size (given (next, size')) = (size' ≡ size) × ReadsRow s at count levels (given next)
 
-abbrev pub EndedTold : Bytes → ℕ → ℕ → ℕ → Size → Step → Type 0
-EndedTold s at count levels size r = LastRead s at count levels size (step_answer r) × TypeEnds s at count levels size r
+abbrev pub EndedTold : Bytes → ℕ → ℕ → ℕ → Size → Refusing (ℕ × Size) → Type 0
+EndedTold s at count levels size r = LastRead s at count levels size (answer_of r) × TypeEnds s at count levels size r
 
 -- what was pending is refused now
 abbrev pub ended_field : Answer (Unit {0}) → ℕ → Size → Answer (ℕ × Size)
 ended_field (given u) next size = given (next, size)
 ended_field (refused q) next size = refused q
 
-abbrev pub FieldEnds : Pending → ℕ → Size → Step → Type 0
-FieldEnds p next size r = step_answer r ≡ ended_field (pending_answer p) next size
+abbrev pub FieldEnds : Refusing (Unit {0}) → ℕ → Size → Refusing (ℕ × Size) → Type 0
+FieldEnds p next size r = answer_of r ≡ ended_field (answer_of p) next size
 
 -- ── a node's own lines
 
 -- where its visited subtrees stand, how long its lines are, what is to be done below, and what is pending; or the refusal
-abbrev pub node_answer : NodeBegun → Answer (ℕ × (ℕ × (Visit × Answer (Unit {0}))))
-node_answer (Node.Row from len v p) = given (from, (len, (v, pending_answer p)))
-node_answer (Node.Refused r) = refused (refusal_of r)
+abbrev pub node_answer : Refusing NodeBegun → Answer (ℕ × (ℕ × (Visit × Answer (Unit {0}))))
+node_answer (Ok b) = given (b.from, (b.len, (b.visit, answer_of b.pending)))
+node_answer (Err r) = refused (refusal_of r)
 
 -- the node's line was read, and the first subtrees below it up to `from`
 pub record NodeRead (s : Bytes) (t : Tree) (from len : ℕ) (v : Visit) : Type 0 where
@@ -265,5 +254,5 @@ NodeAs s t out out' (refused q) = (u : Schema) (ts : List Schema) → FieldAt s 
 NodeAs s t out out' (given (from, (len, (v, p)))) =
     NodeRead s t from len v × ((u : Schema) (ts : List Schema) → FieldAt s t.at t.levels u ts → NodeBegins s t u ts out out' from len v p)
 
-abbrev pub NodeTold : Bytes → Tree → Bytes → Bytes → NodeBegun → Type 0
+abbrev pub NodeTold : Bytes → Tree → Bytes → Bytes → Refusing NodeBegun → Type 0
 NodeTold s t out out' r = NodeAs s t out out' (node_answer r)

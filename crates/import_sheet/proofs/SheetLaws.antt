@@ -1,5 +1,6 @@
 -- What is known at each place of `put_sheet`, `convert`, `import` and `measure_import`: the heading is written, then the field's lines; and each way out of
 -- the two calls is the outcome, or the measure, that is defined. Assumes nothing.
+use Rattle.std.specs.Prelude.{Result, Ok, Err}
 use mathlib.Core.Path.{◌≡◌, refl, sym, ap, subst, ◌∙◌}
 use mathlib.Core.Bool.{Bool, true, false, cond}
 use mathlib.Core.List.{List, [], ◌∷◌, ◌++◌}
@@ -24,22 +25,17 @@ use Rattle.sheets.proofs.SheetLaws.{sheet_headed}
 use Rattle.buffer.specs.Over.{PutAt, PutFirst}
 use Rattle.buffer.proofs.OverLaws.{put_lent, put_over}
 use Rattle.outcome.specs.Answers.{outcome_of, Tells, SheetTold, refused_measure}
-use Rattle.outcome.specs.declared.Answered.{Answered}
+use Rattle.outcome.specs.declared.Refused.{Refused}
 use Rattle.outcome.specs.declared.Size.{Size}
 use Rattle.outcome.proofs.AnswerLaws.{told_refused, told_done, measure_refused, measure_done}
 use Rattle.refusal.specs.declared.Refusal.{Refusal as Reason}
 use Rattle.refusal.specs.declared.Refusal.TheVariants.{NotSheet, BadLines}
-use Rattle.refusal.specs.Refusals.{refusal_of}
-use Rattle.schema_sheet.specs.Sheets.{is_sheet, sheet_body, sheet_answer}
+use Rattle.refusal.specs.Refusals.{refusal_of, Refusing, answer_of}
+use Rattle.schema_sheet.specs.Sheets.{is_sheet, sheet_body}
 use Rattle.schema_sheet.specs.Trees.{ReadsTree}
-use Rattle.schema_sheet.specs.declared.trees.TreeRead.TheVariants.{To}
 use Rattle.schema_sheet.proofs.SheetLaws.{Opens, sheet_not, sheet_whole, sheet_left, sheet_opens, sheet_refused as sheet_unread}
-use Rattle.import_field.specs.Recursion.{FieldAt, Wrote, FieldWrote, FieldRead, step_answer}
+use Rattle.import_field.specs.Recursion.{FieldAt, Wrote, FieldWrote, FieldRead}
 use Rattle.import_sheet.specs.Sheets.{sheet_of, tree_of, SheetWrote, SheetWrites, EndsAt, or_else, FirstOf, Converts}
-use Rattle.schema_sheet.specs.declared.SheetRead.{SheetRead}
-use Rattle.schema_sheet.specs.declared.SheetRead.TheVariants.{Body, Refused as Unread}
-use Rattle.import_field.specs.declared.Step.{Step}
-use Rattle.import_field.specs.declared.Step.TheVariants.{Done, Refused}
 
 -- ── the heading and the lines
 
@@ -57,9 +53,9 @@ sheet_lines big t = go (to_field big t)
     go (given f) = ap given (sheet_headed field_heading (type_lines f.type (shown false f.info)))
 
 -- what is told of the sheet's lines, whatever they are
-module _ (s : Bytes) (at : ℕ) (r : Step) (next : ℕ) (size : Size) (e : r ≡ Done next size) (h : FieldRead s at 32 (step_answer r)) where
+module _ (s : Bytes) (at : ℕ) (r : Refusing (ℕ × Size)) (next : ℕ) (size : Size) (e : r ≡ Ok (next, size)) (h : FieldRead s at 32 (answer_of r)) where
   read : FieldRead s at 32 (given (next, size))
-  read = subst (λ (y : Step). FieldRead s at 32 (step_answer y)) e h
+  read = subst (λ (y : Refusing (ℕ × Size)). FieldRead s at 32 (answer_of y)) e h
 
   pub lines_long : length s ≤ sheet_limit → size.len ≤ 2097120
   lines_long short = omega (arith, read.1, read.0.0.1, short)
@@ -71,14 +67,14 @@ module _ (s : Bytes) (at : ℕ) (big : Bool) (t : Schema) (ts : List Schema) (f 
   abbrev sheet : Answer (List Bytes) → Answer Bytes
   sheet o = o >>= λ ls. given (head_line ++ ended ls)
 
-  pub sheet_refused : (lent part : Bytes) (r : Step) (q : Reason) → r ≡ Refused q → FieldWrote s (tree_of at big) lent part r → sheet_of big t ≡ refused (refusal_of q)
+  pub sheet_refused : (lent part : Bytes) (r : Refusing (ℕ × Size)) (q : Reason) → r ≡ Err q → FieldWrote s (tree_of at big) lent part r → sheet_of big t ≡ refused (refusal_of q)
   sheet_refused lent part r q e h =
-      let w : FieldWrote s (tree_of at big) lent part (Refused q) = subst (λ (y : Step). FieldWrote s (tree_of at big) lent part y) e h in
+      let w : FieldWrote s (tree_of at big) lent part (Err q) = subst (λ (y : Refusing (ℕ × Size)). FieldWrote s (tree_of at big) lent part y) e h in
       sheet_lines big t ∙ ap sheet (w t ts f)
 
-  module _ (lent part : Bytes) (r : Step) (next : ℕ) (size : Size) (e : r ≡ Done next size) (h : FieldWrote s (tree_of at big) lent part r) where
-    lines_done : Wrote s ts (written big false t) (import_lines t) lent part (Done next size)
-    lines_done = subst (λ (y : Step). FieldWrote s (tree_of at big) lent part y) e h t ts f
+  module _ (lent part : Bytes) (r : Refusing (ℕ × Size)) (next : ℕ) (size : Size) (e : r ≡ Ok (next, size)) (h : FieldWrote s (tree_of at big) lent part r) where
+    lines_done : Wrote s ts (written big false t) (import_lines t) lent part (Ok (next, size))
+    lines_done = subst (λ (y : Refusing (ℕ × Size)). FieldWrote s (tree_of at big) lent part y) e h t ts f
 
     pub sheet_done : (out mid : Bytes) (head w : ℕ) → PutAt 0 head_line head out mid → w ≡ min head (length mid)
         → lent ≡ take (length mid - w) (drop w mid)
@@ -94,21 +90,21 @@ module _ (s : Bytes) (at : ℕ) (big : Bool) (t : Schema) (ts : List Schema) (f 
 -- ── the conversion
 
 -- the sheet's own refusal comes first
-pub first_of : (s : Bytes) (k : SheetRead) → sheet_answer k ≡ sheet_body s → (r q : Reason) → k ≡ Unread q → FirstOf s r q
-first_of s k h r q e = ap (λ (a : Answer ℕ). or_else a r) (sym (ap sheet_answer e) ∙ h)
+pub first_of : (s : Bytes) (k : Refusing ℕ) → answer_of k ≡ sheet_body s → (r q : Reason) → k ≡ Err q → FirstOf s r q
+first_of s k h r q e = ap (λ (a : Answer ℕ). or_else a r) (sym (ap answer_of e) ∙ h)
 
-pub none_first : (s : Bytes) (k : SheetRead) → sheet_answer k ≡ sheet_body s → (r : Reason) (at : ℕ) → k ≡ Body at → FirstOf s r r
-none_first s k h r at e = ap (λ (a : Answer ℕ). or_else a r) (sym (ap sheet_answer e) ∙ h)
+pub none_first : (s : Bytes) (k : Refusing ℕ) → answer_of k ≡ sheet_body s → (r : Reason) (at : ℕ) → k ≡ Ok at → FirstOf s r r
+none_first s k h r at e = ap (λ (a : Answer ℕ). or_else a r) (sym (ap answer_of e) ∙ h)
 
 module _ (s : Bytes) (big : Bool) where
   -- no schema sheet
-  convert_unread : (out mid : Bytes) (q : Reason) → refused (refusal_of q) ≡ sheet_body s → Converts big s out mid (Refused q)
+  convert_unread : (out mid : Bytes) (q : Reason) → refused (refusal_of q) ≡ sheet_body s → Converts big s out mid (Err q)
   unfolding imported
   convert_unread out mid q h =
       let is : read_schema_sheet s ≡ refused (refusal_of q) = sheet_unread s (sym h) in
       ap (λ (a : Answer Schema). a >>= λ t. to_field big t >>= λ f. given (write_field_sheet f)) is
 
-  pub convert_not : (out : Bytes) → is_sheet s ≡ false → Converts big s out out (Refused NotSheet)
+  pub convert_not : (out : Bytes) → is_sheet s ≡ false → Converts big s out out (Err NotSheet)
   convert_not out e = convert_unread out out NotSheet (sheet_not s e)
 
   -- the sheet is read
@@ -126,13 +122,13 @@ module _ (s : Bytes) (big : Bool) where
     of_lines : lines_in import_lines (read_schema_sheet s) ≡ import_lines opened.0
     of_lines = ap (λ (o : Answer Schema). lines_in import_lines o) opened.1.is_read
 
-    convert_read : (out mid : Bytes) (z : Step) → SheetWrote s at big out mid z → Converts big s out mid z
+    convert_read : (out mid : Bytes) (z : Refusing (ℕ × Size)) → SheetWrote s at big out mid z → Converts big s out mid z
     convert_read out mid z w =
-        subst (λ (n : ℕ). SheetTold (imported big s) n out mid (step_answer z)) (sym of_lines)
-        (subst (λ (a : Answer Bytes). SheetTold a (import_lines opened.0) out mid (step_answer z)) (sym of_sheet) (w opened.0 [] field_at))
+        subst (λ (n : ℕ). SheetTold (imported big s) n out mid (answer_of z)) (sym of_lines)
+        (subst (λ (a : Answer Bytes). SheetTold a (import_lines opened.0) out mid (answer_of z)) (sym of_sheet) (w opened.0 [] field_at))
 
-  module _ (headed : is_sheet s ≡ true) (out mid : Bytes) (r : Step) (w : SheetWrites s 47 big out mid r) where
-    told : (z : Step) → r ≡ z → SheetWrites s 47 big out mid z
+  module _ (headed : is_sheet s ≡ true) (out mid : Bytes) (r : Refusing (ℕ × Size)) (w : SheetWrites s 47 big out mid r) where
+    told : (z : Refusing (ℕ × Size)) → r ≡ z → SheetWrites s 47 big out mid z
     told z e = subst (SheetWrites s 47 big out mid) e w
 
     -- the lines begin after the heading
@@ -141,44 +137,44 @@ module _ (s : Bytes) (big : Bool) where
     start_of at h = same_given (first_gave (read_schema_sheet s) (λ t. given 47) at h).2
 
     -- something was refused: by the sheet's form, or as it was told
-    pub convert_refused : (p q : Reason) → r ≡ Refused p → FirstOf s p q → Converts big s out mid (Refused q)
+    pub convert_refused : (p q : Reason) → r ≡ Err p → FirstOf s p q → Converts big s out mid (Err q)
     convert_refused p q e f = go (sheet_body s) refl
       where
-        go : (a : Answer ℕ) → sheet_body s ≡ a → Converts big s out mid (Refused q)
+        go : (a : Answer ℕ) → sheet_body s ≡ a → Converts big s out mid (Err q)
         go (refused x) h =
             let same : ◌≡◌ {A = Answer ℕ} (refused (refusal_of q)) (refused x) = f ∙ ap (λ (a : Answer ℕ). or_else a p) h in
             convert_unread out mid q (same ∙ sym h)
         go (given at) h =
             let same : ◌≡◌ {A = Answer ℕ} (refused (refusal_of q)) (refused (refusal_of p)) = f ∙ ap (λ (a : Answer ℕ). or_else a p) h in
             let is : refusal_of q ≡ refusal_of p = cc in
-            let w : Converts big s out mid (Refused p) = convert_read at (sym h) out mid (Refused p) (subst (λ (i : ℕ). SheetWrote s i big out mid (Refused p)) (start_of at h) (told (Refused p) e).1) in
+            let w : Converts big s out mid (Err p) = convert_read at (sym h) out mid (Err p) (subst (λ (i : ℕ). SheetWrote s i big out mid (Err p)) (start_of at h) (told (Err p) e).1) in
             w ∙ ap refused (sym is)
 
     -- all lines were read
-    pub convert_done : (next : ℕ) (size : Size) → r ≡ Done next size → (z : Step) → EndsAt s next size z → Converts big s out mid z
+    pub convert_done : (next : ℕ) (size : Size) → r ≡ Ok (next, size) → (z : Refusing (ℕ × Size)) → EndsAt s next size z → Converts big s out mid z
     convert_done next size e z f = go (ltb next (length s)) refl
       where
         go : (b : Bool) → ltb next (length s) ≡ b → Converts big s out mid z
         go true h = subst (λ (a : Answer (ℕ × Size)). SheetTold (imported big s) (lines_in import_lines (read_schema_sheet s)) out mid a) (sym (f ∙ ap (λ (b : Bool). cond b (refused bad_lines) (given (next, size))) h))
-            (convert_unread out mid BadLines (sheet_left s headed (To next) (told (Done next size) e).0 next refl (ltb-true next (length s) h)))
+            (convert_unread out mid BadLines (sheet_left s headed (Ok next) (told (Ok (next, size)) e).0 next refl (ltb-true next (length s) h)))
         go false h = subst (λ (a : Answer (ℕ × Size)). SheetTold (imported big s) (lines_in import_lines (read_schema_sheet s)) out mid a) (sym (f ∙ ap (λ (b : Bool). cond b (refused bad_lines) (given (next, size))) h))
-            (convert_read 47 (sheet_whole s headed (To next) (told (Done next size) e).0 next refl (ltb-false next (length s) h)) out mid (Done next size) (told (Done next size) e).1)
+            (convert_read 47 (sheet_whole s headed (Ok next) (told (Ok (next, size)) e).0 next refl (ltb-false next (length s) h)) out mid (Ok (next, size)) (told (Ok (next, size)) e).1)
 
   -- ── the outcome, and the measure
 
-  module _ (out mid : Bytes) (z : Step) (w : Converts big s out mid z) where
-    refused_is : (q : Reason) → z ≡ Refused q → imported big s ≡ refused (refusal_of q)
-    refused_is q d = subst (λ (y : Step). Converts big s out mid y) d w
+  module _ (out mid : Bytes) (z : Refusing (ℕ × Size)) (w : Converts big s out mid z) where
+    refused_is : (q : Reason) → z ≡ Err q → imported big s ≡ refused (refusal_of q)
+    refused_is q d = subst (λ (y : Refusing (ℕ × Size)). Converts big s out mid y) d w
 
-    pub import_refused_lem : (q : Reason) → z ≡ Refused q → length mid ≡ length out → (o : Outcome) → o ≡ refusal (number_of (refusal_of q)) mid → o ≡ import_outcome_in big s out
+    pub import_refused_lem : (q : Reason) → z ≡ Err q → length mid ≡ length out → (o : Outcome) → o ≡ refusal (number_of (refusal_of q)) mid → o ≡ import_outcome_in big s out
     import_refused_lem q d l o c = told_refused (imported big s) out mid (refusal_of q) o (refused_is q d) c l
 
     -- the sheet is written, as far as it fits
-    pub import_done : (next : ℕ) (size : Size) → z ≡ Done next size → (a : Answered) (out' : Bytes) → Tells mid size.len a out' → outcome_of a.number a.length out' ≡ import_outcome_in big s out
-    import_done next size d a out' c = told_done (imported big s) out mid (lines_in import_lines (read_schema_sheet s)) (step_answer z) next size (ap step_answer d) w a out' c
+    pub import_done : (next : ℕ) (size : Size) → z ≡ Ok (next, size) → (r : Result ℕ Refused) (out' : Bytes) → Tells mid size.len r out' → outcome_of r out' ≡ import_outcome_in big s out
+    import_done next size d r out' c = told_done (imported big s) out mid (lines_in import_lines (read_schema_sheet s)) (answer_of z) next size (ap answer_of d) w r out' c
 
-    pub measure_turned : (q : Reason) → z ≡ Refused q → (m : Measure) → m ≡ refused_measure (refusal_of q) → m ≡ measure_import_outcome big s
+    pub measure_turned : (q : Reason) → z ≡ Err q → (m : Measure) → m ≡ refused_measure (refusal_of q) → m ≡ measure_import_outcome big s
     measure_turned q d m c = measure_refused (imported big s) (lines_in import_lines (read_schema_sheet s)) (refusal_of q) m (refused_is q d) c
 
-    pub measure_told_lem : (next : ℕ) (size : Size) → z ≡ Done next size → (m : Measure) → m ≡ record { number = 0; size = size.len; lines = size.lines } → m ≡ measure_import_outcome big s
-    measure_told_lem next size d m c = measure_done (imported big s) (lines_in import_lines (read_schema_sheet s)) out mid (step_answer z) next size (ap step_answer d) w m c
+    pub measure_told_lem : (next : ℕ) (size : Size) → z ≡ Ok (next, size) → (m : Measure) → m ≡ record { number = 0; size = size.len; lines = size.lines } → m ≡ measure_import_outcome big s
+    measure_told_lem next size d m c = measure_done (imported big s) (lines_in import_lines (read_schema_sheet s)) out mid (answer_of z) next size (ap answer_of d) w m c

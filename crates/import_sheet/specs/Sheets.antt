@@ -12,12 +12,11 @@ use Rattle.sheets.specs.Outcome.{imported, lines_in}
 use Rattle.outcome.specs.Answers.{SheetTold}
 use Rattle.outcome.specs.declared.Size.{Size}
 use Rattle.refusal.specs.declared.Refusal.{Refusal as Reason}
-use Rattle.refusal.specs.Refusals.{refusal_of}
+use Rattle.refusal.specs.Refusals.{refusal_of, Refusing, answer_of}
 use Rattle.schema_sheet.specs.Trees.{ReadsTree}
 use Rattle.schema_sheet.specs.Sheets.{sheet_body}
 use Rattle.import_field.specs.declared.Tree.{Tree}
-use Rattle.import_field.specs.declared.Step.{Step}
-use Rattle.import_field.specs.Recursion.{FieldAt, step_answer}
+use Rattle.import_field.specs.Recursion.{FieldAt}
 
 -- the field sheet of a schema, with metadata in that order
 unfoldable pub sheet_of : Bool → Schema → Answer Bytes
@@ -32,16 +31,16 @@ abbrev pub FirstReads : Bytes → ℕ → Answer (ℕ × Size) → Type 0
 FirstReads s at (refused q) = Unit {0}
 FirstReads s at (given (next, size)) = ReadsTree s at level_limit (given next)
 
-abbrev pub SheetWrote : Bytes → ℕ → Bool → Bytes → Bytes → Step → Type 0
-SheetWrote s at big out out' r = (t : Schema) (ts : List Schema) → FieldAt s at level_limit t ts → SheetTold (sheet_of big t) (import_lines t) out out' (step_answer r)
+abbrev pub SheetWrote : Bytes → ℕ → Bool → Bytes → Bytes → Refusing (ℕ × Size) → Type 0
+SheetWrote s at big out out' r = (t : Schema) (ts : List Schema) → FieldAt s at level_limit t ts → SheetTold (sheet_of big t) (import_lines t) out out' (answer_of r)
 
 -- what is told of the sheet's lines, and, if the sheet's tree stands there, of what is written for it
-abbrev pub SheetWrites : Bytes → ℕ → Bool → Bytes → Bytes → Step → Type 0
-SheetWrites s at big out out' r = FirstReads s at (step_answer r) × SheetWrote s at big out out' r
+abbrev pub SheetWrites : Bytes → ℕ → Bool → Bytes → Bytes → Refusing (ℕ × Size) → Type 0
+SheetWrites s at big out out' r = FirstReads s at (answer_of r) × SheetWrote s at big out out' r
 
 -- the lines end where the sheet does, or lines are left over
-abbrev pub EndsAt : Bytes → ℕ → Size → Step → Type 0
-EndsAt s next size r = step_answer r ≡ cond (ltb next (length s)) (refused bad_lines) (given (next, size))
+abbrev pub EndsAt : Bytes → ℕ → Size → Refusing (ℕ × Size) → Type 0
+EndsAt s next size r = answer_of r ≡ cond (ltb next (length s)) (refused bad_lines) (given (next, size))
 
 -- the sheet's own refusal, or else r
 abbrev pub or_else : Answer ℕ → Reason → Answer ℕ
@@ -52,5 +51,5 @@ abbrev pub FirstOf : Bytes → Reason → Reason → Type 0
 FirstOf s r q = refused (refusal_of q) ≡ or_else (sheet_body s) r
 
 -- the sheet is read, and its field sheet written as far as it fits
-abbrev pub Converts : Bool → Bytes → Bytes → Bytes → Step → Type 0
-Converts big s out out' r = SheetTold (imported big s) (lines_in import_lines (read_schema_sheet s)) out out' (step_answer r)
+abbrev pub Converts : Bool → Bytes → Bytes → Bytes → Refusing (ℕ × Size) → Type 0
+Converts big s out out' r = SheetTold (imported big s) (lines_in import_lines (read_schema_sheet s)) out out' (answer_of r)

@@ -2,7 +2,7 @@
 use mathlib.Core.Path.{◌≡◌, refl, sym, ◌∙◌, ap, subst}
 use mathlib.Core.List.{List, [], ◌∷◌, ◌++◌, append_assoc}
 use mathlib.Core.List.{map as map_list}
-use mathlib.Core.Option.{some}
+use Rattle.std.specs.Prelude.{Some, Ok}
 use Prim.Native.Nat.{ℕ, ◌+◌, ◌≤◌}
 use native.Mathlib.Omega.{arith}
 use lib.IntN.{ℤ}
@@ -20,7 +20,6 @@ use Rattle.sheets.specs.Parts.{parts_from}
 use Rattle.format.specs.Parts.{read_ids, format_part}
 use Rattle.import_type.specs.TypeColumns.{IdsPuts}
 use Rattle.sheets.proofs.PartLaws.{PartEnds, parts_here, parts_past}
-use Rattle.import_type.specs.declared.put.IdsPut.TheVariants as Ids
 
 -- ── as they are written
 
@@ -44,7 +43,7 @@ the_last [] z = refl
 the_last (y ∷ zs) z =
     append_assoc (write_signed y) (44 ∷ with_commas zs) (write_signed z) ∙ ap (λ (t : Bytes). write_signed y ++ (44 ∷ t)) (the_last zs z) ∙ join_more y z zs
 
-listed : (zs : List ℤ) (z : ℤ) → join 44 (map_list write_signed (zs ++ (z ∷ []))) ≡ write_list write_signed (some (zs ++ (z ∷ [])))
+listed : (zs : List ℤ) (z : ℤ) → join 44 (map_list write_signed (zs ++ (z ∷ []))) ≡ write_list write_signed (Some (zs ++ (z ∷ [])))
 listed [] z = refl
 listed (y ∷ zs) z = refl
 
@@ -85,13 +84,13 @@ module _ (b : Bytes) (at : ℕ) (out₀ : Bytes) (from end : ℕ) (out : Bytes) 
   going_refused e = part_read (refused bad_number) e
 
   module _ (z : ℤ) (e : given z ≡ read_id (format_part from to b)) (n : ℕ) (l : Bytes) (put : PutAt end (write_signed z) n out l) where
-    pub going_last : length b ≤ to → IdsPuts at (read_ids b) out₀ l (Ids.Put n)
+    pub going_last : length b ≤ to → IdsPuts at (read_ids b) out₀ l (Ok n)
     going_last h =
         let w = and_then (write_signed z) g.written put in
         let last = ap (λ (ps : List Bytes). after g.ids (read_each read_id ps >>= λ zs. given (z ∷ zs))) (parts_past b (to + 1) (omega arith)) in (
           g.ids ++ (z ∷ []),
           part_read (given z) e ∙ last,
-          put_same at out₀ (with_commas g.ids ++ write_signed z) (write_list write_signed (some (g.ids ++ (z ∷ [])))) (the_last g.ids z ∙ listed g.ids z) (w.place, w.holds),
+          put_same at out₀ (with_commas g.ids ++ write_signed z) (write_list write_signed (Some (g.ids ++ (z ∷ [])))) (the_last g.ids z ∙ listed g.ids z) (w.place, w.holds),
         )
 
     pub going_more : (m : ℕ) (k : Bytes) → PutAt n (44 ∷ []) m l k → Going b at out₀ (to + 1) m k

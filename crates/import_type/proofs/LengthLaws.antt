@@ -4,7 +4,7 @@ use mathlib.Core.Path.{◌≡◌, refl, subst}
 use mathlib.Core.Bool.{Bool, true, false, cond}
 use mathlib.Core.List.{List, [], ◌∷◌}
 use mathlib.Core.List.{map as map_list}
-use mathlib.Core.Option.{Option, none, some}
+use Rattle.std.specs.Prelude.{Option, None, Some}
 use Prim.Native.Nat.{ℕ, zero, suc, ◌+◌, ◌*◌, ◌≤◌, ◌<◌, ◌^◌}
 use native.Mathlib.Nat.{le_trans}
 use native.Mathlib.Omega.{arith}
@@ -93,11 +93,11 @@ split_few s (x ∷ b) = pick (eqb x s) (split_few s b)
     pick true h = omega arith
     pick false h = omega (arith, prepend_few x (split s b))
 
-listed_short : (zs : List ℤ) → length (write_list write_signed (some zs)) ≤ 1 + length (join 44 (map_list write_signed zs))
+listed_short : (zs : List ℤ) → length (write_list write_signed (Some zs)) ≤ 1 + length (join 44 (map_list write_signed zs))
 listed_short [] = omega arith
 listed_short (z ∷ zs) = omega arith
 
-pub ids_short : (b : Bytes) (zs : List ℤ) → read_ids b ≡ given zs → length (write_list write_signed (some zs)) ≤ 22 + 21 * length b
+pub ids_short : (b : Bytes) (zs : List ℤ) → read_ids b ≡ given zs → length (write_list write_signed (Some zs)) ≤ 22 + 21 * length b
 ids_short b zs e =
     let h : IdsShort (length (split comma b)) (given zs) = subst (IdsShort (length (split comma b))) e (each_short (split comma b)) in
     omega (arith, listed_short zs, split_few comma b)
@@ -188,12 +188,12 @@ flag_small : (b : Bool) → to_nat b < 2 ^ 64
 flag_small true = omega arith
 flag_small false = omega arith
 
-union_short : (m : UnionMode) (r : Bytes) → FormatShort (88 + 21 * length r) (read_each read_id (split comma r) >>= λ zs. given (of_grouping (union m (some zs))))
+union_short : (m : UnionMode) (r : Bytes) → FormatShort (88 + 21 * length r) (read_each read_id (split comma r) >>= λ zs. given (of_grouping (union m (Some zs))))
 union_short m r = pick (read_ids r) refl
   where
-    pick : (a : Answer (List ℤ)) → read_ids r ≡ a → FormatShort (88 + 21 * length r) (a >>= λ zs. given (of_grouping (union m (some zs))))
+    pick : (a : Answer (List ℤ)) → read_ids r ≡ a → FormatShort (88 + 21 * length r) (a >>= λ zs. given (of_grouping (union m (Some zs))))
     pick (refused q) e = tt
-    pick (given zs) e = omega (arith, text_short Kind.Union (to_nat m) 0 (write_list write_signed (some zs)) (omega arith) (flag_small m) (omega arith), ids_short r zs e)
+    pick (given zs) e = omega (arith, text_short Kind.Union (to_nat m) 0 (write_list write_signed (Some zs)) (omega arith) (flag_small m) (omega arith), ids_short r zs e)
 
 -- ── all
 
@@ -226,14 +226,14 @@ colon_short b = pick (ltb k (length b)) refl
     pick false e = rw (cut_none b k refl (ltb-false k (length b) e)) tt
 
 abbrev RowSmall : Option FormatRow → Type 0
-RowSmall none = Unit {0}
-RowSmall (some r) = (r.kind < 2 ^ 64) × (r.unit < 2 ^ 64)
+RowSmall None = Unit {0}
+RowSmall (Some r) = (r.kind < 2 ^ 64) × (r.unit < 2 ^ 64)
 
 row_small : (b : Bytes) (l : List FormatRow) → Meets (each (λ r. is (ltb r.kind 64) and is (ltb r.unit 64)) l) → RowSmall (row_named b l)
 row_small b [] m = tt
 row_small b (r ∷ l) m = pick (same b r.name) (row_small b l m.1)
   where
-    pick : (t : Bool) → RowSmall (row_named b l) → RowSmall (cond t (some r) (row_named b l))
+    pick : (t : Bool) → RowSmall (row_named b l) → RowSmall (cond t (Some r) (row_named b l))
     pick true next = (omega (arith, ltb-true r.kind 64 m.0.0), omega (arith, ltb-true r.unit 64 m.0.1))
     pick false next = next
 
@@ -242,8 +242,8 @@ unfolding rows
 rows_small b = row_small b rows (meets (each (λ r. is (ltb r.kind 64) and is (ltb r.unit 64)) rows) refl)
 
 named_short : (n : ℕ) (o : Option FormatRow) (a : Answer Format) → RowSmall o → FormatShort (67 + n) a → FormatShort (67 + n) (read_named o a)
-named_short n none a h k = k
-named_short n (some r) a h k = omega (arith, numbers_short r.kind r.unit 0 h.0 h.1 (omega arith))
+named_short n None a h k = k
+named_short n (Some r) a h k = omega (arith, numbers_short r.kind r.unit 0 h.0 h.1 (omega arith))
 
 read_short : (sorted : Bool) (b : Bytes) → FormatShort (67 + 21 * length b) (read_format sorted b)
 read_short sorted b =

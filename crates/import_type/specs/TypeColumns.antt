@@ -1,23 +1,18 @@
 -- The columns of a field line that a format says, as the code writes them, and which subtrees the type visits, by the cases of the answers. Assumes nothing.
-use Rattle.std.specs.Prelude.{◌≡◌, true, List, ℕ, ◌<◌, ◌^◌, ℤ, length}
-use Rattle.std.proofs.Math.Option.{some}
+use Rattle.std.specs.Prelude.{◌≡◌, true, List, ℕ, ◌<◌, ◌^◌, ℤ, length, Some}
 use Rattle.sheets.specs.Bytes.{Bytes}
 use Rattle.sheets.specs.Answer.{Answer, refused, given}
 use Rattle.sheets.specs.Number.{write_signed}
 use Rattle.sheets.specs.FieldSheet.{Columns, Shape, columns, no_text, write_list, of_dictionary, of_extension}
 use Rattle.sheets.specs.FieldSheet.{of_scalar as scalar_shape, of_nesting as nesting_shape, of_grouping as grouping_shape}
 use Rattle.sheets.specs.Format.{Format, of_scalar, of_nesting, of_grouping}
-use Rattle.refusal.specs.Refusals.{refusal_of}
+use Rattle.refusal.specs.Refusals.{Refusing, answer_of}
 use Rattle.hexadecimal.specs.Hex.{is_hex}
 use Rattle.buffer.specs.Over.{PutAt}
 use Rattle.field_line.specs.Columns.{columns_piece}
 use Rattle.import_type.specs.declared.Below.{Below}
 use Rattle.import_type.specs.declared.Below.TheVariants.{Nothing, First, All, Values}
-use Rattle.import_type.specs.declared.FormatPut.{FormatPut}
-use Rattle.import_type.specs.declared.FormatPut.TheVariants as Put
 use Rattle.import_type.specs.declared.put.Numbers.{Numbers}
-use Rattle.import_type.specs.declared.put.IdsPut.{IdsPut}
-use Rattle.import_type.specs.declared.put.IdsPut.TheVariants as Ids
 
 -- what a format says of a line
 abbrev pub shape_of : Format → Shape
@@ -35,32 +30,22 @@ below_of (of_extension n m) = Values
 
 -- ── what is written
 
--- the place after what was written and what the type visits, or the refusal
-abbrev pub put_answer : FormatPut → Answer (ℕ × Below)
-put_answer (Put.Put end b) = given (end, b)
-put_answer (Put.Refused r) = refused (refusal_of r)
-
 -- the columns of the type that a format says, and which subtrees the type visits
 abbrev pub FormatTold : ℕ → Answer Format → Bytes → Bytes → Answer (ℕ × Below) → Type 0
 FormatTold at a out out' (given (end, b)) =
     (g : Format) × (a ≡ given g) × PutAt at (columns_piece (columns (shape_of g))) end out out' × (b ≡ below_of (shape_of g))
 FormatTold at a out out' (refused q) = a ≡ refused q
 
-abbrev pub FormatPuts : ℕ → Answer Format → Bytes → Bytes → FormatPut → Type 0
-FormatPuts at a out out' r = FormatTold at a out out' (put_answer r)
-
--- the place after a union's ids, or the refusal of one
-abbrev pub ids_answer : IdsPut → Answer ℕ
-ids_answer (Ids.Put end) = given end
-ids_answer (Ids.Refused r) = refused (refusal_of r)
+abbrev pub FormatPuts : ℕ → Answer Format → Bytes → Bytes → Refusing (ℕ × Below) → Type 0
+FormatPuts at a out out' r = FormatTold at a out out' (answer_of r)
 
 -- a union's ids
 abbrev pub IdsTold : ℕ → Answer (List ℤ) → Bytes → Bytes → Answer ℕ → Type 0
-IdsTold at a out out' (given end) = (zs : List ℤ) × (a ≡ given zs) × PutAt at (write_list write_signed (some zs)) end out out'
+IdsTold at a out out' (given end) = (zs : List ℤ) × (a ≡ given zs) × PutAt at (write_list write_signed (Some zs)) end out out'
 IdsTold at a out out' (refused q) = a ≡ refused q
 
-abbrev pub IdsPuts : ℕ → Answer (List ℤ) → Bytes → Bytes → IdsPut → Type 0
-IdsPuts at a out out' r = IdsTold at a out out' (ids_answer r)
+abbrev pub IdsPuts : ℕ → Answer (List ℤ) → Bytes → Bytes → Refusing ℕ → Type 0
+IdsPuts at a out out' r = IdsTold at a out out' (answer_of r)
 
 -- "unused texts `~`"
 abbrev pub number_columns : Numbers → Columns

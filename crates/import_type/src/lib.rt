@@ -13,7 +13,7 @@ ghost use Rattle.field_line.specs.Columns.{columns_piece};
 ghost use Rattle.import_type.specs.TypeColumns.{FormatPuts, CanPut};
 
 use datatypes::{IntegerType, kind};
-use format::read::FormatRead;
+use format::read::Format;
 use refusal::Refusal;
 
 // Which subtrees a type visits: none, the first child, all children, the dictionary's values.
@@ -25,30 +25,27 @@ pub enum Below {
     Values,
 }
 
-// The place after a type's columns and which subtrees the type visits, or why its format is refused.
-#[derive(Drop)]
-pub enum FormatPut {
-    Put(usize, Below),
-    Refused(Refusal),
-}
-
 // Writes the columns of the type that a format says, but for a dictionary's, as much as fits. `sorted` says that the keys of a map are. What stands in
-// the buffer after a refusal is left open.
-pub fn put_format(out: &mut [u8], at: usize, f: &[u8], sorted: bool) -> FormatPut
+// the buffer after a refusal is left open. The place after the columns and which subtrees the type visits, or why its format is refused.
+pub fn put_format(
+    out: &mut [u8],
+    at: usize,
+    f: &[u8],
+    sorted: bool,
+) -> Result<(usize, Below), Refusal>
     requires { CanPut f.now at }
     ensures { FormatPuts at (read_format sorted (bytes_of f.now)) out.old out.new result }
 {
-    match format::read::read_format(f, sorted) {
-        FormatRead::Refused(r) => FormatPut::Refused(r),
-        FormatRead::Numbers(t) => FormatPut::Put(
+    match format::read::read_format(f, sorted)? {
+        Format::Numbers(t) => Ok((
             crate::put::put_textless(out, at, t),
             crate::put::below_of(t),
-        ),
-        FormatRead::Timestamp(unit, k) => FormatPut::Put(
+        )),
+        Format::Timestamp(unit, k) => Ok((
             crate::put::put_timestamp(out, at, unit, &f[k..]),
             Below::Nothing,
-        ),
-        FormatRead::Union(mode, k) => crate::put::put_union(out, at, mode, &f[k..]),
+        )),
+        Format::Union(mode, k) => crate::put::put_union(out, at, mode, &f[k..]),
     }
 }
 

@@ -9,24 +9,16 @@ ghost use Rattle.format.specs.Formats.{textless_format, timestamp_format, union_
 ghost use Rattle.import_type.specs.TypeColumns.{shape_of, below_of, FormatPuts, IdsPuts, number_columns, CanPut, CanPutAfter};
 ghost use Rattle.format.specs.Parts.{read_ids};
 
-use crate::{Below, FormatPut};
+use crate::Below;
 use datatypes::kind;
 use datatypes::units::{TimeUnit, UnionMode};
 use format::parts;
 use format::read::Textless;
-use parse::Id;
 use refusal::Refusal;
 
 // The columns `kind p q`.
 #[derive(Drop)]
 struct Numbers(u64, u64, u64);
-
-// The place after a union's ids.
-#[derive(Drop)]
-enum IdsPut {
-    Put(usize),
-    Refused(Refusal),
-}
 
 fn decimal_kind(width: u64) -> u64
     ensures { result ≡ decimal_kind (width_of width) }
@@ -94,8 +86,8 @@ pub fn put_timestamp(out: &mut [u8], at: usize, unit: TimeUnit, zone: &[u8]) -> 
     buffer::put_at(out, end, b" ~ ")
 }
 
-// The ids of a union, from the text after its format's colon. An id that does not read ends the format there.
-fn put_ids(out: &mut [u8], at: usize, ids: &[u8]) -> IdsPut
+// The ids of a union, from the text after its format's colon: the place after them. An id that does not read ends the format there.
+fn put_ids(out: &mut [u8], at: usize, ids: &[u8]) -> Result<usize, Refusal>
     requires { CanPutAfter ids.now at }
     ensures { IdsPuts at (read_ids (bytes_of ids.now)) out.old out.new result }
 {
@@ -104,12 +96,12 @@ fn put_ids(out: &mut [u8], at: usize, ids: &[u8]) -> IdsPut
     let mut end = at;
     loop {
         let to = parts::place_of(ids, from, b',');
-        let Id::Value(id) = parse::parse_i32(parts::part_of(ids, from, to)) else {
-            return IdsPut::Refused(Refusal::BadNumber);
+        let Some(id) = parse::parse_i32(parts::part_of(ids, from, to)) else {
+            return Err(Refusal::BadNumber);
         };
         let after = decimal::put::put_i32(out, end, id);
         if to == n {
-            return IdsPut::Put(after);
+            return Ok(after);
         }
         end = buffer::put_byte(out, after, b',');
         from = to + 1;
@@ -117,13 +109,16 @@ fn put_ids(out: &mut [u8], at: usize, ids: &[u8]) -> IdsPut
 }
 
 // A union, from the text after its format's colon.
-pub fn put_union(out: &mut [u8], at: usize, mode: UnionMode, ids: &[u8]) -> FormatPut
+pub fn put_union(
+    out: &mut [u8],
+    at: usize,
+    mode: UnionMode,
+    ids: &[u8],
+) -> Result<(usize, Below), Refusal>
     requires { CanPut ids.now at }
     ensures { FormatPuts at (union_format mode (bytes_of ids.now)) out.old out.new result }
 {
     let text = field_line::put_kind(out, at, kind::UNION, mode.place(), 0);
-    match put_ids(out, text, ids) {
-        IdsPut::Refused(r) => FormatPut::Refused(r),
-        IdsPut::Put(end) => FormatPut::Put(buffer::put_at(out, end, b" ~ "), Below::All),
-    }
+    let end = put_ids(out, text, ids)?;
+    Ok((buffer::put_at(out, end, b" ~ "), Below::All))
 }

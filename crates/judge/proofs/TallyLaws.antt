@@ -1,10 +1,8 @@
 -- The counts after a record, by what was told of it: a law for each way out of `count` and `tally`. Assumes nothing.
+use Rattle.std.specs.Prelude.{Option, Some, None}
 use Rattle.std.proofs.Common.{◌≡◌, ℕ, ◌+◌, ◌%◌, ◌^◌, ◌<◌, ◌≤◌, true, false, List, get_or, set, sym, refl, ap, ◌∙◌, subst, le-ltb, lt-ltb}
 use Rattle.recorded_list.specs.Codes.{calls}
 use Rattle.judge.specs.declared.Numbers.{Numbers}
-use Rattle.judge.specs.declared.Replayed.{Replayed}
-use Rattle.judge.specs.declared.Replayed.TheVariants.{Agrees, Differs}
-use Rattle.judge.specs.Judging.{replayed_option}
 use Rattle.judge.specs.Tally.{counted, tallied, differs}
 
 module _ (from call : ℕ) (kept : List ℕ) where
@@ -14,10 +12,10 @@ module _ (from call : ℕ) (kept : List ℕ) where
   pub counted_none : calls ≤ call → kept ≡ counted from call kept
   counted_none l = rw (le-ltb call calls l)
 
-module _ (r : Replayed) (call : ℕ) (kept end : List ℕ) where
-  pub tally_agrees : r ≡ Agrees → end ≡ counted 0 call kept → (false ≡ differs (replayed_option r)) × (end ≡ tallied (replayed_option r) call kept)
-  tally_agrees e h = subst (λ (x : Replayed). (false ≡ differs (replayed_option x)) × (end ≡ tallied (replayed_option x) call kept)) (sym e) (refl, h)
+module _ (r : Option Numbers) (call : ℕ) (kept end : List ℕ) where
+  pub tally_agrees : r ≡ None → end ≡ counted 0 call kept → (false ≡ differs r) × (end ≡ tallied r call kept)
+  tally_agrees e h = subst (λ (x : Option Numbers). (false ≡ differs x) × (end ≡ tallied x call kept)) (sym e) (refl, h)
 
-  pub tally_differs : (came : Numbers) (mid : List ℕ) → r ≡ Differs came → mid ≡ counted 0 call kept → end ≡ counted calls call mid
-      → (true ≡ differs (replayed_option r)) × (end ≡ tallied (replayed_option r) call kept)
-  tally_differs came mid e g h = subst (λ (x : Replayed). (true ≡ differs (replayed_option x)) × (end ≡ tallied (replayed_option x) call kept)) (sym e) (refl, h ∙ ap (counted calls call) g)
+  pub tally_differs : (came : Numbers) (mid : List ℕ) → r ≡ Some came → mid ≡ counted 0 call kept → end ≡ counted calls call mid
+      → (true ≡ differs r) × (end ≡ tallied r call kept)
+  tally_differs came mid e g h = subst (λ (x : Option Numbers). (true ≡ differs x) × (end ≡ tallied x call kept)) (sym e) (refl, h ∙ ap (counted calls call) g)

@@ -1,13 +1,10 @@
 -- What a record tells of a call, and what is told of the answer that came (differential/ANSWERS.md, at its end of 'Format'). Assumes nothing.
-use Rattle.std.specs.Prelude.{ℕ, zero, suc, ◌-◌, Bool, cond, ◌&&◌, ◌||◌, ◌++◌, length, replicate, ◌==◌}
-use Rattle.std.proofs.Math.Option.{Option, none, some}
+use Rattle.std.specs.Prelude.{ℕ, zero, suc, ◌-◌, Bool, cond, ◌&&◌, ◌||◌, ◌++◌, length, replicate, ◌==◌, Option, None, Some}
 use Rattle.sheets.specs.Bytes.{Bytes, same}
 use Rattle.sheets.specs.Outcome.{Outcome, Measure, Places, YesNo, is_yes, import_outcome_in, export_outcome_in, strict_export_outcome, plain_outcome, to_physical_type_outcome, underlying_physical_type_outcome, to_storage_outcome, to_storage_recursive_outcome, inner_dtype_outcome, get_child_outcome, is_nested_outcome, contains_dictionary_outcome, from_integer_type_outcome, from_primitive_type_outcome, page_outcome, measure_import_outcome, measure_export_outcome}
 use Rattle.recorded_list.specs.Codes.{import_call, export_call, plain_call, to_physical_type_call, underlying_physical_type_call, to_storage_call, to_storage_recursive_call, inner_dtype_call, get_child_call, is_nested_call, contains_dictionary_call, from_integer_type_call, page_call, measure_import_call, measure_export_call, strict_export_call}
 use Rattle.recorded_list.specs.ListText.{Record}
 use Rattle.recorded_list.specs.declared.records.Header.{Header}
-use Rattle.judge.specs.declared.Replayed.{Replayed}
-use Rattle.judge.specs.declared.Replayed.TheVariants.{Agrees, Differs}
 use Rattle.judge.specs.declared.Numbers.{Numbers}
 
 -- ── calls that write a sheet into a lent buffer
@@ -34,7 +31,7 @@ same_outcome a b = a.number == b.number && (a.size == b.size && same a.buffer b.
 
 -- the number and the length that came, if what came is not what was to come
 abbrev pub difference : Outcome → Outcome → Option Numbers
-difference came told = cond (same_outcome came told) none (some (record { number = came.number; first = came.size; second = 0 }))
+difference came told = cond (same_outcome came told) None (Some (record { number = came.number; first = came.size; second = 0 }))
 
 -- the outcome of each, by its code. The definition's outcome stands for the answer, since the call is proved to have it. The last has the code that is left
 abbrev pub sheet_outcome : ℕ → ℕ → Bytes → Bytes → Outcome
@@ -64,7 +61,7 @@ abbrev pub same_numbers : Numbers → Numbers → Bool
 same_numbers a b = a.number == b.number && (a.first == b.first && a.second == b.second)
 
 abbrev pub numbers_difference : Numbers → Numbers → Option Numbers
-numbers_difference came told = cond (same_numbers came told) none (some came)
+numbers_difference came told = cond (same_numbers came told) None (Some came)
 
 abbrev pub places_numbers : Places → Numbers
 places_numbers p = record { number = p.number; first = p.place; second = p.inner }
@@ -93,8 +90,3 @@ replayed room r =
     cond (answers_numbers r.header.call)
     (numbers_difference (numbers_outcome r.header.call r.header.argument r.input) (recorded_numbers r.header))
     (difference (sheet_outcome r.header.call r.header.argument r.input (filled room)) (recorded r.header r.output room))
-
--- the answer, case by case
-abbrev pub replayed_option : Replayed → Option Numbers
-replayed_option Agrees = none
-replayed_option (Differs came) = some came

@@ -1,7 +1,6 @@
 -- The counts that `replay` keeps: for each of the calls the records that were replayed, then for each those that differ. A count goes round at 2^64.
 -- Assumes nothing.
-use Rattle.std.specs.Prelude.{ℕ, ◌+◌, ◌%◌, ◌^◌, Bool, true, false, cond, List, nat_lt, slice_index, slice_set}
-use Rattle.std.proofs.Math.Option.{Option, none, some}
+use Rattle.std.specs.Prelude.{ℕ, ◌+◌, ◌%◌, ◌^◌, Bool, true, false, cond, List, nat_lt, slice_index, slice_set, Option, None, Some}
 use Rattle.recorded_list.specs.Codes.{calls}
 use Rattle.judge.specs.declared.Numbers.{Numbers}
 
@@ -15,9 +14,9 @@ counted from call kept = cond (nat_lt call calls) (one_more (from + call) kept) 
 
 -- what is kept after a record, by what was told of it
 abbrev pub tallied : Option Numbers → ℕ → List ℕ → List ℕ
-tallied none call kept = counted 0 call kept
-tallied (some came) call kept = counted calls call (counted 0 call kept)
+tallied None call kept = counted 0 call kept
+tallied (Some came) call kept = counted calls call (counted 0 call kept)
 
 abbrev pub differs : Option Numbers → Bool
-differs none = false
-differs (some came) = true
+differs None = false
+differs (Some came) = true

@@ -5,11 +5,10 @@
 pub mod print;
 pub mod tally;
 
-ghost use Rattle.std.specs.Prelude.{◌≡◌, ◌-◌, ◌++◌, length, replicate};
-ghost use Rattle.std.proofs.Math.Option.{some};
+ghost use Rattle.std.specs.Prelude.{◌≡◌, ◌-◌, ◌++◌, length, replicate, Some};
 ghost use Rattle.sheets.specs.Bytes.{same};
-ghost use Rattle.outcome.specs.Answers.{outcome_of};
-ghost use Rattle.judge.specs.Judging.{recorded, difference, answers_numbers, recorded_numbers, numbers_difference, replayed_option};
+ghost use Rattle.outcome.specs.Answers.{numbers_outcome};
+ghost use Rattle.judge.specs.Judging.{recorded, difference, answers_numbers, recorded_numbers, numbers_difference};
 
 use recorded_list::call;
 use recorded_list::records::Header;
@@ -24,59 +23,41 @@ pub struct Numbers {
     pub second: u64,
 }
 
-#[derive(Clone, Copy)]
-pub enum Replayed {
-    Agrees,
-    // what came
-    Differs(Numbers),
-}
-
 pub fn fill(out: &mut [u8], b: u8)
     ensures { out.new ≡ replicate (length out.old) b }
 {
-    for i in 0..out.len() {
-        out[i] = b;
-    }
+    out.fill(b);
 }
 
 fn all_are(s: &[u8], b: u8) -> bool
     ensures { result ≡ same s.now (replicate (length s.now) b) }
 {
-    for i in 0..s.len() {
-        if s[i] != b {
-            return false;
-        }
-    }
-    true
+    s.iter().all(|&x| x == b)
 }
 
 // Whether s is x and then b up to its end.
 fn is_then(s: &[u8], x: &[u8], b: u8) -> bool
     ensures { result ≡ same s.now (x.now ++ replicate (length s.now - length x.now) b) }
 {
-    let n = x.len();
-    if s.len() < n {
-        return false;
+    match s.strip_prefix(x) {
+        Some(rest) => all_are(rest, b),
+        None => false,
     }
-    if !buffer::same(&s[..n], x) {
-        return false;
-    }
-    all_are(&s[n..], b)
 }
 
-fn differs(number: u64, size: u64) -> Replayed
-    ensures { replayed_option result ≡ some (record { number = number; first = size; second = 0 }) }
+fn differs(number: u64, size: u64) -> Option<Numbers>
+    ensures { result ≡ Some (record { number = number; first = size; second = 0 }) }
 {
-    Replayed::Differs(Numbers {
+    Some(Numbers {
         number,
         first: size,
         second: 0,
     })
 }
 
-// Whether an answer, with the buffer after it, is the recorded one.
-pub fn judge(number: u64, size: u64, h: Header, output: &[u8], lent: &[u8]) -> Replayed
-    ensures { replayed_option result ≡ difference (outcome_of number size lent.now) (recorded h output.now (length lent.now)) }
+// What came, if an answer, with the buffer after it, is not the recorded one.
+pub fn judge(number: u64, size: u64, h: Header, output: &[u8], lent: &[u8]) -> Option<Numbers>
+    ensures { result ≡ difference (numbers_outcome number size lent.now) (recorded h output.now (length lent.now)) }
 {
     if number != h.number {
         return differs(number, size);
@@ -86,12 +67,12 @@ pub fn judge(number: u64, size: u64, h: Header, output: &[u8], lent: &[u8]) -> R
     }
     if number != 0 {
         if all_are(lent, 0) {
-            return Replayed::Agrees;
+            return None;
         }
         return differs(number, size);
     }
     if is_then(lent, output, FILLER) {
-        return Replayed::Agrees;
+        return None;
     }
     differs(number, size)
 }
@@ -116,17 +97,17 @@ pub fn answers_numbers(code: u64) -> bool
 }
 
 // Whether the numbers are the recorded ones.
-pub fn judge_numbers(came: Numbers, h: Header) -> Replayed
-    ensures { replayed_option result ≡ numbers_difference came (recorded_numbers h) }
+pub fn judge_numbers(came: Numbers, h: Header) -> Option<Numbers>
+    ensures { result ≡ numbers_difference came (recorded_numbers h) }
 {
     if came.number != h.number {
-        return Replayed::Differs(came);
+        return Some(came);
     }
     if came.first != h.first {
-        return Replayed::Differs(came);
+        return Some(came);
     }
     if came.second != h.second {
-        return Replayed::Differs(came);
+        return Some(came);
     }
-    Replayed::Agrees
+    None
 }

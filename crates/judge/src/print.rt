@@ -1,6 +1,6 @@
 // What the program `replay` prints: the counts, the first difference, where the list is malformed. Each writes to a lent writer and ends with the
 // error of the write that failed. The stored output of `replay` is the test of the words.
-use crate::Replayed;
+use crate::Numbers;
 use crate::tally::{COUNTS, DIFFER};
 use recorded_list::call;
 use recorded_list::records::Header;
@@ -64,7 +64,7 @@ fn came<W: Write>(
     let end = buffer::within(length as usize, lent.len());
     let sheet = &lent[..end];
     sheet_answer(out, b"came", n, length, sheet)?;
-    if n == h.number && length == h.first && buffer::same(sheet, output) {
+    if n == h.number && length == h.first && sheet == output {
         out.write_all(b"the buffer past the sheet differs\n")?;
     }
     Ok(())
@@ -93,10 +93,10 @@ pub fn difference<W: Write>(
     place: u64,
     h: Header,
     output: &[u8],
-    r: Replayed,
+    r: Option<Numbers>,
     lent: &[u8],
 ) -> io::Result<()> {
-    if let Replayed::Differs(c) = r {
+    if let Some(c) = r {
         out.write_all(b"record ")?;
         streams::print_decimal(out, place)?;
         out.write_all(b" differs: ")?;
@@ -128,8 +128,9 @@ fn call_counts<W: Write>(out: &mut W, call: u64, replayed: u64, differ: u64) -> 
 
 // The counts of each call, as `tally` keeps them.
 pub fn counts<W: Write>(out: &mut W, kept: &[u64; COUNTS]) -> io::Result<()> {
-    for c in 0..call::CALLS {
-        call_counts(out, c as u64, kept[c], kept[DIFFER + c])?;
+    let (replayed, differ) = kept.split_at(DIFFER);
+    for (c, (&r, &d)) in replayed.iter().zip(differ).enumerate() {
+        call_counts(out, c as u64, r, d)?;
     }
     Ok(())
 }

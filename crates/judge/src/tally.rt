@@ -1,10 +1,9 @@
 // What the program `replay` counts of the records.
 ghost use Rattle.std.specs.Prelude.{◌≡◌, ◌≤◌};
 ghost use Rattle.recorded_list.specs.Codes.{calls};
-ghost use Rattle.judge.specs.Judging.{replayed_option};
 ghost use Rattle.judge.specs.Tally.{counted, tallied, differs};
 
-use crate::Replayed;
+use crate::Numbers;
 use recorded_list::call::CALLS;
 
 // The places of the counts: the replayed records of each call, then those of them that differ.
@@ -26,15 +25,15 @@ fn count(kept: &mut [u64; COUNTS], from: usize, call: u64)
 }
 
 // Counts a record by what was told of it, and answers whether it differs.
-pub fn tally(r: Replayed, call: u64, kept: &mut [u64; COUNTS]) -> bool
-    ensures { (result ≡ differs (replayed_option r)) × (kept.new ≡ tallied (replayed_option r) call kept.old) }
+pub fn tally(r: Option<Numbers>, call: u64, kept: &mut [u64; COUNTS]) -> bool
+    ensures { (result ≡ differs r) × (kept.new ≡ tallied r call kept.old) }
 {
     match r {
-        Replayed::Agrees => {
+        None => {
             count(kept, REPLAYED, call);
             false
         }
-        Replayed::Differs(_) => {
+        Some(_) => {
             count(kept, REPLAYED, call);
             count(kept, DIFFER, call);
             true

@@ -4,13 +4,14 @@
 ghost use Rattle.std.specs.Prelude.{◌≡◌};
 ghost use Rattle.sheets.specs.Outcome.{is_yes, import_outcome_in, export_outcome_in, import_outcome, export_outcome, strict_export_outcome, measure_import_outcome, measure_export_outcome, plain_outcome, page_outcome, to_physical_type_outcome, underlying_physical_type_outcome, to_storage_outcome, to_storage_recursive_outcome, inner_dtype_outcome, get_child_outcome, is_nested_outcome, contains_dictionary_outcome, from_integer_type_outcome, from_primitive_type_outcome};
 ghost use Rattle.sheets.specs.RoundTrip.{round_trip_outcome_in, strict_round_trip_outcome, round_trip_outcome};
-ghost use Rattle.outcome.specs.Answers.{outcome_of};
+ghost use Rattle.outcome.specs.Answers.{numbers_outcome};
 ghost use Rattle.round_trips.specs.Trips.{four};
 ghost use Rattle.juzontefa.specs.Answers.{answer_for, measure_told, measure_for, places_told, places_for, yes_no_told, yes_no_for};
 ghost use Rattle.juzontefa.specs.Trips.{trip_for, host_told, host_trip};
 
 use mapping_calls::physical::PhysicalPlaces;
-use outcome::{Answered, Measured};
+use outcome::{Refused, Size};
+use refusal::Refusal;
 use round_trips::RoundTrip;
 
 // The number, 0 for success, and the length of the answer.
@@ -21,19 +22,25 @@ pub struct Answer {
     pub length: u64,
 }
 
-fn answer_of(answered: Answered) -> Answer
+fn answer_of(answered: Result<usize, Refused>) -> Answer
     ensures { result ≡ answer_for answered }
 {
-    Answer {
-        number: answered.number as u64,
-        length: answered.length as u64,
+    match answered {
+        Ok(length) => Answer {
+            number: 0,
+            length: length as u64,
+        },
+        Err(refused) => Answer {
+            number: refused.number() as u64,
+            length: 0,
+        },
     }
 }
 
 // The field sheet of a schema sheet.
 #[unsafe(no_mangle)]
 pub extern "C" fn juzontefa_import(sheet: &[u8], out: &mut [u8]) -> Answer
-    ensures { outcome_of result.number result.length out.new ≡ import_outcome sheet.now out.old }
+    ensures { numbers_outcome result.number result.length out.new ≡ import_outcome sheet.now out.old }
 {
     answer_of(import_sheet::import(sheet, false, out))
 }
@@ -41,7 +48,7 @@ pub extern "C" fn juzontefa_import(sheet: &[u8], out: &mut [u8]) -> Answer
 // The same of metadata in the order that the caller says: big-endian unless the number is 0.
 #[unsafe(no_mangle)]
 pub extern "C" fn juzontefa_import_with_order(sheet: &[u8], big: u64, out: &mut [u8]) -> Answer
-    ensures { outcome_of result.number result.length out.new ≡ import_outcome_in (is_yes big) sheet.now out.old }
+    ensures { numbers_outcome result.number result.length out.new ≡ import_outcome_in (is_yes big) sheet.now out.old }
 {
     answer_of(import_sheet::import(sheet, big != 0, out))
 }
@@ -49,7 +56,7 @@ pub extern "C" fn juzontefa_import_with_order(sheet: &[u8], big: u64, out: &mut 
 // The schema sheet of a field sheet.
 #[unsafe(no_mangle)]
 pub extern "C" fn juzontefa_export(sheet: &[u8], out: &mut [u8]) -> Answer
-    ensures { outcome_of result.number result.length out.new ≡ export_outcome sheet.now out.old }
+    ensures { numbers_outcome result.number result.length out.new ≡ export_outcome sheet.now out.old }
 {
     answer_of(field_calls::export(sheet, false, out))
 }
@@ -57,7 +64,7 @@ pub extern "C" fn juzontefa_export(sheet: &[u8], out: &mut [u8]) -> Answer
 // The same with metadata in the order that the caller says: big-endian unless the number is 0.
 #[unsafe(no_mangle)]
 pub extern "C" fn juzontefa_export_with_order(sheet: &[u8], big: u64, out: &mut [u8]) -> Answer
-    ensures { outcome_of result.number result.length out.new ≡ export_outcome_in (is_yes big) sheet.now out.old }
+    ensures { numbers_outcome result.number result.length out.new ≡ export_outcome_in (is_yes big) sheet.now out.old }
 {
     answer_of(field_calls::export(sheet, big != 0, out))
 }
@@ -65,7 +72,7 @@ pub extern "C" fn juzontefa_export_with_order(sheet: &[u8], big: u64, out: &mut 
 // The same of a field that is sure to come back: a reserved key or a 128-bit dictionary index on any of its lines is refused.
 #[unsafe(no_mangle)]
 pub extern "C" fn juzontefa_strict_export(sheet: &[u8], big: u64, out: &mut [u8]) -> Answer
-    ensures { outcome_of result.number result.length out.new ≡ strict_export_outcome (is_yes big) sheet.now out.old }
+    ensures { numbers_outcome result.number result.length out.new ≡ strict_export_outcome (is_yes big) sheet.now out.old }
 {
     answer_of(field_calls::strict_export(sheet, big != 0, out))
 }
@@ -79,13 +86,20 @@ pub struct Measure {
     pub lines: u64,
 }
 
-fn measure_of(m: Measured) -> Measure
+fn measure_of(m: Result<Size, Refusal>) -> Measure
     ensures { result ≡ measure_for m }
 {
-    Measure {
-        number: m.number as u64,
-        length: m.size.len as u64,
-        lines: m.size.lines as u64,
+    match m {
+        Ok(size) => Measure {
+            number: 0,
+            length: size.len as u64,
+            lines: size.lines as u64,
+        },
+        Err(reason) => Measure {
+            number: reason.number() as u64,
+            length: 0,
+            lines: 0,
+        },
     }
 }
 
@@ -108,7 +122,7 @@ pub extern "C" fn juzontefa_measure_export(sheet: &[u8], big: u64) -> Measure
 // The plain form of a field sheet.
 #[unsafe(no_mangle)]
 pub extern "C" fn juzontefa_plain_form(sheet: &[u8], out: &mut [u8]) -> Answer
-    ensures { outcome_of result.number result.length out.new ≡ plain_outcome sheet.now out.old }
+    ensures { numbers_outcome result.number result.length out.new ≡ plain_outcome sheet.now out.old }
 {
     answer_of(field_calls::plain_form(sheet, out))
 }
@@ -116,7 +130,7 @@ pub extern "C" fn juzontefa_plain_form(sheet: &[u8], out: &mut [u8]) -> Answer
 // The page of a field sheet: 73 bytes for each line below the heading.
 #[unsafe(no_mangle)]
 pub extern "C" fn juzontefa_page(sheet: &[u8], out: &mut [u8]) -> Answer
-    ensures { outcome_of result.number result.length out.new ≡ page_outcome sheet.now out.old }
+    ensures { numbers_outcome result.number result.length out.new ≡ page_outcome sheet.now out.old }
 {
     answer_of(field_calls::page(sheet, out))
 }
@@ -138,21 +152,21 @@ fn trip_of(trip: RoundTrip) -> Trip
             answer: 0,
             number: 0,
         },
-        RoundTrip::ExportRefused(number) => Trip {
+        RoundTrip::ExportRefused(refused) => Trip {
             answer: 1,
-            number: number as u64,
+            number: refused.number() as u64,
         },
-        RoundTrip::ImportRefused(number) => Trip {
+        RoundTrip::ImportRefused(refused) => Trip {
             answer: 2,
-            number: number as u64,
+            number: refused.number() as u64,
         },
-        RoundTrip::PlainRefused(number) => Trip {
+        RoundTrip::PlainRefused(refused) => Trip {
             answer: 3,
-            number: number as u64,
+            number: refused.number() as u64,
         },
-        RoundTrip::AgainRefused(number) => Trip {
+        RoundTrip::AgainRefused(refused) => Trip {
             answer: 4,
-            number: number as u64,
+            number: refused.number() as u64,
         },
         RoundTrip::ImportDiffers => Trip {
             answer: 5,
@@ -233,13 +247,13 @@ fn places_of(p: PhysicalPlaces) -> Places
 pub extern "C" fn juzontefa_to_physical_type(sheet: &[u8]) -> Places
     ensures { places_told result ≡ to_physical_type_outcome sheet.now }
 {
-    places_of(mapping_calls::physical::to_physical_type(sheet).places())
+    places_of(PhysicalPlaces::of(mapping_calls::physical::to_physical_type(sheet)))
 }
 
 // A field with its type replaced by the one that it is physically.
 #[unsafe(no_mangle)]
 pub extern "C" fn juzontefa_underlying_physical_type(sheet: &[u8], out: &mut [u8]) -> Answer
-    ensures { outcome_of result.number result.length out.new ≡ underlying_physical_type_outcome sheet.now out.old }
+    ensures { numbers_outcome result.number result.length out.new ≡ underlying_physical_type_outcome sheet.now out.old }
 {
     answer_of(field_calls::underlying_physical_type(sheet, out))
 }
@@ -247,7 +261,7 @@ pub extern "C" fn juzontefa_underlying_physical_type(sheet: &[u8], out: &mut [u8
 // A field with its type replaced by the one inside all extensions.
 #[unsafe(no_mangle)]
 pub extern "C" fn juzontefa_to_storage(sheet: &[u8], out: &mut [u8]) -> Answer
-    ensures { outcome_of result.number result.length out.new ≡ to_storage_outcome sheet.now out.old }
+    ensures { numbers_outcome result.number result.length out.new ≡ to_storage_outcome sheet.now out.old }
 {
     answer_of(picked_types::to_storage(sheet, out))
 }
@@ -255,7 +269,7 @@ pub extern "C" fn juzontefa_to_storage(sheet: &[u8], out: &mut [u8]) -> Answer
 // A field with its type replaced by the one without extensions at any depth.
 #[unsafe(no_mangle)]
 pub extern "C" fn juzontefa_to_storage_recursive(sheet: &[u8], out: &mut [u8]) -> Answer
-    ensures { outcome_of result.number result.length out.new ≡ to_storage_recursive_outcome sheet.now out.old }
+    ensures { numbers_outcome result.number result.length out.new ≡ to_storage_recursive_outcome sheet.now out.old }
 {
     answer_of(field_calls::to_storage_recursive(sheet, out))
 }
@@ -263,7 +277,7 @@ pub extern "C" fn juzontefa_to_storage_recursive(sheet: &[u8], out: &mut [u8]) -
 // The type of a list's field.
 #[unsafe(no_mangle)]
 pub extern "C" fn juzontefa_inner_dtype(sheet: &[u8], out: &mut [u8]) -> Answer
-    ensures { outcome_of result.number result.length out.new ≡ inner_dtype_outcome sheet.now out.old }
+    ensures { numbers_outcome result.number result.length out.new ≡ inner_dtype_outcome sheet.now out.old }
 {
     answer_of(picked_types::inner_dtype(sheet, out))
 }
@@ -271,7 +285,7 @@ pub extern "C" fn juzontefa_inner_dtype(sheet: &[u8], out: &mut [u8]) -> Answer
 // The type of the field at an index, from 0.
 #[unsafe(no_mangle)]
 pub extern "C" fn juzontefa_get_child(sheet: &[u8], index: u64, out: &mut [u8]) -> Answer
-    ensures { outcome_of result.number result.length out.new ≡ get_child_outcome sheet.now index out.old }
+    ensures { numbers_outcome result.number result.length out.new ≡ get_child_outcome sheet.now index out.old }
 {
     answer_of(picked_types::get_child(sheet, index, out))
 }
@@ -284,12 +298,18 @@ pub struct YesNo {
     pub answer: u64,
 }
 
-fn yes_no_of(a: mapping_calls::YesNo) -> YesNo
+fn yes_no_of(a: Result<bool, Refusal>) -> YesNo
     ensures { result ≡ yes_no_for a }
 {
-    YesNo {
-        number: a.number as u64,
-        answer: field_line::flag(a.answer),
+    match a {
+        Ok(yes) => YesNo {
+            number: 0,
+            answer: field_line::flag(yes),
+        },
+        Err(reason) => YesNo {
+            number: reason.number() as u64,
+            answer: 0,
+        },
     }
 }
 
@@ -312,7 +332,7 @@ pub extern "C" fn juzontefa_contains_dictionary(sheet: &[u8]) -> YesNo
 // The type of a dictionary's index, by its place in `IntegerType`.
 #[unsafe(no_mangle)]
 pub extern "C" fn juzontefa_from_integer_type(place: u64, out: &mut [u8]) -> Answer
-    ensures { outcome_of result.number result.length out.new ≡ from_integer_type_outcome place out.old }
+    ensures { numbers_outcome result.number result.length out.new ≡ from_integer_type_outcome place out.old }
 {
     answer_of(mapping_calls::conversions::from_integer_type(place, out))
 }
@@ -320,7 +340,7 @@ pub extern "C" fn juzontefa_from_integer_type(place: u64, out: &mut [u8]) -> Ans
 // The type that a primitive type stands for, by its place in `PrimitiveType`.
 #[unsafe(no_mangle)]
 pub extern "C" fn juzontefa_from_primitive_type(place: u64, out: &mut [u8]) -> Answer
-    ensures { outcome_of result.number result.length out.new ≡ from_primitive_type_outcome place out.old }
+    ensures { numbers_outcome result.number result.length out.new ≡ from_primitive_type_outcome place out.old }
 {
     answer_of(mapping_calls::conversions::from_primitive_type(place, out))
 }

@@ -1,7 +1,7 @@
 -- An entry put at its place in a slice: the search for the place at each entry, and the entries after it moved up by one. Assumes nothing.
 use mathlib.Core.Path.{◌≡◌, refl, sym, ap, ◌∙◌}
 use mathlib.Core.Bool.{true}
-use mathlib.Core.List.{List, [], ◌∷◌, ◌++◌, append_assoc}
+use mathlib.Core.List.{List, [], ◌∷◌, ◌++◌, append_assoc, append-nil}
 use Prim.Native.Nat.{ℕ, zero, suc, ◌+◌, ◌-◌, ◌≤◌, ◌<◌}
 use native.Mathlib.Nat.{not-suc-le-zero, le_of_suc-le-suc, sub-zero, suc-sub-suc}
 use native.Mathlib.Numerals.{add-one}
@@ -90,12 +90,26 @@ module _ (key : ℕ → Bytes) (p : ℕ) (m : List ℕ) (n : ℕ) (fits : n ≤ 
 
 -- ── entries put in from the last to the first
 
-module _ (key : ℕ → Bytes) (l : List ℕ) where
-  pub none_yet : [] ≡ ordered key (drop (length l) l)
-  unfolding ordered
-  none_yet = rw (drop_of_length-le l {i = length l} (omega arith))
+pub none_yet : (key : ℕ → Bytes) (l rest : List ℕ) → rest ≡ l → (0 + length rest ≤ length l) × (rest ++ drop (length rest) l ≡ l) × ([] ≡ ordered key (drop (length rest) l))
+unfolding ordered
+none_yet key l rest e = rw (e, drop_of_length-le l {i = length l} (omega arith), append-nil) (omega arith, refl, refl)
 
-  pub one_more : (k : ℕ) → 0 < k → k ≤ length l → insert_entry key (get_or l (k - 1) 0) (ordered key (drop k l)) ≡ ordered key (drop (k - 1) l)
-  unfolding ordered
-  one_more zero h f = absurd (not-suc-le-zero h)
-  one_more (suc k) h f = let e : suc k - 1 ≡ k = omega arith in rw (e, drop-cons l k 0 f)
+pub length-push : (rest : List ℕ) (p : ℕ) → length (rest ++ p ∷ []) ≡ length rest + 1
+length-push rest p = length-append rest (p ∷ [])
+
+drop-length : (s t : List ℕ) → drop (length s) (s ++ t) ≡ t
+drop-length [] t = refl
+drop-length (x ∷ s) t = drop-length s t
+
+-- the last of those that are left is the one before the others
+pub one_before : (l rest rest' : List ℕ) (p : ℕ) → rest ++ drop (length rest) l ≡ l → rest ≡ rest' ++ p ∷ []
+    → (p ∷ drop (length rest) l ≡ drop (length rest') l) × (rest' ++ drop (length rest') l ≡ l)
+one_before l rest rest' p e f =
+    let d = drop (length rest) l in
+    let whole : rest' ++ p ∷ d ≡ l = sym (append_snoc rest' p d) ∙ ap (λ (s : List ℕ). s ++ d) (sym f) ∙ e in
+    let tail : p ∷ d ≡ drop (length rest') l = sym (drop-length rest' (p ∷ d)) ∙ ap (drop (length rest')) whole in
+    (tail, ap (λ (s : List ℕ). rest' ++ s) (sym tail) ∙ whole)
+
+pub one_more : (key : ℕ → Bytes) (l : List ℕ) (p : ℕ) (m : List ℕ) → p ∷ l ≡ m → insert_entry key p (ordered key l) ≡ ordered key m
+unfolding ordered
+one_more key l p m e = ap (ordered key) e

@@ -3,13 +3,13 @@
 -- (`take_left`, `take_both`, `take_right`). Assumes nothing.
 use mathlib.Core.Path.{◌≡◌, refl, sym, ap, subst, ◌∙◌}
 use mathlib.Core.Bool.{Bool, true, false, cond}
-use mathlib.Core.List.{List, [], ◌∷◌, ◌++◌}
+use mathlib.Core.List.{List, [], ◌∷◌, ◌++◌, append_assoc}
 use Prim.Native.Nat.{ℕ, zero, suc, ◌+◌, ◌-◌, ◌≤◌, ◌<◌}
 use native.Mathlib.Omega.{arith}
 use native.Mathlib.Nat.{not-suc-le-zero}
 use native.Mathlib.Numerals.{add-one}
-use lib.ListN.{length, get_or, set, take, drop, drop_of_length-le, length-drop}
-use lib.Seq.{drop-cons, take_all, take-suc-set, append_snoc}
+use lib.ListN.{length, get_or, set, take, drop, drop_of_length-le, length-drop, length-append}
+use lib.Seq.{drop-cons, take_all, take_at, length-take-le, take-suc-set, append_snoc}
 use Rattle.sheets.specs.Rule.{is, each, Meets}
 use Rattle.sheets.specs.Bytes.{Bytes, same}
 use Rattle.sheets.specs.Field.{before}
@@ -230,6 +230,10 @@ module _ (key : ℕ → Bytes) where
   pub rest_right : (a b : List ℕ) (i j : ℕ) → length a ≤ i → merged key (drop i a) (drop j b) ≡ drop j b
   unfolding merged
   rest_right a b i j n = rw (drop_of_length-le a n)
+
+-- s is written at a place
+pub placed : (m s : List ℕ) (at : ℕ) (rest : List ℕ) → at ≤ length m → take (at + length s) (take at m ++ (s ++ rest)) ≡ take at m ++ s
+placed m s at rest h = rw (← append_assoc (take at m) s rest) (take_at (take at m ++ s) rest (at + length s) (rw (length-append, length-take-le at m h)))
 
 -- one more entry is written
 pub wrote : (all out rest next : List ℕ) (k v : ℕ) → k < length out → all ≡ take k out ++ rest → rest ≡ v ∷ next → all ≡ take (k + 1) (set out k v) ++ next

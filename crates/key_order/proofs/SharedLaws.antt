@@ -3,11 +3,12 @@
 use mathlib.Core.Path.{◌≡◌, refl, sym, ap, ap₂, ◌∙◌}
 use mathlib.Core.Bool.{Bool, cond}
 use mathlib.Core.List.{List, [], ◌∷◌, ◌++◌}
-use Prim.Native.Nat.{ℕ, zero, suc, ◌+◌, ◌≤◌, ◌<◌}
+use Prim.Native.Nat.{ℕ, zero, suc, ◌+◌, ◌-◌, ◌≤◌, ◌<◌}
 use native.Mathlib.Nat.{not-suc-le-zero, le_of_suc-le-suc}
 use native.Mathlib.Numerals.{add-one}
 use lib.ListN.{length, get_or, take, drop}
-use lib.Seq.{take-add, take-take}
+use native.Mathlib.Omega.{arith}
+use lib.Seq.{take-add, take-take, take_all}
 use Rattle.sheets.specs.Bytes.{Bytes}
 use Rattle.words.specs.Words.{WordAt}
 use Rattle.words.proofs.WordLaws.{length_here, word_is}
@@ -24,6 +25,11 @@ four_more a b i x y h k p q e f =
     take-add i 4 a ∙ ap₂ ◌++◌ f (word_is p h (take 4 (drop i b)) (length_here 4 b i k) q.small (sym q.is ∙ sym e)) ∙ sym (take-add i 4 b)
 
 -- ── one entry more
+
+-- an entry of all but the first
+pub later : (l : List ℕ) (k : ℕ) → k + 1 < length l → get_or (take (length l - 1) (drop 1 l)) k 0 ≡ get_or l (k + 1) 0
+later [] k h = absurd (not-suc-le-zero h)
+later (x ∷ l) k h = rw (add-one, take_all (suc (length l) - 1) l (omega arith))
 
 module _ (text s : Bytes) where
   fewer : (m n e : ℕ) → m ≤ n → Begins text s n e → Begins text s m e

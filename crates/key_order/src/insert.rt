@@ -4,19 +4,16 @@ ghost use Rattle.key_order.specs.Entry.{rest_at};
 ghost use Rattle.key_order.specs.Order.{insert_entry};
 ghost use Rattle.key_order.specs.Merge.{Sorts};
 
-use byte_order::Ordering;
+use std::cmp::Ordering;
+use std::mem;
 
 // The entry v first, and then those of part but the last.
 fn shift_in(part: &mut [u32], v: u32)
     ensures { part.new ≡ take (length part.old) (v ∷ part.old) }
 {
-    let mut k = 0;
     let mut w = v;
-    while k < part.len() {
-        let t = part[k];
-        part[k] = w;
-        w = t;
-        k += 1;
+    for e in part.iter_mut() {
+        w = mem::replace(e, w);
     }
 }
 
@@ -35,13 +32,12 @@ fn insert_entry(text: &[u8], out: &mut [u32], n: usize, p: u32, shared: u32) -> 
     requires { n < length out.old }
     ensures { (result ≤ n + 1) × (take result out.new ≡ insert_entry (rest_at text.now shared) p (take n out.old)) }
 {
-    let mut j = 0;
-    while j < n {
+    for j in 0..n {
         let q = out[j];
         match crate::compare_keys(text, p, q, shared) {
             Ordering::Less => return open_at(out, j, n, p),
             Ordering::Equal => return n,
-            Ordering::Greater => j += 1,
+            Ordering::Greater => {}
         }
     }
     open_at(out, n, n, p)
@@ -52,11 +48,9 @@ pub fn sort_few(text: &[u8], from: &[u32], to: &mut [u32], shared: u32) -> usize
     requires { length from.now ≤ length to.old }
     ensures { Sorts (rest_at text.now shared) from.now to.new result }
 {
-    let mut k = from.len();
     let mut r = 0;
-    while 0 < k {
-        k -= 1;
-        r = insert_entry(text, to, r, from[k], shared);
+    for &p in from.iter().rev() {
+        r = insert_entry(text, to, r, p, shared);
     }
     r
 }

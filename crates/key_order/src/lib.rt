@@ -10,7 +10,7 @@ ghost use Rattle.std.specs.Prelude.{◌≡◌, true, ◌+◌};
 ghost use Rattle.byte_order.specs.Compare.{ordering, ordering_answer, Word};
 ghost use Rattle.key_order.specs.Entry.{entry_of, IsEntry, start_of, size_of, key_at, rest_at, HasFour};
 
-use byte_order::Ordering;
+use std::cmp::Ordering;
 
 // The entry of a key that starts at `start` and has `size` bytes.
 pub fn entry_of(start: usize, size: usize) -> u32
@@ -95,13 +95,9 @@ pub fn compare_keys(text: &[u8], p: u32, q: u32, shared: u32) -> Ordering
     if has_four(text, p, shared) & has_four(text, q, shared) {
         let x = four_of(text, p, shared);
         let y = four_of(text, q, shared);
-        if x < y {
-            return Ordering::Less;
+        if x != y {
+            return x.cmp(&y);
         }
-        if y < x {
-            return Ordering::Greater;
-        }
-        return compare_rests(text, p, q, shared);
     }
     compare_rests(text, p, q, shared)
 }

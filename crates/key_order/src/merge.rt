@@ -4,19 +4,16 @@ ghost use Rattle.sheets.specs.Rule.{Meets};
 ghost use Rattle.key_order.specs.Entry.{rest_at};
 ghost use Rattle.key_order.specs.Merge.{ascends, precedes, Mergeable, Halves, Merges};
 
-use byte_order::Ordering;
+use std::cmp::Ordering;
 
 // Writes s into out from `at` on; where it ends.
 pub fn put_at(out: &mut [u32], at: usize, s: &[u32]) -> usize
     requires { at + length s.now ≤ length out.old }
     ensures { (result ≡ at + length s.now) × (take result out.new ≡ take at out.old ++ s.now) }
 {
-    let mut i = 0;
-    while i < s.len() {
-        out[at + i] = s[i];
-        i += 1;
-    }
-    at + s.len()
+    let end = at + s.len();
+    out[at..end].copy_from_slice(s);
+    end
 }
 
 // Merges a and b into out; of equal keys that of b stays. How many entries there are.
@@ -27,6 +24,7 @@ fn merge(text: &[u8], a: &[u32], b: &[u32], out: &mut [u32], shared: u32) -> usi
     let mut i = 0;
     let mut j = 0;
     let mut k = 0;
+    // by index: the three places advance at different speeds, so that iterators would be no plainer
     while i < a.len() {
         if b.len() <= j {
             return put_at(out, k, &a[i..]);
@@ -60,10 +58,7 @@ fn all_before(text: &[u8], a: &[u32], b: &[u32], shared: u32) -> bool
     requires { Meets (ascends (rest_at text.now shared) a.now) × Meets (ascends (rest_at text.now shared) b.now) }
     ensures { result ≡ true → Meets (precedes (rest_at text.now shared) a.now b.now) }
 {
-    if a.len() == 0 {
-        return false;
-    }
-    if b.len() == 0 {
+    if a.is_empty() || b.is_empty() {
         return false;
     }
     let p = a[a.len() - 1];

@@ -8,6 +8,7 @@ fn common(a: &[u8], b: &[u8], r: usize) -> usize
     ensures { (result ≤ r) × (take result a.now ≡ take result b.now) }
 {
     let mut i = 0;
+    // by index: four bytes are read at once as one number
     while 4 <= r - i {
         if b.len() < i + 4 {
             return i;
@@ -30,13 +31,11 @@ pub fn shared_by(text: &[u8], entries: &[u32]) -> u32
     }
     let first = crate::key_of(text, entries[0]);
     let mut r = first.len();
-    let mut k = 1;
-    while k < entries.len() {
+    for &e in &entries[1..] {
         if r < 4 {
             return 0;
         }
-        r = common(first, crate::key_of(text, entries[k]), r);
-        k += 1;
+        r = common(first, crate::key_of(text, e), r);
     }
     r as u32
 }

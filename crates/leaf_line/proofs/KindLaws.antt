@@ -3,7 +3,7 @@
 use mathlib.Core.Path.{◌≡◌, refl, sym, ap, subst, ◌∙◌}
 use mathlib.Core.Bool.{Bool, true, false, not, cond}
 use mathlib.Core.List.{List, [], ◌∷◌}
-use mathlib.Core.Option.{some}
+use Rattle.std.specs.Prelude.{Some}
 use Prim.Native.Nat.{ℕ, ◌≤◌, ◌<◌}
 use native.Mathlib.Omega.{arith}
 use lib.Dec.{eqb, leb, ltb}
@@ -48,7 +48,7 @@ record Said (t : Bytes) (kind : ℕ) : Type 0 where
   pub ascii : byte < 128
   pub known : kind ≤ Kind.LargeUtf8
 
-among : (t : Bytes) (kind : ℕ) (rs : List FormatRow) → Meets (each row_rule rs) → kind_among t rs ≡ some kind → Said t kind
+among : (t : Bytes) (kind : ℕ) (rs : List FormatRow) → Meets (each row_rule rs) → kind_among t rs ≡ Some kind → Said t kind
 among t kind [] m e = not_some e
 among t kind (r ∷ rs) m e = pick (same t (hex r.name)) refl e (among t kind rs m.1)
   where
@@ -63,12 +63,12 @@ among t kind (r ∷ rs) m e = pick (same t (hex r.name)) refl e (among t kind rs
           known = subst (λ (i : ℕ). i ≤ Kind.LargeUtf8) same_kind (leb-true r.kind Kind.LargeUtf8 k.1.1.1);
         }
 
-    pick : (u : Bool) → same t (hex r.name) ≡ u → cond u (some r.kind) (kind_among t rs) ≡ some kind → (kind_among t rs ≡ some kind → Said t kind) → Said t kind
+    pick : (u : Bool) → same t (hex r.name) ≡ u → cond u (Some r.kind) (kind_among t rs) ≡ Some kind → (kind_among t rs ≡ Some kind → Said t kind) → Said t kind
     pick true q f next = here (cc) (same_eq t (hex r.name) q)
     pick false q f next = next f
 
 -- what its byte means
-means : (byte kind : ℕ) → byte < 128 → kind_among (hex (byte ∷ [])) short_rows ≡ some kind → some (kind, 0) ≡ leaf_named (byte ∷ [])
+means : (byte kind : ℕ) → byte < 128 → kind_among (hex (byte ∷ [])) short_rows ≡ Some kind → Some (kind, 0) ≡ leaf_named (byte ∷ [])
 means byte kind h e =
     let m : Meets (all is_byte (byte ∷ [])) = (lt-ltb byte 256 (omega arith), refl) in
     sym (ap without_unit e) ∙ short_named (hex (byte ∷ [])) (is_hex_hex (byte ∷ []) m) refl ∙ ap leaf_named (bytes_hex (byte ∷ []) m)
@@ -79,7 +79,7 @@ leaf_kind sorted kind h =
     rw (ne_eqb kind Kind.List (λ e. omega arith), ne_eqb kind Kind.LargeList (λ e. omega arith), ne_eqb kind Kind.Map (λ e. omega arith), ne_eqb kind Kind.Struct (λ e. omega arith))
 
 -- the byte that the digits of a format say
-pub kind_names : (t : Bytes) (kind : ℕ) → kind_among t short_rows ≡ some kind → (byte : ℕ) × (t ≡ hex (byte ∷ [])) × Names (leaf_format kind) (byte ∷ [])
+pub kind_names : (t : Bytes) (kind : ℕ) → kind_among t short_rows ≡ Some kind → (byte : ℕ) × (t ≡ hex (byte ∷ [])) × Names (leaf_format kind) (byte ∷ [])
 kind_names t kind e =
     let s = among t kind short_rows rows_rule e in
     let n = means s.byte kind s.ascii (ap (λ (b : Bytes). kind_among b short_rows) (sym s.digits) ∙ e) in (

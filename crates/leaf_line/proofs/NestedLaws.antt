@@ -2,7 +2,7 @@
 use mathlib.Core.Path.{◌≡◌, refl, sym, ap, subst, ◌∙◌}
 use mathlib.Core.Bool.{Bool, true, false, cond}
 use mathlib.Core.List.{List, [], ◌∷◌, map}
-use mathlib.Core.Option.{none, some}
+use Rattle.std.specs.Prelude.{None, Some}
 use Prim.Native.Nat.{ℕ, ◌+◌, ◌≤◌, ◌<◌}
 use native.Mathlib.Omega.{arith}
 use lib.ListN.{length}
@@ -32,7 +32,7 @@ abbrev pub name_word : NestedType → ℕ
 name_word t = little_value (hex (nested_name t))
 
 module _ (w : ℕ) where
-  pub named_some : (t : NestedType) → w ≡ name_word t → some (nested_kind t) ≡ kind_among (low_bytes 4 w) named_rows
+  pub named_some : (t : NestedType) → w ≡ name_word t → Some (nested_kind t) ≡ kind_among (low_bytes 4 w) named_rows
   unfolding named_rows
   named_some list_type e = sym (ap (λ (b : Bytes). kind_among b named_rows) (low_is (hex (nested_name list_type)) w (refl, (refl, (refl, (refl, refl)))) (sym e)))
   named_some large_list_type e = sym (ap (λ (b : Bytes). kind_among b named_rows) (low_is (hex (nested_name large_list_type)) w (refl, (refl, (refl, (refl, refl)))) (sym e)))
@@ -47,7 +47,7 @@ module _ (w : ℕ) where
         pick true q = absurd (h (sym (little_value_lem 4 w (omega arith)) ∙ ap little_value (same_eq (low_bytes 4 w) t q)))
         pick false q = refl
 
-    pub named_none : (w ≡ name_word list_type → ⊥) → (w ≡ name_word large_list_type → ⊥) → (w ≡ name_word struct_type → ⊥) → none ≡ kind_among (low_bytes 4 w) named_rows
+    pub named_none : (w ≡ name_word list_type → ⊥) → (w ≡ name_word large_list_type → ⊥) → (w ≡ name_word struct_type → ⊥) → None ≡ kind_among (low_bytes 4 w) named_rows
     unfolding named_rows
     named_none a b c = rw (differs (hex (nested_name list_type)) a, differs (hex (nested_name large_list_type)) b, differs (hex (nested_name struct_type)) c)
 
@@ -55,15 +55,15 @@ module _ (w : ℕ) where
 abbrev Said : Bytes → ℕ → Type 0
 Said t kind = (type : NestedType) × (t ≡ hex (nested_name type)) × (nested_kind type ≡ kind)
 
-among : (t : Bytes) (kind : ℕ) (types : List NestedType) → kind_among t (map nested_row types) ≡ some kind → Said t kind
+among : (t : Bytes) (kind : ℕ) (types : List NestedType) → kind_among t (map nested_row types) ≡ Some kind → Said t kind
 among t kind [] h = not_some h
 among t kind (x ∷ types) h = pick (same t (hex (nested_name x))) refl h (among t kind types)
   where
-    pick : (u : Bool) → same t (hex (nested_name x)) ≡ u → cond u (some (nested_kind x)) (kind_among t (map nested_row types)) ≡ some kind → (kind_among t (map nested_row types) ≡ some kind → Said t kind) → Said t kind
+    pick : (u : Bool) → same t (hex (nested_name x)) ≡ u → cond u (Some (nested_kind x)) (kind_among t (map nested_row types)) ≡ Some kind → (kind_among t (map nested_row types) ≡ Some kind → Said t kind) → Said t kind
     pick true q f next = (x, same_eq t (hex (nested_name x)) q, same_some f)
     pick false q f next = next f
 
-named_told : (t : Bytes) (kind : ℕ) → kind_among t named_rows ≡ some kind → Said t kind
+named_told : (t : Bytes) (kind : ℕ) → kind_among t named_rows ≡ Some kind → Said t kind
 unfolding named_rows
 named_told t kind h = among t kind (list_type ∷ large_list_type ∷ struct_type ∷ []) h
 
@@ -88,27 +88,27 @@ module _ (s : Bytes) (at : ℕ) where
     unfolding nested_in
     nested_is = ap (nested_to s at) is_end
 
-    pub nested_none : (0 < c → c ≤ 9 → Kept 4 s at e c → ⊥) → none ≡ nested_in s at
+    pub nested_none : (0 < c → c ≤ 9 → Kept 4 s at e c → ⊥) → None ≡ nested_in s at
     nested_none h =
         sym (from_none (line_rule s at e) s e c (λ m. h (ltb-true 0 c m.0.0) (leb-true c 9 m.0.1) (kept 4 s at e c m.1)) (kind_among (part s at (at + 4)) named_rows)) ∙ nested_is
 
-    pub nested_some : {kind flags : ℕ} (n : ℕ) → n ≡ c → kind_among (part s at (at + 4)) named_rows ≡ some kind → 0 < n → n ≤ 9 → Kept 4 s at e n → flags_at s e ≡ flags
-        → some (kind, (e, (flags, n))) ≡ nested_in s at
+    pub nested_some : {kind flags : ℕ} (n : ℕ) → n ≡ c → kind_among (part s at (at + 4)) named_rows ≡ Some kind → 0 < n → n ≤ 9 → Kept 4 s at e n → flags_at s e ≡ flags
+        → Some (kind, (e, (flags, n))) ≡ nested_in s at
     nested_some {kind} {flags} n q k =
-        subst (λ (i : ℕ). 0 < i → i ≤ 9 → Kept 4 s at e i → flags_at s e ≡ flags → some (kind, (e, (flags, i))) ≡ nested_in s at) (sym q)
+        subst (λ (i : ℕ). 0 < i → i ≤ 9 → Kept 4 s at e i → flags_at s e ≡ flags → Some (kind, (e, (flags, i))) ≡ nested_in s at) (sym q)
         (λ l m h f. sym (from_some (line_rule s at e) s e c k ((lt-ltb 0 c l, le-leb c 9 m), keeps 4 s at e c h) f) ∙ nested_is)
 
-  pub nested_other : kind_among (part s at (at + 4)) named_rows ≡ none → none ≡ nested_in s at
+  pub nested_other : kind_among (part s at (at + 4)) named_rows ≡ None → None ≡ nested_in s at
   unfolding nested_in
   nested_other k = let e = pairs_from s (at + 5) in sym (ap (short_from (line_rule s at e) s e (children_at s e)) k)
 
   -- a name has a pair of digits or more
-  pub nested_short : length s < at + 16 → none ≡ nested_in s at
+  pub nested_short : length s < at + 16 → None ≡ nested_in s at
   nested_short h = nested_none (pairs_from s (at + 5)) refl (λ l m k. omega (arith, tail_high k.end, pairs_two s (at + 5) k.long))
 
 -- ── what `nested_in` tells
 
-pub nested_told : (s : Bytes) (at : ℕ) {kind e flags c : ℕ} → nested_in s at ≡ some (kind, (e, (flags, c))) → (t : NestedType) × (nested_kind t ≡ kind) × NestedAt s at t e flags c
+pub nested_told : (s : Bytes) (at : ℕ) {kind e flags c : ℕ} → nested_in s at ≡ Some (kind, (e, (flags, c))) → (t : NestedType) × (nested_kind t ≡ kind) × NestedAt s at t e flags c
 unfolding nested_in
 nested_told s at {kind} {e} {flags} {c} h =
     let end = pairs_from s (at + 5) in

@@ -3,7 +3,7 @@
 use mathlib.Core.Path.{◌≡◌, refl, sym, ap, subst, ◌∙◌}
 use mathlib.Core.Bool.{Bool, true, false, cond}
 use mathlib.Core.List.{List, [], ◌∷◌, ◌++◌}
-use mathlib.Core.Option.{Option, none, some}
+use Rattle.std.specs.Prelude.{Option, None, Some}
 use Prim.Native.Nat.{ℕ, suc, ◌+◌, ◌*◌, ◌-◌, ◌^◌, ◌≤◌, ◌<◌}
 use native.Mathlib.Numerals.{add-one}
 use native.Mathlib.Omega.{arith}
@@ -112,30 +112,30 @@ module _ (s : Bytes) (e c w flags : ℕ) (high : e + 9 ≤ length s) (few : c �
   tail_there : Tail s e c
   tail_there = record { digit = ap is_digit flags_here ∙ is_digit_lem flags digit; rest = ap (drop 1) (sym here ∙ there) }
 
-  pub flags_some : some flags ≡ flags_in s e c
+  pub flags_some : Some flags ≡ flags_in s e c
   unfolding flags_in
   flags_some =
       let n : flags ≡ flags_at s e = omega (arith, flags_here) in
-      ap some n ∙ ap (λ (t : Bool). cond t (some (flags_at s e)) none) (sym (passing (tail_rule s e c) (tail_keeps s e c tail_there)))
+      ap Some n ∙ ap (λ (t : Bool). cond t (Some (flags_at s e)) None) (sym (passing (tail_rule s e c) (tail_keeps s e c tail_there)))
 
-pub flags_none : (s : Bytes) (e c : ℕ) → (Tail s e c → ⊥) → none ≡ flags_in s e c
+pub flags_none : (s : Bytes) (e c : ℕ) → (Tail s e c → ⊥) → None ≡ flags_in s e c
 unfolding flags_in
 flags_none s e c h = pick (passes (tail_rule s e c)) refl
   where
-    pick : (t : Bool) → passes (tail_rule s e c) ≡ t → none ≡ cond t (some (flags_at s e)) none
+    pick : (t : Bool) → passes (tail_rule s e c) ≡ t → None ≡ cond t (Some (flags_at s e)) None
     pick true q = absurd (h (tail_kept s e c (meets (tail_rule s e c) q)))
     pick false q = refl
 
 -- what `flags_in` tells
-pub no_flags_lem : (s : Bytes) (e c : ℕ) → flags_in s e c ≡ none → Tail s e c → ⊥
+pub no_flags_lem : (s : Bytes) (e c : ℕ) → flags_in s e c ≡ None → Tail s e c → ⊥
 unfolding flags_in
-no_flags_lem s e c q m = not_some (sym q ∙ ap (λ (t : Bool). cond t (some (flags_at s e)) none) (passing (tail_rule s e c) (tail_keeps s e c m)))
+no_flags_lem s e c q m = not_some (sym q ∙ ap (λ (t : Bool). cond t (Some (flags_at s e)) None) (passing (tail_rule s e c) (tail_keeps s e c m)))
 
-pub flags_told : (s : Bytes) (e c flags : ℕ) → flags_in s e c ≡ some flags → Tail s e c × (flags_at s e ≡ flags)
+pub flags_told : (s : Bytes) (e c flags : ℕ) → flags_in s e c ≡ Some flags → Tail s e c × (flags_at s e ≡ flags)
 unfolding flags_in
 flags_told s e c flags q = pick (passes (tail_rule s e c)) refl q
   where
-    pick : (t : Bool) → passes (tail_rule s e c) ≡ t → cond t (some (flags_at s e)) none ≡ some flags → Tail s e c × (flags_at s e ≡ flags)
+    pick : (t : Bool) → passes (tail_rule s e c) ≡ t → cond t (Some (flags_at s e)) None ≡ Some flags → Tail s e c × (flags_at s e ≡ flags)
     pick true p f = (tail_kept s e c (meets (tail_rule s e c) p), same_some f)
     pick false p f = not_some f
 
@@ -164,26 +164,26 @@ abbrev told_at : Bytes → ℕ → ℕ → ℕ → Told
 told_at s e c kind = (kind, (e, (flags_at s e, c)))
 
 module _ (r : Rule) (s : Bytes) (e c : ℕ) where
-  pub from_none : (Meets r → ⊥) → (o : Option ℕ) → short_from r s e c o ≡ none
-  from_none h none = refl
-  from_none h (some kind) = pick (passes r) refl
+  pub from_none : (Meets r → ⊥) → (o : Option ℕ) → short_from r s e c o ≡ None
+  from_none h None = refl
+  from_none h (Some kind) = pick (passes r) refl
     where
-      pick : (t : Bool) → passes r ≡ t → cond t (some (told_at s e c kind)) none ≡ none
+      pick : (t : Bool) → passes r ≡ t → cond t (Some (told_at s e c kind)) None ≡ None
       pick true q = absurd (h (meets r q))
       pick false q = refl
 
-  pub from_some : {o : Option ℕ} {kind flags : ℕ} → o ≡ some kind → Meets r → flags_at s e ≡ flags → short_from r s e c o ≡ some (kind, (e, (flags, c)))
+  pub from_some : {o : Option ℕ} {kind flags : ℕ} → o ≡ Some kind → Meets r → flags_at s e ≡ flags → short_from r s e c o ≡ Some (kind, (e, (flags, c)))
   from_some {o} {kind} {flags} q m f =
-      ap (short_from r s e c) q ∙ ap (λ (t : Bool). cond t (some (told_at s e c kind)) none) (passing r m) ∙ (λ i. some (kind, (e, (f i, c))))
+      ap (short_from r s e c) q ∙ ap (λ (t : Bool). cond t (Some (told_at s e c kind)) None) (passing r m) ∙ (λ i. Some (kind, (e, (f i, c))))
 
-  pub from_told : {o : Option ℕ} {t : Told} → short_from r s e c o ≡ some t → (kind : ℕ) × (o ≡ some kind) × Meets r × (told_at s e c kind ≡ t)
+  pub from_told : {o : Option ℕ} {t : Told} → short_from r s e c o ≡ Some t → (kind : ℕ) × (o ≡ Some kind) × Meets r × (told_at s e c kind ≡ t)
   from_told {o} {t} q = go o refl q
     where
-      go : (p : Option ℕ) → o ≡ p → short_from r s e c p ≡ some t → (kind : ℕ) × (o ≡ some kind) × Meets r × (told_at s e c kind ≡ t)
-      go none i f = not_some f
-      go (some kind) i f = pick (passes r) refl f
+      go : (p : Option ℕ) → o ≡ p → short_from r s e c p ≡ Some t → (kind : ℕ) × (o ≡ Some kind) × Meets r × (told_at s e c kind ≡ t)
+      go None i f = not_some f
+      go (Some kind) i f = pick (passes r) refl f
         where
-          pick : (u : Bool) → passes r ≡ u → cond u (some (told_at s e c kind)) none ≡ some t → (kind : ℕ) × (o ≡ some kind) × Meets r × (told_at s e c kind ≡ t)
+          pick : (u : Bool) → passes r ≡ u → cond u (Some (told_at s e c kind)) None ≡ Some t → (kind : ℕ) × (o ≡ Some kind) × Meets r × (told_at s e c kind ≡ t)
           pick true p g = (kind, i, meets r p, same_some g)
           pick false p g = not_some g
 
@@ -208,9 +208,9 @@ text_column s a e b q bytes low high at =
     column_at_lem s a e 32 low high at (subst (λ (l : Bytes). Meets (lacks 32 l)) (sym q) (hex_lacks 32 refl b bytes)) (subst (λ (l : Bytes). Meets (lacks 10 l)) (sym q) (hex_lacks 10 refl b bytes))
 
 -- a text of one byte or more
-reads : (b : Bytes) → 0 < length b → is_utf8 b ≡ true → read_text (hex b) ≡ given (some b)
+reads : (b : Bytes) → 0 < length b → is_utf8 b ≡ true → read_text (hex b) ≡ given (Some b)
 reads [] h k = absurd (omega arith)
-reads (x ∷ b) h k = read_text_lem (some (x ∷ b)) (utf8_bytes (x ∷ b) k)
+reads (x ∷ b) h k = read_text_lem (Some (x ∷ b)) (utf8_bytes (x ∷ b) k)
 
 -- ── the line
 
@@ -276,7 +276,7 @@ module _ {f : ShortFormat} {s : Bytes} {at e flags c : ℕ} (t : Found f s at e 
     some_byte = omega (arith, t.bytes.long, tail_high m, ap length p.is, length_hex p.bytes, length-take (e - (at + (n + 1))) (drop (at + (n + 1)) s), length-drop (at + (n + 1)) s)
 
     abbrev line : Line
-    line = (some t.format, (some p.bytes, (pos flags, (none, (c, (0, tt))))))
+    line = (Some t.format, (Some p.bytes, (pos flags, (None, (c, (0, tt))))))
 
     name_utf8 : is_utf8 p.bytes ≡ true
     name_utf8 = ascii_utf8 p.bytes p.ascii
@@ -340,14 +340,14 @@ module _ {f : ShortFormat} {s : Bytes} {at e flags c : ℕ} (k : ShortAt f s at 
   name_some = omega (arith, ap length k.name, length_hex k.bytes, name_size, k.some)
 
   -- its bytes are there, and it says the format, the name, the flags and the children, and nothing else
-  pub short_says : k.line.line ≡ (some k.format, (some k.bytes, (pos flags, (none, (c, (0, tt))))))
+  pub short_says : k.line.line ≡ (Some k.format, (Some k.bytes, (pos flags, (None, (c, (0, tt))))))
   short_says =
       let x = k.line.line in
       let h = k.line.shows in
-      let format : x.0 ≡ some k.format = same_given (sym h.format.reads ∙ ap read_text k.is_format ∙ reads k.format k.names.some k.names.utf8) in
-      let name : x.1.0 ≡ some k.bytes = same_given (sym h.name.reads ∙ ap read_text k.name ∙ reads k.bytes name_some k.utf8) in
+      let format : x.0 ≡ Some k.format = same_given (sym h.format.reads ∙ ap read_text k.is_format ∙ reads k.format k.names.some k.names.utf8) in
+      let name : x.1.0 ≡ Some k.bytes = same_given (sym h.name.reads ∙ ap read_text k.name ∙ reads k.bytes name_some k.utf8) in
       let flag : x.1.1.0 ≡ pos flags = sym h.flags in
-      let metadata : x.1.1.1.0 ≡ none = same_given (sym h.metadata.reads ∙ ap read_text k.metadata) in
+      let metadata : x.1.1.1.0 ≡ None = same_given (sym h.metadata.reads ∙ ap read_text k.metadata) in
       let children : x.1.1.1.1.0 ≡ c = sym h.children in
       let dictionary : x.1.1.1.1.1.0 ≡ 0 = sym h.dictionary in
       λ i. (format i, (name i, (flag i, (metadata i, (children i, (dictionary i, tt))))))

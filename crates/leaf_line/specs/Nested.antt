@@ -1,7 +1,6 @@
 -- The short line of a list, a large list or a struct: `FFFF NN.. d ~ c 0`, with one child to nine. A map is left out, since the flags tell besides whether its
 -- keys are sorted. Assumes nothing.
-use Rattle.std.specs.Prelude.{List, [], ◌∷◌, map, ℕ, ◌+◌, ◌-◌, ◌≤◌, ◌<◌, leb, ltb, get_or}
-use Rattle.std.proofs.Math.Option.{Option, none, some}
+use Rattle.std.specs.Prelude.{List, [], ◌∷◌, map, ℕ, ◌+◌, ◌-◌, ◌≤◌, ◌<◌, leb, ltb, get_or, Option, None, Some}
 use Rattle.sheets.specs.Rule.{Rule, is, ◌and◌}
 use Rattle.sheets.specs.Bytes.{Bytes, ascii}
 use Rattle.sheets.specs.Field.{list, large_list, struct}
@@ -12,7 +11,6 @@ use Rattle.columns.specs.Pairs.{pairs_from}
 use Rattle.format_names.specs.ShortNames.{kind_among}
 use Rattle.leaf_line.specs.Short.{short_rule, Told, short_from, ShortFormat, ShortAt}
 use Rattle.leaf_line.specs.declared.Nested.{Nested}
-use Rattle.leaf_line.specs.declared.Nested.TheVariants as N
 
 -- ── the types
 
@@ -66,9 +64,9 @@ unfoldable pub nested_in : Bytes → ℕ → Option Told
 nested_in s at = nested_to s at (pairs_from s (at + 5))
 
 -- what `Nested` says
-abbrev pub nested_option : Nested → Option Told
-nested_option (N.Line kind e flags c) = some (kind, (e, (flags, c)))
-nested_option N.Other = none
+abbrev pub nested_option : Option Nested → Option Told
+nested_option (Some l) = Some (l.kind, (l.end, (l.flags, l.children)))
+nested_option None = None
 
 -- ── what is known of such a line
 

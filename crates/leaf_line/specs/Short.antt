@@ -1,7 +1,6 @@
 -- A short line, as most lines are: `F.. NN.. d ~ c 0`, a format of a fixed name, a name in ASCII, one digit of flags, no metadata, one digit of children and no
 -- dictionary. What `Leaf` and `Nested` say of their lines is said here once, over the digits of the format and the children. Assumes nothing.
-use Rattle.std.specs.Prelude.{◌≡◌, Bool, true, cond, [], ◌∷◌, ◌++◌, ℕ, ◌+◌, ◌-◌, ◌≤◌, ◌<◌, eqb, ltb, pos, length, get_or}
-use Rattle.std.proofs.Math.Option.{Option, none, some}
+use Rattle.std.specs.Prelude.{◌≡◌, Bool, true, cond, [], ◌∷◌, ◌++◌, ℕ, ◌+◌, ◌-◌, ◌≤◌, ◌<◌, eqb, ltb, pos, length, get_or, Option, None, Some}
 use Rattle.sheets.specs.Rule.{Rule, is, ◌and◌, passes, Meets}
 use Rattle.sheets.specs.Bytes.{Bytes, space, line_end, ascii, lacks, same}
 use Rattle.sheets.specs.Answer.{given}
@@ -13,8 +12,6 @@ use Rattle.sheets.specs.Utf8.{is_utf8}
 use Rattle.columns.specs.Columns.{part, part_of}
 use Rattle.schema_line.specs.declared.SchemaLine.{SchemaLine}
 use Rattle.schema_line.specs.Lines.{LineAt}
-use Rattle.leaf_line.specs.declared.Flags.{Flags}
-use Rattle.leaf_line.specs.declared.Flags.TheVariants as F
 
 -- ── the line
 
@@ -39,12 +36,7 @@ flags_at s e = get_or s (e + 1) 0 - 48
 
 -- the flags after a name that ends at e, if the line ends as one with c children does
 unfoldable pub flags_in : Bytes → ℕ → ℕ → Option ℕ
-flags_in s e c = cond (passes (tail_rule s e c)) (some (flags_at s e)) none
-
--- what `Flags` says
-abbrev pub flags_option : Flags → Option ℕ
-flags_option (F.Digit flags) = some flags
-flags_option F.Other = none
+flags_in s e c = cond (passes (tail_rule s e c)) (Some (flags_at s e)) None
 
 -- its kind, the end of its name, its flags, its children
 abbrev pub Told : Type 0
@@ -52,8 +44,8 @@ Told = ℕ × (ℕ × (ℕ × ℕ))
 
 -- the line of this kind whose name ends at e and which has c children, if it keeps the rule
 abbrev pub short_from : Rule → Bytes → ℕ → ℕ → Option ℕ → Option Told
-short_from r s e c none = none
-short_from r s e c (some kind) = cond (passes r) (some (kind, (e, (flags_at s e, c)))) none
+short_from r s e c None = None
+short_from r s e c (Some kind) = cond (passes r) (Some (kind, (e, (flags_at s e, c)))) None
 
 -- ── what is known of such a line
 

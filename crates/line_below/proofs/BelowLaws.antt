@@ -3,7 +3,7 @@
 use mathlib.Core.Path.{◌≡◌, refl, sym, ap, subst, ◌∙◌}
 use mathlib.Core.Bool.{Bool}
 use mathlib.Core.List.{List}
-use mathlib.Core.Option.{Option}
+use Rattle.std.specs.Prelude.{Option, Ok}
 use Prim.Native.Nat.{ℕ, ◌-◌, ◌≤◌, ◌<◌}
 use native.Mathlib.Omega.{arith}
 use lib.Dec.{eqb}
@@ -25,8 +25,6 @@ use Rattle.read_field_line.specs.declared.FieldLine.{FieldLine}
 use Rattle.field_sheet.proofs.SkipLaws.{line_row}
 use Rattle.walks.specs.Places.{own_limit, TypeAt, RowAt, HasType, BeginsAs, one_line}
 use Rattle.walks.specs.Answers.{begun_answer}
-use Rattle.walks.specs.declared.LineBegun.TheVariants.{Below}
-use Rattle.walks.specs.declared.Pending.TheVariants.{Nothing}
 use Rattle.walks.specs.declared.Subtree.{Subtree}
 use Rattle.walks.specs.declared.Subtrees.{Subtrees}
 use Rattle.walks.proofs.BeginLaws.{some_level, row_smaller, begin_visit}
@@ -78,10 +76,10 @@ module _ {s : Bytes} (tree : Subtree) {i : Option Info} {t : ArrowDataType} {es 
   -- the line's own lines ls are written
   pub all_visited : (ls : List Bytes) → walked ≡ line_walked 0 (given (writes (given ls) (visit visited))) (λ τ. row_walked step (type_below t) τ) (entry_lines (type_below t))
       → (out out' : Bytes) (len : ℕ) → PutFirst (ended ls) len out out' → len ≤ own_limit → (w : Subtrees) → w ≡ row_below tree l
-      → BeginsAs step s tree.at tree.levels tree.inside walked es out out' (begun_answer state (Below w (one_line len) Nothing))
+      → BeginsAs step s tree.at tree.levels tree.inside walked es out out' (begun_answer state (Ok (record { row = w; size = one_line len; pending = Ok tt })))
   all_visited ls o out out' len put short w e =
       let is : is_extension (type_shape t) ≡ eqb l.kind Kind.Extension = sym (line_extension f.stands k) in
-      subst (λ (y : Subtrees). BeginsAs step s tree.at tree.levels tree.inside walked es out out' (begun_answer state (Below y (one_line len) Nothing))) (sym e)
+      subst (λ (y : Subtrees). BeginsAs step s tree.at tree.levels tree.inside walked es out out' (begun_answer state (Ok (record { row = y; size = one_line len; pending = Ok tt })))) (sym e)
       (begin_visit step s tree.at tree.levels tree.inside walked (writes (given ls) (visit visited)) (type_below t) es 0 o
       (state left.levels left.inside) (λ x. visit (state (tree.levels - line_cost tree.inside (is x)) (is x)))
       l.end l.children left.levels left.inside (row_below_lem f k refl refl) (row_less f k refl refl) out out' len (given tt) put (omega (arith, k.there.low, short)) (omega (arith, k.there.low)))

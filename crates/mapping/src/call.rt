@@ -13,48 +13,42 @@ pub enum Call {
     FromPrimitiveType,
 }
 
-#[derive(Drop)]
-pub enum Named {
-    Is(Call),
-    Nothing,
-}
-
-pub fn call_named(name: &[u8]) -> Named {
+pub fn call_named(name: &[u8]) -> Option<Call> {
     if buffer::same(name, b"to_physical_type") {
-        return Named::Is(Call::ToPhysicalType);
+        return Some(Call::ToPhysicalType);
     }
     if buffer::same(name, b"underlying_physical_type") {
-        return Named::Is(Call::UnderlyingPhysicalType);
+        return Some(Call::UnderlyingPhysicalType);
     }
     if buffer::same(name, b"to_storage") {
-        return Named::Is(Call::ToStorage);
+        return Some(Call::ToStorage);
     }
     if buffer::same(name, b"to_storage_recursive") {
-        return Named::Is(Call::ToStorageRecursive);
+        return Some(Call::ToStorageRecursive);
     }
     if buffer::same(name, b"inner_dtype") {
-        return Named::Is(Call::InnerDtype);
+        return Some(Call::InnerDtype);
     }
     if buffer::same(name, b"get_child") {
-        return Named::Is(Call::GetChild);
+        return Some(Call::GetChild);
     }
     if buffer::same(name, b"is_nested") {
-        return Named::Is(Call::IsNested);
+        return Some(Call::IsNested);
     }
     if buffer::same(name, b"contains_dictionary") {
-        return Named::Is(Call::ContainsDictionary);
+        return Some(Call::ContainsDictionary);
     }
     conversion_named(name)
 }
 
-fn conversion_named(name: &[u8]) -> Named {
+fn conversion_named(name: &[u8]) -> Option<Call> {
     if buffer::same(name, b"from_integer_type") {
-        return Named::Is(Call::FromIntegerType);
+        return Some(Call::FromIntegerType);
     }
     if buffer::same(name, b"from_primitive_type") {
-        return Named::Is(Call::FromPrimitiveType);
+        return Some(Call::FromPrimitiveType);
     }
-    Named::Nothing
+    None
 }
 
 pub fn reads_sheet(call: Call) -> bool {

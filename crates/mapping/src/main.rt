@@ -6,11 +6,10 @@
 mod arguments;
 mod call;
 
-use crate::arguments::Asked;
 use crate::call::Call;
-use mapping_calls::YesNo;
 use mapping_calls::physical::PhysicalPlaces;
-use outcome::Answered;
+use outcome::Refused;
+use refusal::Refusal;
 use std::io;
 use std::io::Write;
 
@@ -29,21 +28,20 @@ fn print_places(rt: &HostRuntime, p: PhysicalPlaces) -> io::Result<()> {
     out.write_all(b"\n")
 }
 
-fn print_yes_no(rt: &HostRuntime, y: YesNo) -> io::Result<()> {
+fn print_yes_no(rt: &HostRuntime, y: Result<bool, Refusal>) -> io::Result<()> {
     let mut out = rt.stdout();
-    if y.number != 0 {
-        print_answer::print_refused(&mut out, &mut rt.stderr(), y.number)?;
-        return Ok(());
-    }
-    if y.answer {
-        out.write_all(b"yes\n")
-    } else {
-        out.write_all(b"no\n")
+    match y {
+        Err(reason) => {
+            print_answer::print_refused(&mut out, &mut rt.stderr(), reason.number())?;
+            Ok(())
+        }
+        Ok(true) => out.write_all(b"yes\n"),
+        Ok(false) => out.write_all(b"no\n"),
     }
 }
 
 // The answer of a call that writes a sheet; the other three write none, and are not asked here.
-fn ask(call: Call, index: u64, s: &[u8], out: &mut [u8]) -> Answered {
+fn ask(call: Call, index: u64, s: &[u8], out: &mut [u8]) -> Result<usize, Refused> {
     match call {
         Call::UnderlyingPhysicalType => field_calls::underlying_physical_type(s, out),
         Call::ToStorage => picked_types::to_storage(s, out),
@@ -65,7 +63,10 @@ fn print_sheet(rt: &HostRuntime, call: Call, index: u64, s: &[u8]) -> io::Result
 fn print_mapped(rt: &HostRuntime, call: Call, index: u64, s: &[u8]) -> io::Result<()> {
     match call {
         Call::ToPhysicalType => {
-            print_places(rt, mapping_calls::physical::to_physical_type(s).places())
+            print_places(
+                rt,
+                PhysicalPlaces::of(mapping_calls::physical::to_physical_type(s)),
+            )
         }
         Call::IsNested => print_yes_no(rt, mapping_calls::is_nested(s)),
         Call::ContainsDictionary => print_yes_no(rt, mapping_calls::contains_dictionary(s)),
@@ -81,7 +82,7 @@ fn print_read(rt: &HostRuntime, call: Call, index: u64) -> io::Result<()> {
 }
 
 fn main(rt: HostRuntime) -> io::Result<()> {
-    let Asked::Is(call, index) = arguments::ask_words(&rt, &mut rt.stderr())? else {
+    let Some((call, index)) = arguments::ask_words(&rt, &mut rt.stderr())? else {
         return Ok(());
     };
     if call::reads_sheet(call) {

@@ -2,7 +2,7 @@
 use mathlib.Core.Path.{◌≡◌, refl, sym, ap, subst, ◌∙◌}
 use mathlib.Core.Bool.{Bool, true, false}
 use mathlib.Core.List.{[]}
-use mathlib.Core.Option.{Option, none, some}
+use Rattle.std.specs.Prelude.{Option, None, Some, Ok, Err}
 use Prim.Native.Nat.{ℕ}
 use Rattle.sheets.specs.Bytes.{Bytes}
 use Rattle.sheets.specs.Answer.{Answer, refused, given, ◌>>=◌}
@@ -14,21 +14,17 @@ use Rattle.sheets.specs.TreeWalks.{HasTree}
 use Rattle.sheets.specs.Mappings.{is_nested, contains_dictionary}
 use Rattle.sheets.specs.Outcome.{yes_no, is_nested_outcome, contains_dictionary_outcome}
 use Rattle.refusal.specs.declared.Refusal.{Refusal as Reason}
-use Rattle.refusal.specs.Refusals.{refusal_of}
+use Rattle.refusal.specs.Refusals.{refusal_of, Refusing, answer_of}
 use Rattle.read_field_line.specs.FieldLines.{FieldLineAt}
 use Rattle.read_field_line.specs.declared.FieldLine.{FieldLine}
-use Rattle.field_sheet.specs.Sheets.{sheet_body, sheet_answer}
-use Rattle.field_sheet.specs.declared.SheetRead.{SheetRead}
-use Rattle.field_sheet.specs.declared.SheetRead.TheVariants.{Body, Refused as Unread}
+use Rattle.field_sheet.specs.Sheets.{sheet_body}
 use Rattle.field_sheet.proofs.SheetLaws.{Opens, sheet_opens, sheet_refused}
 use Rattle.nesting.specs.Nestings.{type_nesting, kind_nesting}
 use Rattle.nesting.specs.declared.Nesting.{Nesting}
 use Rattle.nesting.proofs.NestingLaws.{line_nesting}
 use Rattle.walks.specs.Places.{TypeAt, HasType}
 use Rattle.mapping_calls.specs.Answers.{nesting_nested}
-use Rattle.mapping_calls.specs.Searches.{end_option, TypeSearched}
-use Rattle.mapping_calls.specs.declared.dictionaries.Search.{Search}
-use Rattle.mapping_calls.specs.declared.dictionaries.Search.TheVariants as Search
+use Rattle.mapping_calls.specs.Searches.{TypeSearched}
 
 nested_is : (t : ArrowDataType) → nesting_nested (type_nesting t) ≡ is_nested t
 nested_is (scalar s) = refl
@@ -40,23 +36,23 @@ nested_is (grouped g fs) = refl
 nested_is (dictionary ix ordered t) = refl
 nested_is (extension n m t) = refl
 
-module _ (s : Bytes) (k : SheetRead) (h : sheet_answer k ≡ sheet_body s) where
+module _ (s : Bytes) (k : Refusing ℕ) (h : answer_of k ≡ sheet_body s) where
   -- no field sheet
-  pub sheet_unread : {A : Type 0} (q : Reason) → k ≡ Unread q → (pick : Field → Answer A) → refused (refusal_of q) ≡ (read_field_sheet s >>= pick)
-  sheet_unread {A} q e pick = ap (λ (a : Answer Field). a >>= pick) (sym (sheet_refused s (sym h ∙ ap sheet_answer e)))
+  pub sheet_unread : {A : Type 0} (q : Reason) → k ≡ Err q → (pick : Field → Answer A) → refused (refusal_of q) ≡ (read_field_sheet s >>= pick)
+  sheet_unread {A} q e pick = ap (λ (a : Answer Field). a >>= pick) (sym (sheet_refused s (sym h ∙ ap answer_of e)))
 
-  module _ (at : ℕ) (e : k ≡ Body at) where
+  module _ (at : ℕ) (e : k ≡ Ok at) where
     pub read : (f : Field) × Opens s at f
-    read = sheet_opens s (sym h ∙ ap sheet_answer e)
+    read = sheet_opens s (sym h ∙ ap answer_of e)
 
-    pub read_type : TypeAt s at level_limit false (some read.0.info) read.0.type []
+    pub read_type : TypeAt s at level_limit false (Some read.0.info) read.0.type []
     read_type = let o = read.1 in record { stands = o.stands; deep = o.levels; short = o.short }
 
     pub read_there : HasType s at level_limit false
-    read_there = (some read.0.info, read.0.type, [], read_type)
+    read_there = (Some read.0.info, read.0.type, [], read_type)
 
     pub read_tree : HasTree fields s at
-    read_tree = ((some read.0.info, read.0.type), [], read_type.stands)
+    read_tree = ((Some read.0.info, read.0.type), [], read_type.stands)
 
     -- what is made of the field that was read
     pub sheet_read : {A : Type 0} (pick : Field → Answer A) (a : Answer A) → a ≡ pick read.0 → a ≡ (read_field_sheet s >>= pick)
@@ -66,14 +62,14 @@ module _ (s : Bytes) (k : SheetRead) (h : sheet_answer k ≡ sheet_body s) where
     nested_told l there n m b c =
         ap yes_no (sheet_read (λ f. given (is_nested f.type)) (given b) (ap given (c ∙ ap nesting_nested (line_nesting read_type.stands there m) ∙ nested_is read.0.type)))
 
-    module _ (r : Search) (w : TypeSearched s (record { at = at; levels = level_limit; inside = false }) (end_option r)) where
-      told : (o : Option ℕ) → end_option r ≡ o → TypeSearched s (record { at = at; levels = level_limit; inside = false }) o
+    module _ (r : Option ℕ) (w : TypeSearched s (record { at = at; levels = level_limit; inside = false }) r) where
+      told : (o : Option ℕ) → r ≡ o → TypeSearched s (record { at = at; levels = level_limit; inside = false }) o
       told o c = subst (TypeSearched s (record { at = at; levels = level_limit; inside = false })) c w
 
-      pub found_told : r ≡ Search.Found → yes_no (given true) ≡ contains_dictionary_outcome s
+      pub found_told : r ≡ None → yes_no (given true) ≡ contains_dictionary_outcome s
       found_told c =
-          ap yes_no (sheet_read (λ f. given (contains_dictionary f.type)) (given true) (ap given (sym (told none (ap end_option c) (some read.0.info) read.0.type [] read_type))))
+          ap yes_no (sheet_read (λ f. given (contains_dictionary f.type)) (given true) (ap given (sym (told None c (Some read.0.info) read.0.type [] read_type))))
 
-      pub absent_told : (next : ℕ) → r ≡ Search.To next → yes_no (given false) ≡ contains_dictionary_outcome s
+      pub absent_told : (next : ℕ) → r ≡ Some next → yes_no (given false) ≡ contains_dictionary_outcome s
       absent_told next c =
-          ap yes_no (sheet_read (λ f. given (contains_dictionary f.type)) (given false) (ap given (sym (told (some next) (ap end_option c) (some read.0.info) read.0.type [] read_type).0)))
+          ap yes_no (sheet_read (λ f. given (contains_dictionary f.type)) (given false) (ap given (sym (told (Some next) c (Some read.0.info) read.0.type [] read_type).0)))

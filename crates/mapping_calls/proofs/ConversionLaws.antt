@@ -1,7 +1,7 @@
 -- The sheet of a conversion is that of the type, which is a scalar; and each way out is the outcome that is defined. Assumes nothing.
 use mathlib.Core.Path.{◌≡◌, refl, sym, ap, ◌∙◌}
 use mathlib.Core.List.{List, [], ◌∷◌, ◌++◌, append_assoc}
-use mathlib.Core.Option.{none, some}
+use Rattle.std.specs.Prelude.{None, Some, Result}
 use Prim.Native.Nat.{ℕ, ◌≤◌, ◌<◌, ◌^◌}
 use native.Mathlib.Omega.{arith}
 use lib.ListN.{length}
@@ -22,7 +22,7 @@ use Rattle.datatypes.specs.declared.dtype.Dtype.{Dtype}
 use Rattle.datatypes.proofs.AtLaws.{Each, found}
 use Rattle.datatypes.proofs.DtypeLaws.{converted}
 use Rattle.outcome.specs.Answers.{outcome_of, Tells}
-use Rattle.outcome.specs.declared.Answered.{Answered}
+use Rattle.outcome.specs.declared.Refused.{Refused}
 use Rattle.mapping_calls.specs.Conversions.{dtype_sheet, DtypeAnswered}
 
 dtype_sheet_lem : (d : Dtype) (s : Scalar) → columns (of_scalar s) ≡ dtype_columns d → dtype_sheet d ≡ write_bare_sheet (scalar s)
@@ -34,9 +34,9 @@ dtype_sheet_lem d s e =
     ∙ append_assoc heading (columns_piece (dtype_columns d) ++ bare) (end_piece 0)
     ∙ ap (λ (c : Columns). heading ++ ((columns_piece c ++ bare) ++ end_piece 0)) (sym e)
     ∙ ap (λ (b : Bytes). heading ++ b) (sym (bare_line (of_scalar s) 0))
-    ∙ append_assoc field_heading (line_end ∷ []) (ended (type_lines (scalar s) none))
+    ∙ append_assoc field_heading (line_end ∷ []) (ended (type_lines (scalar s) None))
 
-pub dtype_answered : (d : Dtype) (out mid out' : Bytes) (len : ℕ) (r : Answered) → PutAt 0 (dtype_sheet d) len out mid → Tells mid len r out' → DtypeAnswered d out (outcome_of r.number r.length out')
+pub dtype_answered : (d : Dtype) (out mid out' : Bytes) (len : ℕ) (r : Result ℕ Refused) → PutAt 0 (dtype_sheet d) len out mid → Tells mid len r out' → DtypeAnswered d out (outcome_of r out')
 dtype_answered d out mid out' len r p t a h =
     let c = converted a d h in
     t (dtype_sheet d) out (put_over (dtype_sheet d) out p)
@@ -56,7 +56,7 @@ pub numbers_short : (d : Dtype) → d.kind < 2 ^ 64 → d.p < 2 ^ 64 → d.q < 2
 numbers_short d h k l = omega (arith, shape_short d.kind d.p d.q no_text no_text h k l)
 
 -- the case at a place has that place
-pub place_is : {A : Type 0} (place : A → ℕ) (n : ℕ) (l : List A) (x : A) → first_at place n l ≡ some x → place x ≡ n
+pub place_is : {A : Type 0} (place : A → ℕ) (n : ℕ) (l : List A) (x : A) → first_at place n l ≡ Some x → place x ≡ n
 place_is {A} place n l x h = found place (λ m y. place y ≡ m) n l (same l) x h
   where
     same : (l : List A) → Each (λ (a : A). place a ≡ place a) l

@@ -3,7 +3,7 @@
 use mathlib.Core.Path.{◌≡◌, refl, sym, ap, subst, ◌∙◌}
 use mathlib.Core.Bool.{Bool, true, false, ◌||◌}
 use mathlib.Core.List.{List, [], ◌∷◌, ◌++◌}
-use mathlib.Core.Option.{Option, none, some}
+use Rattle.std.specs.Prelude.{Option, None, Some}
 use Prim.Native.Nat.{ℕ, ◌+◌, ◌-◌, ◌≤◌, ◌<◌}
 use native.Mathlib.Omega.{arith}
 use lib.Dec.{eqb}
@@ -11,8 +11,7 @@ use Rattle.sheets.specs.Bytes.{Bytes}
 use Rattle.sheets.specs.Kind
 use Rattle.sheets.specs.Field.{Info, list, large_list, fixed_size_list, map, ArrowDataType, scalar, nested, grouped, dictionary, extension, Fields, nil, add}
 use Rattle.sheets.specs.FieldSheet.{Entry, columns}
-use Rattle.sheets.specs.LineTrees.{tallest}
-use Rattle.sheets.specs.FieldTrees.{Head, line_cost, push_fields, type_shape, type_below, fields}
+use Rattle.sheets.specs.FieldTrees.{Head, line_cost, push_fields, type_shape, type_below}
 use Rattle.sheets.specs.Mappings.{contains_dictionary, any_dictionary}
 use Rattle.sheets.proofs.Tests.{never}
 use Rattle.sheets.proofs.FieldTrees.{fields_lawful}
@@ -82,13 +81,13 @@ scalar_contains (extension n m t) h = never (sym h)
 -- ── the line that was read
 
 module _ {s : Bytes} {at levels : ℕ} {inside : Bool} {i : Option Info} {t : ArrowDataType} {es : List Entry} (f : TypeAt s at levels inside i t es) where
-  pub leaf_searched : {kind from e n : ℕ} → FieldLeafAt s at kind from e n → SearchedAs s es (contains_dictionary t) (some (e + 7))
+  pub leaf_searched : {kind from e n : ℕ} → FieldLeafAt s at kind from e n → SearchedAs s es (contains_dictionary t) (Some (e + 7))
   leaf_searched {kind} {from} {e} {n} k =
       let d = leaf_to_lem k inside levels (some_level f) (i, t) es f.stands in
       (scalar_contains t (ap (λ (x : Head). nesting_nested (shape_nesting x.shape)) (line_below fields_lawful k.line (i, t) es f.stands).0), d.1, d.3)
 
   module _ {l : FieldLine} (k : FieldLineAt s at l) where
-    pub found_here : l.kind ≡ Kind.Dictionary → SearchedAs s es (contains_dictionary t) none
+    pub found_here : l.kind ≡ Kind.Dictionary → SearchedAs s es (contains_dictionary t) None
     found_here e = dictionary_contains t (sym (ap is_dictionary (line_nesting f.stands k refl)) ∙ ap (λ (n : ℕ). is_dictionary (kind_nesting n)) e)
 
     module _ {e : Bool} {cost : ℕ} (ext : e ≡ eqb l.kind Kind.Extension) (is : cost ≡ line_cost inside e) where
@@ -112,10 +111,10 @@ module _ {s : Bytes} {levels : ℕ} {inside : Bool} {here left : ℕ} {us es : L
   first_at : (x : Entry) (vs : List Entry) → RowAt s here left levels inside (x ∷ vs) es → TypeAt s here levels inside x.0 x.1 (vs ++ es)
   first_at x vs h = record { stands = h.stands; deep = omega (arith, h.deep, tallest_cons inside x vs); short = h.short }
 
-  pub searching_all : left ≤ 0 → SearchedAs s es (any_contains us) (some here)
+  pub searching_all : left ≤ 0 → SearchedAs s es (any_contains us) (Some here)
   searching_all l = go g.vs g.rest g.same
     where
-      go : (vs : List Entry) → RowAt s here left levels inside vs es → any_contains us ≡ any_contains vs → SearchedAs s es (any_contains us) (some here)
+      go : (vs : List Entry) → RowAt s here left levels inside vs es → any_contains us ≡ any_contains vs → SearchedAs s es (any_contains us) (Some here)
       go [] h b = (b, h.stands, h.within)
       go (x ∷ vs) h b = absurd (omega (arith, h.counted))
 
@@ -131,20 +130,20 @@ module _ {s : Bytes} {levels : ℕ} {inside : Bool} {here left : ℕ} {us es : L
       told : (q : Option ℕ) → o ≡ q → TypeSearched s (record { at = here; levels = levels; inside = inside }) q
       told q e = subst (λ (x : Option ℕ). TypeSearched s (record { at = here; levels = levels; inside = inside }) x) e w
 
-      pub searching_found : o ≡ none → SearchedAs s es (any_contains us) none
+      pub searching_found : o ≡ None → SearchedAs s es (any_contains us) None
       searching_found e = go g.vs g.rest g.same
         where
           go : (vs : List Entry) → RowAt s here left levels inside vs es → any_contains us ≡ any_contains vs → any_contains us ≡ true
           go [] h b = absurd (omega (arith, h.counted))
-          go (x ∷ vs) h b = b ∙ ap (λ (y : Bool). y || any_contains vs) (told none e x.0 x.1 (vs ++ es) (first_at x vs h))
+          go (x ∷ vs) h b = b ∙ ap (λ (y : Bool). y || any_contains vs) (told None e x.0 x.1 (vs ++ es) (first_at x vs h))
 
-      pub searching_more : (next : ℕ) → o ≡ some next → Searching s levels inside next (left - 1) us es
+      pub searching_more : (next : ℕ) → o ≡ Some next → Searching s levels inside next (left - 1) us es
       searching_more next e = go g.vs g.rest g.same
         where
           go : (vs : List Entry) → RowAt s here left levels inside vs es → any_contains us ≡ any_contains vs → Searching s levels inside next (left - 1) us es
           go [] h b = absurd (omega (arith, h.counted))
           go (x ∷ vs) h b =
-              let d = told (some next) e x.0 x.1 (vs ++ es) (first_at x vs h) in
+              let d = told (Some next) e x.0 x.1 (vs ++ es) (first_at x vs h) in
               record {
                 vs = vs;
                 rest = record { stands = d.1; counted = omega (arith, h.counted); deep = omega (arith, h.deep, tallest_cons inside x vs); within = d.2; short = h.short };

@@ -1,20 +1,17 @@
 -- What the calls that answer numbers tell, as the answer that the definitions give (sheets/specs/Outcome). Assumes nothing.
-use Rattle.std.specs.Prelude.{Bool, true, false}
-use Rattle.sheets.specs.FieldSheet.{to_nat}
+use Rattle.std.specs.Prelude.{Bool, true, false, Ok, Err}
 use Rattle.sheets.specs.Answer.{refused, given}
-use Rattle.sheets.specs.Outcome.{YesNo, Places, places}
-use Rattle.refusal.specs.Refusals.{refusal_of}
+use Rattle.sheets.specs.Outcome.{YesNo, yes_no, Places, places}
+use Rattle.refusal.specs.Refusals.{refusal_of, Refusing, answer_of}
 use Rattle.datatypes.specs.PhysicalPlaces.{physical_of}
 use Rattle.nesting.specs.declared.Nesting.{Nesting}
 use Rattle.nesting.specs.declared.Nesting.TheVariants as N
-use Rattle.mapping_calls.specs.declared.YesNo.{YesNo as Answered}
-use Rattle.mapping_calls.specs.declared.physical.PhysicalAnswer.{PhysicalAnswer}
-use Rattle.mapping_calls.specs.declared.physical.PhysicalAnswer.TheVariants as P
 use Rattle.mapping_calls.specs.declared.physical.PhysicalPlaces.{PhysicalPlaces}
+use Rattle.datatypes.specs.declared.physical_type.PhysicalType.{PhysicalType}
 
--- yes is 1, no is 0
-abbrev pub yes_no_of : Answered → YesNo
-yes_no_of r = record { number = r.number; answer = to_nat r.answer }
+-- 0 and 1 for yes, 0 for no; or the number of the refusal, and 0
+abbrev pub yes_no_of : Refusing Bool → YesNo
+yes_no_of r = yes_no (answer_of r)
 
 -- `is_nested` by how a type holds others
 abbrev pub nesting_nested : Nesting → Bool
@@ -30,6 +27,6 @@ abbrev pub places_of : PhysicalPlaces → Places
 places_of r = record { number = r.number; place = r.place; inner = r.inner }
 
 -- the numbers of document 01 for each case of the answer
-abbrev pub physical_places : PhysicalAnswer → Places
-physical_places (P.Is t) = places (given (physical_of t))
-physical_places (P.Refused r) = places (refused (refusal_of r))
+abbrev pub physical_places : Refusing PhysicalType → Places
+physical_places (Ok t) = places (given (physical_of t))
+physical_places (Err r) = places (refused (refusal_of r))

@@ -1,6 +1,5 @@
 -- The sheet that a conversion answers: the heading and one bare line. Assumes nothing.
-use Rattle.std.specs.Prelude.{◌≡◌, ◌++◌}
-use Rattle.std.proofs.Math.Option.{some}
+use Rattle.std.specs.Prelude.{◌≡◌, ◌++◌, Some}
 use Rattle.sheets.specs.Bytes.{Bytes}
 use Rattle.sheets.specs.Answer.{Answer}
 use Rattle.sheets.specs.Sheet.{heading_line}
@@ -17,4 +16,4 @@ dtype_sheet d = ((heading_line field_heading ++ columns_piece (dtype_columns d))
 
 -- the outcome for whatever was converted into the type
 abbrev pub DtypeAnswered : Dtype → Bytes → Outcome → Type 0
-DtypeAnswered d out o = (a : Answer ArrowDataType) → type_columns a ≡ some (dtype_columns d) → o ≡ outcome (converted a) out
+DtypeAnswered d out o = (a : Answer ArrowDataType) → type_columns a ≡ Some (dtype_columns d) → o ≡ outcome (converted a) out

@@ -1,6 +1,5 @@
 -- What looking for a dictionary tells of the types that stand at a place of a sheet: that one of them has one, or where their lines end. Assumes nothing.
-use Rattle.std.specs.Prelude.{◌≡◌, Bool, true, false, ◌||◌, List, [], ◌∷◌, ℕ, ◌≤◌, length, drop}
-use Rattle.std.proofs.Math.Option.{Option, none, some}
+use Rattle.std.specs.Prelude.{◌≡◌, Bool, true, false, ◌||◌, List, [], ◌∷◌, ℕ, ◌≤◌, length, drop, Option, None, Some}
 use Rattle.sheets.specs.Bytes.{Bytes}
 use Rattle.sheets.specs.Field.{Info, ArrowDataType}
 use Rattle.sheets.specs.FieldSheet.{Entry}
@@ -10,13 +9,6 @@ use Rattle.sheets.specs.Mappings.{contains_dictionary}
 use Rattle.walks.specs.Places.{TypeAt, RowAt}
 use Rattle.walks.specs.declared.Subtree.{Subtree}
 use Rattle.walks.specs.declared.Subtrees.{Subtrees}
-use Rattle.mapping_calls.specs.declared.dictionaries.Search.{Search}
-use Rattle.mapping_calls.specs.declared.dictionaries.Search.TheVariants.{Found, To}
-
--- the end, where there is no dictionary
-abbrev pub end_option : Search → Option ℕ
-end_option Found = none
-end_option (To next) = some next
 
 -- one of the types contains a dictionary
 abbrev pub any_contains : List Entry → Bool
@@ -25,8 +17,8 @@ any_contains (x ∷ xs) = contains_dictionary x.1 || any_contains xs
 
 -- whether there is one, where what stands from here on has es after it
 abbrev pub SearchedAs : Bytes → List Entry → Bool → Option ℕ → Type 0
-SearchedAs s es b none = b ≡ true
-SearchedAs s es b (some next) = (b ≡ false) × Standing fields (drop next s) es × (next ≤ length s)
+SearchedAs s es b None = b ≡ true
+SearchedAs s es b (Some next) = (b ≡ false) × Standing fields (drop next s) es × (next ≤ length s)
 
 abbrev pub TypeSearched : Bytes → Subtree → Option ℕ → Type 0
 TypeSearched s tree o = (i : Option Info) (t : ArrowDataType) (es : List Entry) → TypeAt s tree.at tree.levels tree.inside i t es → SearchedAs s es (contains_dictionary t) o

@@ -6,8 +6,8 @@ ghost use Rattle.outcome.specs.Answers.{outcome_of};
 ghost use Rattle.mapping_calls.specs.Conversions.{dtype_sheet, DtypeAnswered};
 
 use datatypes::dtype::Dtype;
-use datatypes::{IntegerType, IntegerTypeAt, PrimitiveType, PrimitiveTypeAt};
-use outcome::Answered;
+use datatypes::{IntegerType, PrimitiveType};
+use outcome::Refused;
 use refusal::Refusal;
 
 // Writes the heading and the bare line of the type, as far as they fit; their length.
@@ -21,29 +21,29 @@ fn put_dtype(d: Dtype, out: &mut [u8]) -> usize
 }
 
 // Answers a type that there is.
-fn answer_dtype(d: Dtype, out: &mut [u8]) -> Answered
-    ensures { DtypeAnswered d out.old (outcome_of result.number result.length out.new) }
+fn answer_dtype(d: Dtype, out: &mut [u8]) -> Result<usize, Refused>
+    ensures { DtypeAnswered d out.old (outcome_of result out.new) }
 {
     let len = put_dtype(d, out);
     outcome::written(out, len)
 }
 
 // `From<IntegerType>`, by the place.
-pub fn from_integer_type(place: u64, out: &mut [u8]) -> Answered
-    ensures { outcome_of result.number result.length out.new ≡ from_integer_type_outcome place out.old }
+pub fn from_integer_type(place: u64, out: &mut [u8]) -> Result<usize, Refused>
+    ensures { outcome_of result out.new ≡ from_integer_type_outcome place out.old }
 {
     match IntegerType::at(place) {
-        IntegerTypeAt::Nothing => outcome::refuse(out, Refusal::UndefinedMapping),
-        IntegerTypeAt::Is(t) => answer_dtype(Dtype::from_integer_type(t), out),
+        None => outcome::refuse(out, Refusal::UndefinedMapping),
+        Some(t) => answer_dtype(Dtype::from_integer_type(t), out),
     }
 }
 
 // `From<PrimitiveType>`, by the place.
-pub fn from_primitive_type(place: u64, out: &mut [u8]) -> Answered
-    ensures { outcome_of result.number result.length out.new ≡ from_primitive_type_outcome place out.old }
+pub fn from_primitive_type(place: u64, out: &mut [u8]) -> Result<usize, Refused>
+    ensures { outcome_of result out.new ≡ from_primitive_type_outcome place out.old }
 {
     match PrimitiveType::at(place) {
-        PrimitiveTypeAt::Nothing => outcome::refuse(out, Refusal::UndefinedMapping),
-        PrimitiveTypeAt::Is(t) => answer_dtype(Dtype::from_primitive_type(t), out),
+        None => outcome::refuse(out, Refusal::UndefinedMapping),
+        Some(t) => answer_dtype(Dtype::from_primitive_type(t), out),
     }
 }

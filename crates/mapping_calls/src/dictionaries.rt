@@ -1,31 +1,23 @@
 // A dictionary looked for among the lines of a type, by a recursion on the levels left.
 ghost use Rattle.walks.specs.Places.{HasType, HasRow};
-ghost use Rattle.mapping_calls.specs.Searches.{end_option, TypeSearched, RowSearched};
+ghost use Rattle.mapping_calls.specs.Searches.{TypeSearched, RowSearched};
 
 use datatypes::kind;
-use field_leaf::FieldLeaf;
 use field_sheet::levels;
 use walks::{Subtree, Subtrees};
 
-// There is a dictionary; or there is none, and the lines end here.
-#[derive(Drop)]
-pub enum Search {
-    Found,
-    To(usize),
-}
-
-// A leaf's short line is recognised at once, and is no dictionary.
+// Where the lines of the type end; or there is a dictionary among them. A leaf's short line is recognised at once, and is no dictionary.
 #[cycle(search_row_search_type)]
-pub fn search_type(s: &[u8], tree: Subtree) -> Search
+pub fn search_type(s: &[u8], tree: Subtree) -> Option<usize>
     requires { HasType s.now tree.at tree.levels tree.inside }
-    ensures { TypeSearched s.now tree (end_option result) }
+    ensures { TypeSearched s.now tree result }
 {
-    if let FieldLeaf::Line(_, _, e, _) = field_leaf::leaf_at(s, tree.at) {
-        return Search::To(e + field_leaf::AFTER_NAME);
+    if let Some(leaf) = field_leaf::leaf_at(s, tree.at) {
+        return Some(leaf.end + field_leaf::AFTER_NAME);
     }
     let l = read_field_line::field_line_at(s, tree.at);
     if l.kind == kind::DICTIONARY {
-        return Search::Found;
+        return None;
     }
     let inside = levels::is_extension(l.kind);
     let cost = levels::line_cost(tree.inside, inside);
@@ -40,23 +32,18 @@ pub fn search_type(s: &[u8], tree: Subtree) -> Search
 
 // The same of types that stand one after the other.
 #[cycle(search_row_search_type)]
-fn search_row(s: &[u8], row: Subtrees) -> Search
+fn search_row(s: &[u8], row: Subtrees) -> Option<usize>
     requires { HasRow s.now row.at row.count row.levels row.inside }
-    ensures { RowSearched s.now row (end_option result) }
+    ensures { RowSearched s.now row result }
 {
     let mut here = row.at;
-    let mut left = row.count;
-    while 0 < left {
+    for i in 0..row.count {
         let tree = Subtree {
             at: here,
             levels: row.levels,
             inside: row.inside,
         };
-        let Search::To(next) = search_type(s, tree) else {
-            return Search::Found;
-        };
-        here = next;
-        left -= 1;
+        here = search_type(s, tree)?;
     }
-    Search::To(here)
+    Some(here)
 }

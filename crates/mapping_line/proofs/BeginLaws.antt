@@ -3,7 +3,7 @@
 use mathlib.Core.Path.{◌≡◌, refl, sym, ap, subst, ◌∙◌}
 use mathlib.Core.Bool.{Bool, true, false}
 use mathlib.Core.List.{List, [], ◌∷◌}
-use mathlib.Core.Option.{Option, none}
+use Rattle.std.specs.Prelude.{Option, None, Ok}
 use Prim.Native.Nat.{ℕ, ◌+◌, ◌<◌}
 use native.Mathlib.Omega.{arith}
 use Rattle.sheets.specs.Refusal.{undefined_mapping}
@@ -23,9 +23,6 @@ use Rattle.read_field_line.specs.declared.FieldLine.{FieldLine}
 use Rattle.outcome.specs.declared.Size.{Size}
 use Rattle.walks.specs.Places.{TypeAt, BeginsAs}
 use Rattle.walks.specs.Answers.{begun_answer}
-use Rattle.walks.specs.declared.LineBegun.{LineBegun}
-use Rattle.walks.specs.declared.LineBegun.TheVariants as B
-use Rattle.walks.specs.declared.Pending.TheVariants.{Nothing}
 use Rattle.walks.specs.declared.Subtree.{Subtree}
 use Rattle.walks.specs.declared.Subtrees.{Subtrees}
 use Rattle.storage_line.specs.StorageLines.{StorageAt}
@@ -38,9 +35,11 @@ use Rattle.mapping_line.specs.Changes.{change_of, line_change_of}
 use Rattle.mapping_line.specs.declared.change.Change.{Change}
 use Rattle.mapping_line.specs.declared.change.LineChange.{LineChange}
 use Rattle.mapping_line.specs.declared.change.LineChange.TheVariants.{Stays, Becomes, Undefined}
-use Rattle.mapping_line.specs.declared.put.FieldColumns.{FieldColumns}
 use Rattle.mapping_line.proofs.PutLaws.{columns_there, columns_said}
+use Rattle.refusal.specs.Refusals.{Refusing}
 use Rattle.mapping_line.proofs.ChangeLaws.{Becoming, becoming, index_small, change_opened}
+use Rattle.walks.specs.declared.LineBegun.{LineBegun}
+use Rattle.columns.specs.declared.Part.{Part}
 
 module _ {s : Bytes} (tree : Subtree) {i : Option Info} {t : ArrowDataType} {es : List Entry} (f : TypeAt s tree.at tree.levels tree.inside i t es)
     {first : FieldLine} (k : FieldLineAt s tree.at first) {r : StorageLine} (g : StorageAt s tree t es r) where
@@ -51,7 +50,7 @@ module _ {s : Bytes} (tree : Subtree) {i : Option Info} {t : ArrowDataType} {es 
   pub index_fits : r.line.kind ≡ Kind.Dictionary → r.line.p < 10
   index_fits e = omega (arith, line_p g.type.stands g.line, index_small (type_shape (to_storage t)) (line_rule_lem g.type.stands g.line) (sym (line_kind g.type.stands g.line) ∙ e))
 
-  module _ (own : FieldColumns) (are : own ≡ columns_of first) where
+  module _ (own : Option Part) (are : own ≡ columns_of first) where
     pub can_put : CanPutLine s r.at r.line own
     can_put = record { line = g.line; columns = subst (HasColumns s) (sym are) (columns_there k); short = f.short }
 
@@ -59,18 +58,18 @@ module _ {s : Bytes} (tree : Subtree) {i : Option Info} {t : ArrowDataType} {es 
     can_put_kind = record { columns = subst (HasColumns s) (sym are) (columns_there k); short = f.short }
 
     own_says : Says s own i
-    own_says = subst (λ (c : FieldColumns). Says s c i) (sym are) says
+    own_says = subst (λ (c : Option Part). Says s c i) (sym are) says
 
     module _ (change : Change) where
       abbrev o : Walked
-      o = type_walked (change_step (change_of change)) t i none
+      o = type_walked (change_step (change_of change)) t i None
 
       -- so many bytes, for the line and the extensions that were passed
       abbrev sized : ℕ → Size
       sized len = record { len = len; lines = r.passed + 1 }
 
-      abbrev Told : Bytes → Bytes → LineBegun → Type 0
-      Told out out' z = BeginsAs (change_step (change_of change)) s tree.at tree.levels tree.inside o es out out' (begun_answer {S = Borne} (λ (levels : ℕ) (inside : Bool). none) z)
+      abbrev Told : Bytes → Bytes → Refusing LineBegun → Type 0
+      Told out out' z = BeginsAs (change_step (change_of change)) s tree.at tree.levels tree.inside o es out out' (begun_answer {S = Borne} (λ (levels : ℕ) (inside : Bool). None) z)
 
       -- what becomes of the type's line is what the call does with the type
       by_line : (c : LineChange) → c ≡ line_change_of change r.line.kind r.line.p → Becoming change (to_storage t) i c
@@ -83,21 +82,21 @@ module _ {s : Bytes} (tree : Subtree) {i : Option Info} {t : ArrowDataType} {es 
 
       -- the line stays
       pub stayed : Stays ≡ line_change_of change r.line.kind r.line.p → (w : Subtrees) → RowLeft s tree r.line false w → (out out' : Bytes) (len : ℕ) → LinePut s r.at r.line own out out' len
-          → Told out out' (B.Below w (sized len) Nothing)
+          → Told out out' (Ok (record { row = w; size = sized len; pending = Ok tt }))
       stayed e w left out out' len put =
           let (below, step, leaves) = by_line Stays e in
           let (laid, short) = put g.line i own_says in
           let same : line_with g.line.line i ≡ ended (head_text (head_with (type_shape (to_storage t)) i (type_count (to_storage t))) ∷ []) =
           ap (λ (h : Head). line_with h i) (sym (line_opened g.type.stands g.line).0) in
-          begun tree f g (change_step (change_of change)) none o (writes (own_written (type_shape (to_storage t)) i (type_count (to_storage t))) below)
+          begun tree f g (change_step (change_of change)) None o (writes (own_written (type_shape (to_storage t)) i (type_count (to_storage t))) below)
           (change_opened (change_of change) t i (given (writes (own_written (type_shape (to_storage t)) i (type_count (to_storage t))) below)) step)
           false w left out out' len (given tt) (subst (λ (y : Bytes). PutFirst y len out out') same laid) short leaves
 
       -- the line of a kind is left, and what is below it is skipped
       pub became : (kind : ℕ) → Becomes kind ≡ line_change_of change r.line.kind r.line.p → (w : Subtrees) → RowLeft s tree r.line true w → (out out' : Bytes) (len : ℕ) → KindPut s kind own out out' len
-          → Told out out' (B.Below w (sized len) Nothing)
+          → Told out out' (Ok (record { row = w; size = sized len; pending = Ok tt }))
       became kind e w left out out' len put =
           let (laid, short) = put i own_says in
-          begun tree f g (change_step (change_of change)) none o (writes (own_written (of_scalar (leaf kind 0)) i 0) skip)
+          begun tree f g (change_step (change_of change)) None o (writes (own_written (of_scalar (leaf kind 0)) i 0) skip)
           (change_opened (change_of change) t i (given (writes (own_written (of_scalar (leaf kind 0)) i 0) skip)) (by_line (Becomes kind) e))
           true w left out out' len (given tt) laid short (passed refl refl)

@@ -4,7 +4,7 @@ use mathlib.Core.Path.{◌≡◌, refl, sym, ap, subst, ◌∙◌}
 use mathlib.Core.Bool.{Bool, true, false, not, ◌&&◌, ◌||◌, cond}
 use mathlib.Core.Logic.{inl, inr}
 use mathlib.Core.List.{List, [], ◌∷◌}
-use mathlib.Core.Option.{Option, none, some}
+use Rattle.std.specs.Prelude.{Option, None, Some}
 use Prim.Native.Nat.{ℕ, ◌<◌}
 use native.Mathlib.Omega.{arith}
 use lib.Dec.{eqb, ltb}
@@ -54,7 +54,7 @@ storage_stays k r = rw (ne_eqb k Kind.Map (λ e. r.1 (inl e)), ne_eqb k Kind.Uni
 
 pub kind_stays : (k p : ℕ) → Rest underlying_arms k → Stays ≡ underlying_kind k p
 kind_stays k p r =
-    let n : first_at (λ (w : ℕ × LineChange). w.0) k changed_kinds ≡ none = nowhere (λ (w : ℕ × LineChange). w.0) k underlying_arms r changed_kinds refl in
+    let n : first_at (λ (w : ℕ × LineChange). w.0) k changed_kinds ≡ None = nowhere (λ (w : ℕ × LineChange). w.0) k underlying_arms r changed_kinds refl in
     rw (ne_eqb k Kind.Interval (λ e. r.0.0.1 e), ne_eqb k Kind.Dictionary (λ e. r.0.1 e), n)
 
 -- ── scalars
@@ -67,10 +67,10 @@ scalar_to Undefined s = refused undefined_mapping
 
 -- the row of a kind says what the list of changes says
 abbrev agrees : ℕ → Option LeafRow → LineChange → Bool
-agrees k none c = false
-agrees k (some r) Stays = eqb r.under k && not (has_unit k)
-agrees k (some r) (Becomes j) = eqb r.under j
-agrees k (some r) Undefined = false
+agrees k None c = false
+agrees k (Some r) Stays = eqb r.under k && not (has_unit k)
+agrees k (Some r) (Becomes j) = eqb r.under j
+agrees k (Some r) Undefined = false
 
 abbrev tested : ℕ → Bool
 tested k = not (is_leaf k) || (eqb k Kind.Interval || (eqb k Kind.Unknown || agrees k (row_at k leaf_rows) (row_or (first_at (λ (r : ℕ × LineChange). r.0) k changed_kinds))))
@@ -89,13 +89,13 @@ no_unit_lem k u n h = pick (has_unit k) n h.1
 -- a leaf, by its row
 leaf_row_lem : (k u : ℕ) (r : Option LeafRow) (c : LineChange) → agrees k r c ≡ true → Meets (leaf_rule k u)
     → (found undefined_mapping r >>= λ w. given (scalar (leaf w.under 0))) ≡ scalar_to c (leaf k u)
-leaf_row_lem k u none c a h = never a
-leaf_row_lem k u (some r) Stays a h =
+leaf_row_lem k u None c a h = never a
+leaf_row_lem k u (Some r) Stays a h =
     let same : r.under ≡ k = eqb-true r.under k (and_left (eqb r.under k) (not (has_unit k)) a) in
     let zero : u ≡ 0 = no_unit_lem k u (and_right (eqb r.under k) (not (has_unit k)) a) h in
     λ z. given (scalar (leaf (same z) (sym zero z)))
-leaf_row_lem k u (some r) (Becomes j) a h = ap (λ (n : ℕ). given (scalar (leaf n 0))) (eqb-true r.under j a)
-leaf_row_lem k u (some r) Undefined a h = never a
+leaf_row_lem k u (Some r) (Becomes j) a h = ap (λ (n : ℕ). given (scalar (leaf n 0))) (eqb-true r.under j a)
+leaf_row_lem k u (Some r) Undefined a h = never a
 
 interval_under_lem : (u : ℕ) (s : Scalar) → interval_under u ≡ scalar_to (interval_change u) s
 interval_under_lem u s = go (eqb u 0) (eqb u 1)
@@ -155,7 +155,7 @@ abbrev step_of : Change → ArrowDataType → Option Info → Answer (Step Borne
 step_of c v i = change_step_of (change_of c) (type_shape v) (type_count v) i
 
 abbrev pub Becoming : Change → ArrowDataType → Option Info → LineChange → Type 0
-Becoming c v i Stays = (below : Below Borne) × (step_of c v i ≡ given (writes (own_written (type_shape v) i (type_count v)) below)) × Leaves {S = Borne} none (type_below v) below false
+Becoming c v i Stays = (below : Below Borne) × (step_of c v i ≡ given (writes (own_written (type_shape v) i (type_count v)) below)) × Leaves {S = Borne} None (type_below v) below false
 Becoming c v i (Becomes k) = step_of c v i ≡ given (writes (own_written (of_scalar (leaf k 0)) i 0) skip)
 Becoming c v i Undefined = step_of c v i ≡ refused undefined_mapping
 
@@ -167,20 +167,20 @@ module _ (i : Option Info) where
 
   pub becoming : (c : Change) (v : ArrowDataType) → is_extension (type_shape v) ≡ false → Meets (shape_rule (type_shape v)) → Becoming c v i (line_change_of c (columns (type_shape v)).kind (columns (type_shape v)).p)
   becoming Storage (scalar s) e h = subst (Becoming Storage (scalar s) i) (sym (scalar_stays s h)) (skip, refl, nothing refl refl refl)
-  becoming Storage (nested list j v) e h = (visit none, refl, visited refl refl)
-  becoming Storage (nested large_list j v) e h = (visit none, refl, visited refl refl)
-  becoming Storage (nested (fixed_size_list n) j v) e h = (visit none, refl, visited refl refl)
+  becoming Storage (nested list j v) e h = (visit None, refl, visited refl refl)
+  becoming Storage (nested large_list j v) e h = (visit None, refl, visited refl refl)
+  becoming Storage (nested (fixed_size_list n) j v) e h = (visit None, refl, visited refl refl)
   becoming Storage (nested (map sorted) j v) e h = refl
-  becoming Storage (grouped struct fs) e h = (visit none, refl, visited refl refl)
+  becoming Storage (grouped struct fs) e h = (visit None, refl, visited refl refl)
   becoming Storage (grouped (union mode ids) fs) e h = refl
-  becoming Storage (dictionary ix ordered v) e h = (visit none, refl, visited refl refl)
+  becoming Storage (dictionary ix ordered v) e h = (visit None, refl, visited refl refl)
   becoming Storage (extension n m v) e h = never (sym e)
   becoming Underlying (scalar s) e h = under s (underlying_kind (columns (of_scalar s)).kind (columns (of_scalar s)).p) (scalar_under_lem s h)
-  becoming Underlying (nested list j v) e h = (visit none, refl, visited refl refl)
-  becoming Underlying (nested large_list j v) e h = (visit none, refl, visited refl refl)
-  becoming Underlying (nested (fixed_size_list n) j v) e h = (visit none, refl, visited refl refl)
+  becoming Underlying (nested list j v) e h = (visit None, refl, visited refl refl)
+  becoming Underlying (nested large_list j v) e h = (visit None, refl, visited refl refl)
+  becoming Underlying (nested (fixed_size_list n) j v) e h = (visit None, refl, visited refl refl)
   becoming Underlying (nested (map sorted) j v) e h = refl
-  becoming Underlying (grouped struct fs) e h = (visit none, refl, visited refl refl)
+  becoming Underlying (grouped struct fs) e h = (visit None, refl, visited refl refl)
   becoming Underlying (grouped (union mode ids) fs) e h = refl
   becoming Underlying (dictionary ix ordered v) e h = refl
   becoming Underlying (extension n m v) e h = never (sym e)
@@ -216,10 +216,10 @@ module _ (c : TypeChange) where
   borne_opened (grouped g fs) i b = walked_opened (change_step c) (grouped g fs) i b
   borne_opened (dictionary ix ordered t) i b = walked_opened (change_step c) (dictionary ix ordered t) i b
   borne_opened (extension n m t) i b =
-      passed_own (type_walked (change_step c) t none (some (info_borne b i)))
-      ∙ ap later (borne_opened t none (some (info_borne b i)))
+      passed_own (type_walked (change_step c) t None (Some (info_borne b i)))
+      ∙ ap later (borne_opened t None (Some (info_borne b i)))
       ∙ later_walked (extensions_around t) (change_step_of c (type_shape (to_storage t)) (type_count (to_storage t)) (info_borne b i)) (λ τ. row_walked (change_step c) (type_below (to_storage t)) τ) (entry_lines (type_below (to_storage t)))
 
   -- with the columns of the field's first line
-  pub change_opened : (t : ArrowDataType) (i : Option Info) (a : Answer (Step Borne)) → change_step_of c (type_shape (to_storage t)) (type_count (to_storage t)) i ≡ a → type_walked (change_step c) t i none ≡ inside t a
-  change_opened t i a e = borne_opened t i none ∙ ap (inside t) e
+  pub change_opened : (t : ArrowDataType) (i : Option Info) (a : Answer (Step Borne)) → change_step_of c (type_shape (to_storage t)) (type_count (to_storage t)) i ≡ a → type_walked (change_step c) t i None ≡ inside t a
+  change_opened t i a e = borne_opened t i None ∙ ap (inside t) e

@@ -3,7 +3,7 @@
 use mathlib.Core.Path.{◌≡◌, refl, sym, ap, subst, ◌∙◌}
 use mathlib.Core.Bool.{Bool, true, false, ◌&&◌}
 use mathlib.Core.List.{[], ◌∷◌, ◌++◌, append_assoc}
-use mathlib.Core.Option.{Option, none, some}
+use Rattle.std.specs.Prelude.{Option, None, Some}
 use Prim.Native.Nat.{ℕ, ◌+◌, ◌-◌, ◌^◌, ◌≤◌, ◌<◌}
 use native.Mathlib.Omega.{arith}
 use lib.Dec.{eqb}
@@ -27,8 +27,6 @@ use Rattle.field_line.proofs.LengthLaws.{column_length_lem, shape_short, bare_le
 use Rattle.read_field_line.specs.FieldLines.{PartAt, FieldLineAt}
 use Rattle.read_field_line.specs.declared.FieldLine.{FieldLine}
 use Rattle.mapping_line.specs.PutLines.{info_text, HasPart, HasColumns, columns_text, Says, columns_of, is_own, CanPutLine, line_with, LinePut, CanPutKind, KindPut}
-use Rattle.mapping_line.specs.declared.put.FieldColumns.{FieldColumns}
-use Rattle.mapping_line.specs.declared.put.FieldColumns.TheVariants.{Of, Bare}
 
 -- ── pieces of the sheet
 
@@ -41,10 +39,10 @@ piece s a p q h e l = (
 
 info_length : (i : Option Info) → length (info_text i) ≡ 4 + (length (info_columns i).0 + length (info_columns i).1.1)
 unfolding own_piece decimal
-info_length none = simp (length-append, column_length_lem) (omega arith)
-info_length (some i) = go i.nullable
+info_length None = simp (length-append, column_length_lem) (omega arith)
+info_length (Some i) = go i.nullable
   where
-    go : (b : Bool) → length (own_piece (info_columns (some i)).0 (decimal (to_nat b)) (info_columns (some i)).1.1) ≡ 4 + (length (info_columns (some i)).0 + length (info_columns (some i)).1.1)
+    go : (b : Bool) → length (own_piece (info_columns (Some i)).0 (decimal (to_nat b)) (info_columns (Some i)).1.1) ≡ 4 + (length (info_columns (Some i)).0 + length (info_columns (Some i)).1.1)
     go true = simp (length-append, column_length_lem) (omega arith)
     go false = simp (length-append, column_length_lem) (omega arith)
 
@@ -111,7 +109,7 @@ module _ {s : Bytes} {at : ℕ} {l : FieldLine} (k : FieldLineAt s at l) where
 
   -- ── with other columns
 
-  module _ (c : FieldColumns) (j : Option Info) (says : Says s c j) where
+  module _ (c : Option Part) (j : Option Info) (says : Says s c j) where
     -- with its own it stands as it is
     line_same : is_own l c ≡ true → line_with k.line j ≡ part s at l.end
     line_same e = line_pieces k.line.shape j k.line.children ∙ ap (λ (b : Bytes). type ++ (b ++ last)) (sym says ∙ go c e) ∙ sym whole_part
@@ -122,21 +120,21 @@ module _ {s : Bytes} {at : ℕ} {l : FieldLine} (k : FieldLineAt s at l) where
         both false b h = never h
 
         bare : (i : Option Info) → is_bare i ≡ true → own_piece no_text no_text no_text ≡ info_text i
-        bare none h = refl
-        bare (some i) h = never h
+        bare None h = refl
+        bare (Some i) h = never h
 
-        go : (d : FieldColumns) → is_own l d ≡ true → columns_text s d ≡ own
-        go (Of p) h =
+        go : (d : Option Part) → is_own l d ≡ true → columns_text s d ≡ own
+        go (Some p) h =
             let q = both (eqb p.start l.name.start) (eqb p.end (l.pairs.end + 1)) h in
             (λ z. part s (eqb-true p.start l.name.start q.0 z) (eqb-true p.end (l.pairs.end + 1) q.1 z)) ∙ own_part.0
-        go Bare h = bare k.line.info (sym k.shows.bare ∙ h)
+        go None h = bare k.line.info (sym k.shows.bare ∙ h)
 
     line_parts : line_with k.line j ≡ (part s at l.name.start ++ columns_text s c) ++ part s (l.pairs.end + 1) l.end
     line_parts = line_pieces_left k.line.shape j k.line.children ∙ λ z. (sym type_part.0 z ++ sym says z) ++ sym last_part z
 
 -- ── by the columns
 
-module _ (l : FieldLine) (c : FieldColumns) (p : Part) (e : c ≡ Of p) where
+module _ (l : FieldLine) (c : Option Part) (p : Part) (e : c ≡ Some p) where
   pub starts_elsewhere : (p.start ≡ l.name.start → ⊥) → false ≡ is_own l c
   starts_elsewhere h = rw (e, ne_eqb p.start l.name.start h)
 
@@ -146,13 +144,13 @@ module _ (l : FieldLine) (c : FieldColumns) (p : Part) (e : c ≡ Of p) where
 pub part_short : (s : Bytes) (a e : ℕ) → length (part s a e) ≤ length s
 part_short s a e = omega (arith, length-take (e - a) (drop a s), length-drop a s)
 
-pub columns_short : (s : Bytes) (c : FieldColumns) → length (columns_text s c) ≤ length s + 6
-columns_short s (Of p) = omega (arith, part_short s p.start p.end)
-columns_short s Bare = omega (arith, bare_length)
+pub columns_short : (s : Bytes) (c : Option Part) → length (columns_text s c) ≤ length s + 6
+columns_short s (Some p) = omega (arith, part_short s p.start p.end)
+columns_short s None = omega (arith, bare_length)
 
 -- ── what is written
 
-module _ {s : Bytes} {at : ℕ} {l : FieldLine} {c : FieldColumns} (w : CanPutLine s at l c) where
+module _ {s : Bytes} {at : ℕ} {l : FieldLine} {c : Option Part} (w : CanPutLine s at l c) where
   pub put_whole : is_own l c ≡ true → (out out' : Bytes) → out' ≡ over (part s at l.end) out → LinePut s at l c out out' (l.end - at)
   put_whole e out out' laid k j says =
       let same = line_same k c j says e in
@@ -177,7 +175,7 @@ kind_shape kind = of_scalar (leaf kind 0)
 pub numbers_short : (kind : ℕ) → kind < 2 ^ 64 → length (shape_piece kind 0 0 no_text no_text) ≤ 67
 numbers_short kind h = omega (arith, shape_short kind 0 0 no_text no_text h (omega arith) (omega arith))
 
-module _ {s : Bytes} {c : FieldColumns} (w : CanPutKind s c) (kind : ℕ) (fits : kind < 2 ^ 64) where
+module _ {s : Bytes} {c : Option Part} (w : CanPutKind s c) (kind : ℕ) (fits : kind < 2 ^ 64) where
   pub put_kind : (out : Bytes) {a b r : ℕ} {one two out' : Bytes} → PutAt 0 (shape_piece kind 0 0 no_text no_text) a out one → PutAt a (columns_text s c) b one two → PutAt b (end_piece 0) r two out'
       → KindPut s kind c out out' r
   put_kind out {a} {b} {r} {one} {two} {out'} p q z j says =

@@ -1,7 +1,6 @@
 -- `to_storage_recursive` and `underlying_physical_type` at one line, by its columns `kind` and `p` (sheets/specs/MappingSteps says it by the type):
 -- "DayTime is physically DaysMs yet underlyingly Int64"; a map and a union have no answer. Assumes nothing.
-use Rattle.std.specs.Prelude.{cond, List, [], ◌∷◌, ℕ, ◌+◌, eqb}
-use Rattle.std.proofs.Math.Option.{Option, none, some}
+use Rattle.std.specs.Prelude.{cond, List, [], ◌∷◌, ℕ, ◌+◌, eqb, Option, None, Some}
 use Rattle.sheets.specs.Kind
 use Rattle.sheets.specs.IntervalUnit
 use Rattle.sheets.specs.MappingSteps.{storage_change, underlying_change}
@@ -43,8 +42,8 @@ changed_kinds =
     ∷ []
 
 abbrev pub row_or : Option (ℕ × LineChange) → LineChange
-row_or none = Stays
-row_or (some r) = r.1
+row_or None = Stays
+row_or (Some r) = r.1
 
 abbrev pub underlying_kind : ℕ → ℕ → LineChange
 underlying_kind k p =

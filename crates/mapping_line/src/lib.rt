@@ -12,10 +12,15 @@ use crate::change::{Change, LineChange};
 use outcome::Size;
 use refusal::Refusal;
 use storage_line::below;
-use walks::{LineBegun, Pending, Subtree};
+use walks::{LineBegun, Subtree};
 
 // Writes the line that the type at `tree.at` leaves, as far as it fits: that of the type inside all extensions, with the columns of the field's first line.
-pub fn begin_change(change: Change, s: &[u8], tree: Subtree, out: &mut [u8]) -> LineBegun
+pub fn begin_change(
+    change: Change,
+    s: &[u8],
+    tree: Subtree,
+    out: &mut [u8],
+) -> Result<LineBegun, Refusal>
     requires { HasType s.now tree.at tree.levels tree.inside }
     ensures { ChangeBegins change s.now tree out.old out.new result }
 {
@@ -24,30 +29,30 @@ pub fn begin_change(change: Change, s: &[u8], tree: Subtree, out: &mut [u8]) -> 
     let own = crate::put::field_columns(first);
     let l = inner.line;
     match crate::change::line_change(change, l.kind, l.p) {
-        LineChange::Undefined => LineBegun::Refused(Refusal::UndefinedMapping),
+        LineChange::Undefined => Err(Refusal::UndefinedMapping),
         LineChange::Stays => {
             let row = below::row_below(s, tree, l, false);
             let len = crate::put::put_line(s, inner.at, l, own, out);
-            LineBegun::Below(
+            Ok(LineBegun {
                 row,
-                Size {
+                size: Size {
                     len,
                     lines: inner.passed + 1,
                 },
-                Pending::Nothing,
-            )
+                pending: Ok(()),
+            })
         }
         LineChange::Becomes(kind) => {
             let row = below::row_below(s, tree, l, true);
             let len = crate::put::put_kind_line(s, kind, own, out);
-            LineBegun::Below(
+            Ok(LineBegun {
                 row,
-                Size {
+                size: Size {
                     len,
                     lines: inner.passed + 1,
                 },
-                Pending::Nothing,
-            )
+                pending: Ok(()),
+            })
         }
     }
 }

@@ -7,38 +7,32 @@ ghost use Rattle.mapping_line.specs.PutLines.{HasPart, columns_of, is_own, CanPu
 use columns::Part;
 use read_field_line::FieldLine;
 
-// The columns `name nullable pairs` with the space after them, as they stand in the sheet; or those of a bare line.
-#[derive(Clone, Copy)]
-pub enum FieldColumns {
-    Of(Part),
-    Bare,
-}
-
-// The columns of a line.
-pub fn field_columns(l: FieldLine) -> FieldColumns
+// The columns `name nullable pairs` of a line with the space after them, as they stand in the sheet. Where there is none of them, those of a bare line are
+// meant.
+pub fn field_columns(l: FieldLine) -> Option<Part>
     requires { IsUsize (l.pairs.end + 1) }
     ensures { result ≡ columns_of l }
 {
     let name = l.name;
     let pairs = l.pairs;
-    FieldColumns::Of(columns::between(name.start, pairs.end + 1))
+    Some(columns::between(name.start, pairs.end + 1))
 }
 
 // Whether these are the line's own columns.
-fn is_own(l: FieldLine, own: FieldColumns) -> bool
+fn is_own(l: FieldLine, own: Option<Part>) -> bool
     requires { IsUsize (l.pairs.end + 1) }
     ensures { result ≡ is_own l own }
 {
     let name = l.name;
     let pairs = l.pairs;
     match own {
-        FieldColumns::Of(p) => {
+        Some(p) => {
             if p.start != name.start {
                 return false;
             }
             p.end == pairs.end + 1
         }
-        FieldColumns::Bare => l.bare,
+        None => l.bare,
     }
 }
 
@@ -52,18 +46,18 @@ fn copy(s: &[u8], p: Part, out: &mut [u8], at: usize) -> usize
     buffer::put_at(out, at, &s[start..end])
 }
 
-fn put_columns(s: &[u8], own: FieldColumns, out: &mut [u8], at: usize) -> usize
+fn put_columns(s: &[u8], own: Option<Part>, out: &mut [u8], at: usize) -> usize
     requires { CanPutColumns s.now own at }
     ensures { PutAt at (columns_text s.now own) result out.old out.new }
 {
     match own {
-        FieldColumns::Of(p) => copy(s, p, out, at),
-        FieldColumns::Bare => field_line::put_bare(out, at),
+        Some(p) => copy(s, p, out, at),
+        None => field_line::put_bare(out, at),
     }
 }
 
 // Writes the line at `at` with these columns, as much as fits; how many bytes it has.
-pub fn put_line(s: &[u8], at: usize, l: FieldLine, own: FieldColumns, out: &mut [u8]) -> usize
+pub fn put_line(s: &[u8], at: usize, l: FieldLine, own: Option<Part>, out: &mut [u8]) -> usize
     requires { CanPutLine s.now at l own }
     ensures { LinePut s.now at l own out.old out.new result }
 {
@@ -80,7 +74,7 @@ pub fn put_line(s: &[u8], at: usize, l: FieldLine, own: FieldColumns, out: &mut 
 }
 
 // Writes the line of a type that has no columns of its own, by its kind, with these columns of the field.
-pub fn put_kind_line(s: &[u8], kind: u64, own: FieldColumns, out: &mut [u8]) -> usize
+pub fn put_kind_line(s: &[u8], kind: u64, own: Option<Part>, out: &mut [u8]) -> usize
     requires { CanPutKind s.now own }
     ensures { KindPut s.now kind own out.old out.new result }
 {

@@ -2,8 +2,8 @@
 // `measure import|export [little|big]`; the second word is the order of the metadata's lengths. Prints `length N, lines M` or `refused N`.
 #![tactic(auto)]
 
-use endian_word::Asked;
-use outcome::Measured;
+use outcome::Size;
+use refusal::Refusal;
 use std::env::Env;
 use std::io;
 use std::io::Write;
@@ -33,17 +33,21 @@ fn asked_conversion<E: Env>(env: &E) -> Conversion {
     named(&word[..n])
 }
 
-fn print_measured(rt: &HostRuntime, m: Measured) -> io::Result<()> {
+fn print_measured(rt: &HostRuntime, m: Result<Size, Refusal>) -> io::Result<()> {
     let mut out = rt.stdout();
-    if m.number != 0 {
-        print_answer::print_refused(&mut out, &mut rt.stderr(), m.number)?;
-        return Ok(());
+    match m {
+        Err(reason) => {
+            print_answer::print_refused(&mut out, &mut rt.stderr(), reason.number())?;
+            Ok(())
+        }
+        Ok(size) => {
+            out.write_all(b"length ")?;
+            streams::print_decimal(&mut out, size.len as u64)?;
+            out.write_all(b", lines ")?;
+            streams::print_decimal(&mut out, size.lines as u64)?;
+            out.write_all(b"\n")
+        }
     }
-    out.write_all(b"length ")?;
-    streams::print_decimal(&mut out, m.size.len as u64)?;
-    out.write_all(b", lines ")?;
-    streams::print_decimal(&mut out, m.size.lines as u64)?;
-    out.write_all(b"\n")
 }
 
 fn measure(rt: &HostRuntime, is_import: bool, big: bool) -> io::Result<()> {
@@ -63,7 +67,7 @@ fn complain(rt: &HostRuntime) -> io::Result<()> {
 }
 
 fn main(rt: HostRuntime) -> io::Result<()> {
-    let Asked::Order(big) = endian_word::order_at(&rt, 2) else {
+    let Some(big) = endian_word::order_at(&rt, 2) else {
         return complain(&rt);
     };
     match asked_conversion(&rt) {

@@ -2,7 +2,7 @@
 use mathlib.Core.Path.{◌≡◌, refl, ap}
 use mathlib.Core.Bool.{Bool, cond}
 use mathlib.Core.List.{List}
-use mathlib.Core.Option.{none, some}
+use Rattle.std.specs.Prelude.{None, Some}
 use Prim.Native.Nat.{ℕ}
 use borrow.Author.Tests.{eq-eqb, ne_eqb}
 use Rattle.sheets.specs.Bytes.{Bytes}
@@ -21,10 +21,10 @@ module _ (big : Bool) where
   unfolding value_column
   value_column_lem b e = refl
 
-  pub no_value : (b : Bytes) (e : ℕ) → e ≡ 0 → value_at big b e ≡ none
+  pub no_value : (b : Bytes) (e : ℕ) → e ≡ 0 → value_at big b e ≡ None
   unfolding value_at
-  no_value b e z = ap (λ (t : Bool). cond t none (some (pair_at big b e).1)) (eq-eqb e 0 z)
+  no_value b e z = ap (λ (t : Bool). cond t None (Some (pair_at big b e).1)) (eq-eqb e 0 z)
 
-  pub has_value : (b : Bytes) (e : ℕ) → (e ≡ 0 → ⊥) → value_at big b e ≡ some (pair_at big b e).1
+  pub has_value : (b : Bytes) (e : ℕ) → (e ≡ 0 → ⊥) → value_at big b e ≡ Some (pair_at big b e).1
   unfolding value_at
-  has_value b e d = ap (λ (t : Bool). cond t none (some (pair_at big b e).1)) (ne_eqb e 0 d)
+  has_value b e d = ap (λ (t : Bool). cond t None (Some (pair_at big b e).1)) (ne_eqb e 0 d)

@@ -3,7 +3,7 @@
 use mathlib.Core.Path.{◌≡◌, refl, sym, ap, ap₂, subst, ◌∙◌}
 use mathlib.Core.Bool.{Bool, true, false, ◌||◌, not, cond, true≢false}
 use mathlib.Core.List.{List, [], ◌∷◌, ◌++◌, map, map-append, append-nil}
-use mathlib.Core.Option.{Option, none, some}
+use Rattle.std.specs.Prelude.{Option, None, Some}
 use Prim.Native.Nat.{ℕ, ◌+◌, ◌*◌, ◌<◌}
 use native.Mathlib.Numerals.{add-one}
 use native.Mathlib.Omega.{arith}
@@ -35,25 +35,25 @@ unreserved_append (p ∷ ps) qs = pick (reserved p.0) (unreserved_append ps qs)
     pick false e = ap (λ (l : List Pair). p ∷ l) e
 
 or_assoc : (x y z : Option Bytes) → or_else (or_else x y) z ≡ or_else x (or_else y z)
-or_assoc none y z = refl
-or_assoc (some x) y z = refl
+or_assoc None y z = refl
+or_assoc (Some x) y z = refl
 
-or_none_lem : (x : Option Bytes) → or_else x none ≡ x
-or_none_lem none = refl
-or_none_lem (some x) = refl
+or_none_lem : (x : Option Bytes) → or_else x None ≡ x
+or_none_lem None = refl
+or_none_lem (Some x) = refl
 
-value_append : (k : Bytes) (ps : List Pair) (q : Pair) → value_of k (ps ++ (q ∷ [])) ≡ or_else (cond (same q.0 k) (some q.1) none) (value_of k ps)
-value_append k [] q = sym (or_none_lem (cond (same q.0 k) (some q.1) none))
+value_append : (k : Bytes) (ps : List Pair) (q : Pair) → value_of k (ps ++ (q ∷ [])) ≡ or_else (cond (same q.0 k) (Some q.1) None) (value_of k ps)
+value_append k [] q = sym (or_none_lem (cond (same q.0 k) (Some q.1) None))
 value_append k (p ∷ ps) q =
-    ap (λ (x : Option Bytes). or_else x (cond (same p.0 k) (some p.1) none)) (value_append k ps q)
-    ∙ or_assoc (cond (same q.0 k) (some q.1) none) (value_of k ps) (cond (same p.0 k) (some p.1) none)
+    ap (λ (x : Option Bytes). or_else x (cond (same p.0 k) (Some p.1) None)) (value_append k ps q)
+    ∙ or_assoc (cond (same q.0 k) (Some q.1) None) (value_of k ps) (cond (same p.0 k) (Some p.1) None)
 
 module _ (k : Bytes) (ps : List Pair) (q : Pair) where
-  value_new : same q.0 k ≡ true → value_of k (ps ++ (q ∷ [])) ≡ some q.1
-  value_new e = value_append k ps q ∙ ap (λ (t : Bool). or_else (cond t (some q.1) none) (value_of k ps)) e
+  value_new : same q.0 k ≡ true → value_of k (ps ++ (q ∷ [])) ≡ Some q.1
+  value_new e = value_append k ps q ∙ ap (λ (t : Bool). or_else (cond t (Some q.1) None) (value_of k ps)) e
 
   value_old : same q.0 k ≡ false → value_of k (ps ++ (q ∷ [])) ≡ value_of k ps
-  value_old e = value_append k ps q ∙ ap (λ (t : Bool). or_else (cond t (some q.1) none) (value_of k ps)) e
+  value_old e = value_append k ps q ∙ ap (λ (t : Bool). or_else (cond t (Some q.1) None) (value_of k ps)) e
 
 module _ (ps : List Pair) (q : Pair) where
   unreserved_old : reserved q.0 ≡ true → unreserved (ps ++ (q ∷ [])) ≡ unreserved ps
@@ -71,9 +71,9 @@ other_key text key h d = lengths_differ (bytes_of text) key (λ e. d (omega (ari
 -- ── entries
 
 module _ (big : Bool) where
-  value_at_lem : (b : Bytes) (e : ℕ) → EntryStands big b e → value_at big b e ≡ some (pair_at big b e).1
+  value_at_lem : (b : Bytes) (e : ℕ) → EntryStands big b e → value_at big b e ≡ Some (pair_at big b e).1
   unfolding value_at
-  value_at_lem b e s = ap (λ (t : Bool). cond t none (some (pair_at big b e).1)) (not_none big b e s)
+  value_at_lem b e s = ap (λ (t : Bool). cond t None (Some (pair_at big b e).1)) (not_none big b e s)
 
 -- no entries
 abbrev pub nothing : Metadata

@@ -2,7 +2,7 @@
 use mathlib.Core.Path.{◌≡◌, refl, sym, ap, subst, ◌∙◌}
 use mathlib.Core.Bool.{Bool, true, false, cond}
 use mathlib.Core.List.{List, [], ◌∷◌, map}
-use mathlib.Core.Option.{Option, some}
+use Rattle.std.specs.Prelude.{Option, Some}
 use Prim.Native.Nat.{ℕ, ◌^◌, ◌≤◌, ◌<◌}
 use native.Mathlib.Omega.{arith}
 use lib.Dec.{ltb}
@@ -59,12 +59,12 @@ told a = a >>= λ ps. given (meaning ps)
 
 module _ (big : Bool) where
   module _ (m : Bytes) (h : is_hex m ≡ true) where
-    pub cut_off : length m < 8 → refused bad_metadata ≡ metadata_from_bytes big (some (bytes_of m))
+    pub cut_off : length m < 8 → refused bad_metadata ≡ metadata_from_bytes big (Some (bytes_of m))
     cut_off l = sym (ap told (block_short big (bytes_of m) (omega (arith, twice_length m h))))
 
     -- what is kept of the block's pairs means what the block does
     pub block_means : 8 ≤ length m → (n : ℕ) → n ≡ count_of (length_at big (bytes_of m) 0) → (a : Answer Kept) → a ≡ kept_pairs big n (drop 4 (bytes_of m))
-        → (a >>= λ k. given (meaning_of k)) ≡ metadata_from_bytes big (some (bytes_of m))
+        → (a >>= λ k. given (meaning_of k)) ≡ metadata_from_bytes big (Some (bytes_of m))
     block_means l n e a f =
         ap (λ (x : Answer Kept). x >>= λ k. given (meaning_of k)) f
         ∙ both (take_pairs big n (drop 4 (bytes_of m)))

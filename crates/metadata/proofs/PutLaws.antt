@@ -3,8 +3,8 @@
 use mathlib.Core.Path.{◌≡◌, refl, sym, ap, ap₂, subst, ◌∙◌}
 use mathlib.Core.Bool.{Bool, true, cond}
 use mathlib.Core.List.{List, [], ◌∷◌, ◌++◌, map, append_assoc, append-nil}
-use mathlib.Core.Option.{none, some}
-use Prim.Native.Nat.{ℕ, suc, ◌+◌, ◌^◌, ◌≤◌, ◌<◌}
+use Rattle.std.specs.Prelude.{None, Some}
+use Prim.Native.Nat.{ℕ, suc, ◌+◌, ◌-◌, ◌^◌, ◌≤◌, ◌<◌}
 use native.Mathlib.Numerals.{add-one}
 use native.Mathlib.Omega.{arith}
 use lib.ListN.{length, get_or, take, drop, length-append, drop_of_length-le}
@@ -79,6 +79,14 @@ module _ (big : Bool) where
 
 -- ── the writing
 
+-- an entry of those after the first
+pub later : (es : List ℕ) (n i : ℕ) → i + 1 < n → get_or (take (n - 1) (drop 1 es)) i 0 ≡ get_or es (i + 1) 0
+later es n i h = get_or-take (n - 1) (drop 1 es) i 0 (omega arith) ∙ rw add-one (next es)
+  where
+    next : (l : List ℕ) → get_or (drop 1 l) i 0 ≡ get_or l (suc i) 0
+    next [] = refl
+    next (x ∷ l) = refl
+
 -- after i of the entries, of which the first was written before `start`
 pub record Putting (big : Bool) (b : Bytes) (es : List ℕ) (n start : ℕ) (old out : Bytes) (end i : ℕ) : Type 0 where
   pub text : Bytes
@@ -152,12 +160,12 @@ module _ (big : Bool) where
   value_none b e z = ap (λ (i : ℕ). write_text (value_at big b i)) (sym z)
 
   module _ (b : Bytes) (e : ℕ) (d : e ≡ 0 → ⊥) where
-    is_value : value_column big b e ≡ write_text (some (pair_at big b e).1)
+    is_value : value_column big b e ≡ write_text (Some (pair_at big b e).1)
     unfolding value_column value_at
-    is_value = ap (λ (t : Bool). write_text (cond t none (some (pair_at big b e).1))) (ne_eqb e 0 d)
+    is_value = ap (λ (t : Bool). write_text (cond t None (Some (pair_at big b e).1))) (ne_eqb e 0 d)
 
     -- by the value's text: `-` where that is empty, and else the text itself
-    column_of_lem : (v : Bytes) → (length (hex v) ≡ 0 → 45 ∷ [] ≡ write_text (some v)) × ((length (hex v) ≡ 0 → ⊥) → hex v ≡ write_text (some v))
+    column_of_lem : (v : Bytes) → (length (hex v) ≡ 0 → 45 ∷ [] ≡ write_text (Some v)) × ((length (hex v) ≡ 0 → ⊥) → hex v ≡ write_text (Some v))
     column_of_lem [] = (λ z. refl, λ z. absurd (z refl))
     column_of_lem (x ∷ v) = (λ z. absurd (omega arith), λ z. refl)
 

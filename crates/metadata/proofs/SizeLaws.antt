@@ -3,7 +3,7 @@
 use mathlib.Core.Path.{◌≡◌, sym, ap, subst, ◌∙◌}
 use mathlib.Core.Bool.{Bool, true, false, cond}
 use mathlib.Core.List.{List, [], ◌∷◌}
-use mathlib.Core.Option.{Option, none, some}
+use Rattle.std.specs.Prelude.{Option, None, Some}
 use Prim.Native.Nat.{ℕ, zero, suc, ◌+◌, ◌*◌, ◌/◌, ◌^◌, ◌≤◌}
 use native.Mathlib.Omega.{arith}
 use lib.Dec.{eqb, ltb}
@@ -140,7 +140,7 @@ column_size (p ∷ ps) = omega (arith, ap length (joined p ps), length-append (p
 
 module _ (big : Bool) where
   -- the column `pairs` of a block's pairs is shorter than the block's text
-  pub pairs_short : (b : Bytes) (x : Option (List Pair)) (e : Option Extension) → metadata_from_bytes big (some b) ≡ given (x, e) → 7 + length (write_list pair_text x) ≤ 2 * length b
+  pub pairs_short : (b : Bytes) (x : Option (List Pair)) (e : Option Extension) → metadata_from_bytes big (Some b) ≡ given (x, e) → 7 + length (write_list pair_text x) ≤ 2 * length b
   pairs_short b x e h =
       let (ps, f, g) = first_gave (read_block big b) (λ (ps : List Pair). given (meaning ps)) (x, e) h in
       let p = same_given {A = Option (List Pair) × Option Extension} {a = (meaning ps)} {b = (x, e)} g in
@@ -153,14 +153,14 @@ module _ (big : Bool) where
       )
 
   -- the same of the entries that `metadata_from_bytes` leaves
-  pub column_short : (m : Bytes) → is_hex m ≡ true → (es : List ℕ) (f : Metadata) → given (meaning_at big (bytes_of m) es f) ≡ metadata_from_bytes big (some (bytes_of m))
+  pub column_short : (m : Bytes) → is_hex m ≡ true → (es : List ℕ) (f : Metadata) → given (meaning_at big (bytes_of m) es f) ≡ metadata_from_bytes big (Some (bytes_of m))
       → 7 + length (pairs_column big (bytes_of m) es f.count) ≤ length m
   unfolding pairs_column
   column_short m h es f r = omega (arith, twice_length m h, pairs_short (bytes_of m) _ _ (sym r))
 
 -- ── a value
 
-text_short : (v : Bytes) → length (write_text (some v)) ≤ 1 + 2 * length v
+text_short : (v : Bytes) → length (write_text (Some v)) ≤ 1 + 2 * length v
 text_short [] = omega arith
 text_short (x ∷ v) = omega (arith, length_hex (x ∷ v))
 
@@ -181,6 +181,6 @@ module _ (big : Bool) where
   unfolding value_column value_at
   value_short m h e = pick (eqb e 0)
     where
-      pick : (t : Bool) → length (write_text (cond t none (some (pair_at big (bytes_of m) e).1))) ≤ 1 + length m
+      pick : (t : Bool) → length (write_text (cond t None (Some (pair_at big (bytes_of m) e).1))) ≤ 1 + length m
       pick true = omega arith
       pick false = omega (arith, text_short (pair_at big (bytes_of m) e).1, pair_short (bytes_of m) e, twice_length m h)

@@ -1,7 +1,6 @@
 -- Entries of a metadata block: an entry says where the hexadecimal text of a pair's key stands, and so where the pair does, since the value's length
 -- stands right after the key. No pair starts at 0, so 0 is no entry. Lengths are in the order `big`. Assumes nothing.
-use Rattle.std.specs.Prelude.{◌≡◌, Bool, false, cond, List, map, ℕ, ◌+◌, ◌*◌, ◌/◌, ◌≤◌, ◌<◌, eqb, length, take, drop}
-use Rattle.std.proofs.Math.Option.{Option, none, some}
+use Rattle.std.specs.Prelude.{◌≡◌, Bool, false, cond, List, map, ℕ, ◌+◌, ◌*◌, ◌/◌, ◌≤◌, ◌<◌, eqb, length, take, drop, Option, None, Some}
 use Rattle.sheets.specs.Bytes.{Bytes}
 use Rattle.sheets.specs.Field.{Pair}
 use Rattle.sheets.specs.Metadata.{value32}
@@ -42,7 +41,7 @@ pairs_at big b es n = map (pair_at big b) (take n es)
 -- the value of an entry's pair; 0 has none
 unfoldable pub value_at : Bool → Bytes → ℕ → Option Bytes
 unfolding pair_at
-value_at big b e = cond (eqb e 0) none (some (pair_at big b e).1)
+value_at big b e = cond (eqb e 0) None (Some (pair_at big b e).1)
 
 -- 0, or an entry that stands in the block
 abbrev pub OrNone : Bool → Bytes → ℕ → Type 0

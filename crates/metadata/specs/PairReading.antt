@@ -1,14 +1,9 @@
 -- Texts and pairs of a metadata block, read in place: how many bytes they have, or why they are refused. Assumes nothing.
 use Rattle.std.specs.Prelude.{◌≡◌, Bool, true, ℕ, ◌+◌, ◌*◌, ◌≤◌, ◌<◌, length, drop}
 use Rattle.sheets.specs.Bytes.{Bytes}
-use Rattle.sheets.specs.Answer.{Answer, refused, given, ◌>>=◌}
+use Rattle.sheets.specs.Answer.{Answer, given, ◌>>=◌}
 use Rattle.sheets.specs.Metadata.{take_text}
-use Rattle.refusal.specs.Refusals.{refusal_of}
 use Rattle.hexadecimal.specs.Hex.{is_hex, bytes_of}
-use Rattle.metadata.specs.declared.pair.TextRead.{TextRead}
-use Rattle.metadata.specs.declared.pair.TextRead.TheVariants as Text
-use Rattle.metadata.specs.declared.pair.PairRead.{PairRead}
-use Rattle.metadata.specs.declared.pair.PairRead.TheVariants as Pairs
 
 -- hexadecimal text, no longer than a sheet's column can be
 pub record Block (m : Bytes) : Type 0 where
@@ -24,20 +19,12 @@ pub record BlockPlace (m : Bytes) (k : ℕ) : Type 0 where
 abbrev pub text_size : Bool → Bytes → ℕ → Answer ℕ
 text_size big b k = take_text big (drop k b) >>= λ (t, rest). given (length t)
 
-abbrev pub text_answer : TextRead → Answer ℕ
-text_answer (Text.Size n) = given n
-text_answer (Text.Refused q) = refused (refusal_of q)
-
 -- a key whose length stands at byte k, and the value after it: the bytes of the key, and the byte after the value
 abbrev pub pair_places : Bool → Bytes → ℕ → Answer (ℕ × ℕ)
 pair_places big b k = do
   key ← text_size big b k
   value ← text_size big b (k + 4 + key)
   given (key, k + 4 + key + 4 + value)
-
-abbrev pub pair_answer : PairRead → Answer (ℕ × ℕ)
-pair_answer (Pairs.Between key next) = given (key, next)
-pair_answer (Pairs.Refused q) = refused (refusal_of q)
 
 -- a key of n bytes at byte k of the block
 abbrev pub KeyIn : Bool → Bytes → ℕ → ℕ → Type 0

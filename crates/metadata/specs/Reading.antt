@@ -1,17 +1,14 @@
 -- `metadata_from_bytes` in place: what its entries say of a block's pairs, or why the block is refused. Assumes nothing.
-use Rattle.std.specs.Prelude.{◌≡◌, Bool, true, cond, List, [], ◌∷◌, ◌++◌, ℕ, ◌/◌, ◌≤◌, ◌<◌, length}
-use Rattle.std.proofs.Math.Option.{Option}
+use Rattle.std.specs.Prelude.{◌≡◌, Bool, true, cond, List, [], ◌∷◌, ◌++◌, ℕ, ◌/◌, ◌≤◌, ◌<◌, length, Option, Ok, Err}
 use Rattle.sheets.specs.Rule.{Meets}
 use Rattle.sheets.specs.Bytes.{Bytes}
 use Rattle.sheets.specs.Answer.{Answer, refused, given, ◌>>=◌}
 use Rattle.sheets.specs.Field.{Pair}
 use Rattle.sheets.specs.Strict.{no_reserved}
 use Rattle.sheets.specs.Metadata.{take_pairs, name_key, metadata_key, reserved, ordinary, value_of, Extension, extension_of, some_pairs}
-use Rattle.refusal.specs.Refusals.{refusal_of}
+use Rattle.refusal.specs.Refusals.{refusal_of, Refusing}
 use Rattle.hexadecimal.specs.Hex.{is_hex, bytes_of}
 use Rattle.metadata.specs.declared.Metadata.{Metadata}
-use Rattle.metadata.specs.declared.MetadataRead.{MetadataRead}
-use Rattle.metadata.specs.declared.MetadataRead.TheVariants as Read
 use Rattle.metadata.specs.Entry.{pair_at, pairs_at, value_at, EntryStands, Entries, OrNone}
 use Rattle.metadata.specs.PairReading.{Block}
 
@@ -51,14 +48,14 @@ meaning_at big b es f = (some_pairs (pairs_at big b es f.count), extension_of (v
 -- ── the answers, by cases
 
 -- what is kept of the pairs that were read
-abbrev pub kept_answer : Bool → Bytes → List ℕ → MetadataRead → Answer Kept
-kept_answer big b es (Read.Found f) = given (kept_at big b es f)
-kept_answer big b es (Read.Refused q) = refused (refusal_of q)
+abbrev pub kept_answer : Bool → Bytes → List ℕ → Refusing Metadata → Answer Kept
+kept_answer big b es (Ok f) = given (kept_at big b es f)
+kept_answer big b es (Err q) = refused (refusal_of q)
 
 -- the pairs and the extension of the block
-abbrev pub metadata_answer : Bool → Bytes → List ℕ → MetadataRead → Answer (Option (List Pair) × Option Extension)
-metadata_answer big b es (Read.Found f) = given (meaning_at big b es f)
-metadata_answer big b es (Read.Refused q) = refused (refusal_of q)
+abbrev pub metadata_answer : Bool → Bytes → List ℕ → Refusing Metadata → Answer (Option (List Pair) × Option Extension)
+metadata_answer big b es (Ok f) = given (meaning_at big b es f)
+metadata_answer big b es (Err q) = refused (refusal_of q)
 
 -- the entries stand in the block
 pub record EntriesStand (big : Bool) (b : Bytes) (es : List ℕ) (f : Metadata) : Type 0 where
@@ -66,9 +63,9 @@ pub record EntriesStand (big : Bool) (b : Bytes) (es : List ℕ) (f : Metadata) 
   pub has_name : OrNone big b f.name
   pub has_more : OrNone big b f.more
 
-abbrev pub MetadataStands : Bool → Bytes → List ℕ → MetadataRead → Type 0
-MetadataStands big b es (Read.Found f) = EntriesStand big b es f
-MetadataStands big b es (Read.Refused q) = Unit {0}
+abbrev pub MetadataStands : Bool → Bytes → List ℕ → Refusing Metadata → Type 0
+MetadataStands big b es (Ok f) = EntriesStand big b es f
+MetadataStands big b es (Err q) = Unit {0}
 
 -- the entry e is added: the entries then say what the pairs say that they said before, and e's pair after them
 abbrev pub Adds : Bool → Bytes → List ℕ → Metadata → ℕ → List ℕ → Metadata → Type 0

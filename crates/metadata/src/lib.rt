@@ -5,8 +5,7 @@
 pub mod pair;
 pub mod put;
 
-ghost use Rattle.std.specs.Prelude.{◌≡◌, true, drop};
-ghost use Rattle.std.proofs.Math.Option.{some};
+ghost use Rattle.std.specs.Prelude.{◌≡◌, true, drop, Some};
 ghost use Rattle.sheets.specs.Bytes.{same};
 ghost use Rattle.sheets.specs.Metadata.{count_of, name_key, metadata_key, metadata_from_bytes};
 ghost use Rattle.hexadecimal.specs.Hex.{is_hex, bytes_of};
@@ -14,7 +13,6 @@ ghost use Rattle.endian.specs.Word.{HasWord};
 ghost use Rattle.metadata.specs.Entry.{length_at};
 ghost use Rattle.metadata.specs.Reading.{kept_pairs, kept_answer, metadata_answer, MetadataStands, CanKeep, Keeps, Room, HasCount, CanOrderKeys, OrdersKeys};
 
-use crate::pair::PairRead;
 use refusal::Refusal;
 
 // The first `count` entries are the pairs; `name` and `more` are the entries of the extension's name and metadata, or 0.
@@ -23,12 +21,6 @@ pub struct Metadata {
     pub count: usize,
     pub name: u32,
     pub more: u32,
-}
-
-#[derive(Drop)]
-pub enum MetadataRead {
-    Found(Metadata),
-    Refused(Refusal),
 }
 
 // The length is tested first: most keys need no more.
@@ -82,7 +74,7 @@ fn keep(m: &[u8], entries: &mut [u32], f: Metadata, e: u32) -> Metadata
 }
 
 // Reads n pairs, each once: tests them and records their entries.
-fn walk(m: &[u8], n: u32, big: bool, entries: &mut [u32]) -> MetadataRead
+fn walk(m: &[u8], n: u32, big: bool, entries: &mut [u32]) -> Result<Metadata, Refusal>
     requires { HasCount m.now entries.old }
     ensures result_after { kept_answer big (bytes_of m.now) entries.new result ≡ kept_pairs big n (drop 4 (bytes_of m.now)) }
     ensures metadata_stands { MetadataStands big (bytes_of m.now) entries.new result }
@@ -93,18 +85,12 @@ fn walk(m: &[u8], n: u32, big: bool, entries: &mut [u32]) -> MetadataRead
         more: 0,
     };
     let mut k = 4;
-    let mut i = 0;
-    while i < n {
-        match crate::pair::read_pair(m, k, big) {
-            PairRead::Refused(q) => return MetadataRead::Refused(q),
-            PairRead::Between(size, next) => {
-                f = keep(m, entries, f, key_order::entry_of(2 * (k + 4), 2 * size));
-                k = next;
-                i += 1;
-            }
-        }
+    for _ in 0..n {
+        let (size, next) = crate::pair::read_pair(m, k, big)?;
+        f = keep(m, entries, f, key_order::entry_of(2 * (k + 4), 2 * size));
+        k = next;
     }
-    MetadataRead::Found(f)
+    Ok(f)
 }
 
 // "A count of 0 or less gives no pairs": a negative one is 2147483648 or more.
@@ -138,16 +124,14 @@ pub fn metadata_from_bytes(
     big: bool,
     entries: &mut [u32],
     spare: &mut [u32],
-) -> MetadataRead
+) -> Result<Metadata, Refusal>
     requires { Room m.now entries.old spare.old }
-    ensures result_after { metadata_answer big (bytes_of m.now) entries.new result ≡ metadata_from_bytes big (some (bytes_of m.now)) }
+    ensures result_after { metadata_answer big (bytes_of m.now) entries.new result ≡ metadata_from_bytes big (Some (bytes_of m.now)) }
     ensures metadata_stands { MetadataStands big (bytes_of m.now) entries.new result }
 {
     if m.len() < 8 {
-        return MetadataRead::Refused(Refusal::BadMetadata);
+        return Err(Refusal::BadMetadata);
     }
-    match walk(m, count_of(m, big), big, entries) {
-        MetadataRead::Refused(q) => MetadataRead::Refused(q),
-        MetadataRead::Found(f) => MetadataRead::Found(in_order(m, entries, spare, f)),
-    }
+    let f = walk(m, count_of(m, big), big, entries)?;
+    Ok(in_order(m, entries, spare, f))
 }

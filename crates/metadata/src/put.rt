@@ -42,11 +42,9 @@ pub fn put_pairs(
         return buffer::put_byte(out, at, b'~');
     }
     let mut end = put_entry(out, at, m, entries[0], big);
-    let mut i = 1;
-    while i < count {
+    for &e in &entries[1..count] {
         let start = buffer::put_byte(out, end, b',');
-        end = put_entry(out, start, m, entries[i], big);
-        i += 1;
+        end = put_entry(out, start, m, e, big);
     }
     end
 }

@@ -3,12 +3,12 @@
 use mathlib.Core.Path.{◌≡◌, refl, sym, ap, subst, ◌∙◌}
 use mathlib.Core.Bool.{Bool, true}
 use mathlib.Core.List.{List, ◌++◌}
-use mathlib.Core.Option.{Option, none, some}
+use Rattle.std.specs.Prelude.{Option, None, Some, Ok, Err}
 use Prim.Native.Nat.{ℕ, ◌+◌, ◌-◌, ◌*◌, ◌≤◌}
 use native.Mathlib.Omega.{arith}
 use lib.ListN.{length, drop, length-append, length-take, length-drop}
 use Rattle.sheets.specs.Refusal.{Refusal}
-use Rattle.sheets.specs.Bytes.{Bytes, same}
+use Rattle.sheets.specs.Bytes.{Bytes}
 use Rattle.sheets.specs.Answer.{Answer, refused, given, ◌>>=◌}
 use Rattle.sheets.specs.Text.{read_text}
 use Rattle.sheets.specs.Flags.{nullable}
@@ -20,7 +20,7 @@ use Rattle.sheets.specs.ImportLines.{Own, own_of, shown}
 use Rattle.sheets.specs.Metadata.{Extension, extension_of, some_pairs, metadata_from_bytes}
 use Rattle.sheets.proofs.Tests.{first_gave}
 use Rattle.refusal.specs.declared.Refusal.{Refusal as Reason}
-use Rattle.refusal.specs.Refusals.{refusal_of}
+use Rattle.refusal.specs.Refusals.{refusal_of, Refusing}
 use Rattle.hexadecimal.specs.Hex.{is_hex, bytes_of}
 use Rattle.buffer.specs.Over.{PutAt, PutFirst}
 use Rattle.buffer.proofs.OverLaws.{over_nothing, put_over}
@@ -34,15 +34,12 @@ use Rattle.schema_line.specs.Lines.{TextAt, Shows}
 use Rattle.schema_line.specs.Texts.{text_in}
 use Rattle.schema_line.proofs.TextLaws.{text_shorter}
 use Rattle.metadata.specs.declared.Metadata.{Metadata}
-use Rattle.metadata.specs.declared.MetadataRead.{MetadataRead}
-use Rattle.metadata.specs.declared.MetadataRead.TheVariants.{Found, Refused}
 use Rattle.metadata.specs.Entry.{pair_at, pairs_at, value_at}
 use Rattle.metadata.specs.Pairs.{pairs_column}
 use Rattle.metadata.proofs.ColumnLaws.{pairs_column_lem, no_value, has_value}
 use Rattle.metadata.proofs.SizeLaws.{pairs_short}
 use Rattle.node.specs.declared.lines.Shown.{Shown}
 use Rattle.node.specs.declared.Begun.{Begun}
-use Rattle.node.specs.declared.Pending.TheVariants as Pending
 use Rattle.node.specs.Types.{IsText}
 use Rattle.node.specs.Info.{own_answer, ReadsAs, HasEntries, HasBlock}
 use Rattle.node.specs.Pieces.{info_piece, own_text, shown_text, extension_piece, extension_text, CanShow, CanExtend}
@@ -63,7 +60,7 @@ pub shown_made : {bare : Bool} {k n : Bool} {count : ℕ} {order : Bool} → k �
 shown_made {bare} {k} {n} {count} {order} e = ap (λ (y : Bool). shown_as bare y count order) e
 
 module _ (big : Bool) where
-  pub reads_in : (s : Bytes) (l : SchemaLine) (name t : Bytes) → name ≡ column_in s l.name → t ≡ column_in s l.metadata → (es : List ℕ) (r : MetadataRead)
+  pub reads_in : (s : Bytes) (l : SchemaLine) (name t : Bytes) → name ≡ column_in s l.name → t ≡ column_in s l.metadata → (es : List ℕ) (r : Refusing Metadata)
       → ReadsAs big (own_answer big name t) (text_in t) es r → ReadsAs big (own_answer big (column_in s l.name) (column_in s l.metadata)) (metadata_in s l) es r
   reads_in s l name t e f es r h =
       subst (λ (y : Bytes). ReadsAs big (own_answer big (column_in s l.name) y) (text_in y) es r) f (subst (λ (y : Bytes). ReadsAs big (own_answer big y t) (text_in t) es r) e h)
@@ -165,8 +162,8 @@ module _ {s : Bytes} {l : SchemaLine} (n : NodeIn s l) where
           pairs = record { is_text = m_hex; short = omega (arith, m_short); entries = record { count = omega arith; each = tt }; column = omega arith };
         }
 
-    module _ (bare : Bool) (es : List ℕ) (r : MetadataRead) (h : ReadsAs big (own_answer big name (column_in s l.metadata)) m es r) (out : Bytes) where
-      pub begin_refused : (q : Reason) → r ≡ Refused q → (b : Begun) → b ≡ record { len = 0; shown = nothing_shown big; pending = Pending.Refused q } → OwnBegins s l bare big x es out out b
+    module _ (bare : Bool) (es : List ℕ) (r : Refusing Metadata) (h : ReadsAs big (own_answer big name (column_in s l.metadata)) m es r) (out : Bytes) where
+      pub begin_refused : (q : Reason) → r ≡ Err q → (b : Begun) → b ≡ record { len = 0; shown = nothing_shown big; pending = Err q } → OwnBegins s l bare big x es out out b
       begin_refused q e b is =
           let told : refused (refusal_of q) ≡ own_answer big name (column_in s l.metadata) = (subst (ReadsAs big (own_answer big name (column_in s l.metadata)) m es) e h).0 in
           subst (OwnBegins s l bare big x es out out) (sym is)
@@ -180,8 +177,8 @@ module _ {s : Bytes} {l : SchemaLine} (n : NodeIn s l) where
           none_length : (es : List ℕ) → length (shown_in s l es (nothing_shown big)) ≤ 6
           none_length es = omega (arith, bare_length)
 
-      module _ (d : Metadata) (e : r ≡ Found d) where
-        found : ReadsAs big (own_answer big name (column_in s l.metadata)) m es (Found d)
+      module _ (d : Metadata) (e : r ≡ Ok d) where
+        found : ReadsAs big (own_answer big name (column_in s l.metadata)) m es (Ok d)
         found = subst (ReadsAs big (own_answer big name (column_in s l.metadata)) m es) e h
 
         abbrev meaning : Option (List Pair) × Option Extension
@@ -194,11 +191,11 @@ module _ {s : Bytes} {l : SchemaLine} (n : NodeIn s l) where
         column_length_lem = by_text x.1.1.1.0 w.metadata.reads said.2
           where
             by_text : (y : Option Bytes) → read_text (column_in s l.metadata) ≡ given y → metadata_from_bytes big y ≡ given meaning → length (pairs_column big (bytes_of m) es d.count) ≤ length m + 1
-            by_text none t f =
-                let z : none ≡ some_pairs (pairs_at big (bytes_of m) es d.count) = ap (λ (q : Option (List Pair) × Option Extension). q.0) (given_is (none, none) meaning f) in
+            by_text None t f =
+                let z : None ≡ some_pairs (pairs_at big (bytes_of m) es d.count) = ap (λ (q : Option (List Pair) × Option Extension). q.0) (given_is (None, None) meaning f) in
                 omega (arith, ap length (pairs_column_lem big (bytes_of m) es d.count), ap (λ (y : Option (List Pair)). length (write_list pair_text y)) z)
-            by_text (some b) t f =
-                let bytes : bytes_of m ≡ b = (text_bytes (column_in s l.metadata) (some b) t).1 in
+            by_text (Some b) t f =
+                let bytes : bytes_of m ≡ b = (text_bytes (column_in s l.metadata) (Some b) t).1 in
                 omega (arith, ap length (pairs_column_lem big (bytes_of m) es d.count), pairs_short big b _ _ f, ap length bytes, twice_length m m_hex)
 
         module _ (v : Shown) (shows : v ≡ record { bare = bare; nullable = nullable l.flags; count = d.count; big = big }) where
@@ -219,14 +216,14 @@ module _ {s : Bytes} {l : SchemaLine} (n : NodeIn s l) where
               ∙ own_info bare name x.1.0 info w.name.reads said.1
 
           -- there is no extension
-          pub begin_plain : d.name ≡ 0 → (b : Begun) → b ≡ record { len = 0; shown = v; pending = Pending.Nothing } → OwnBegins s l bare big x es out out b
+          pub begin_plain : d.name ≡ 0 → (b : Begun) → b ≡ record { len = 0; shown = v; pending = (Ok tt) } → OwnBegins s l bare big x es out out b
           begin_plain z b is =
-              let none_is : own meaning said.0 ≡ (info, none) = ap (λ (y : Option Bytes). (info, extension_of y (value_at big (bytes_of m) d.more))) (no_value big (bytes_of m) d.name z) in
+              let none_is : own meaning said.0 ≡ (info, None) = ap (λ (y : Option Bytes). (info, extension_of y (value_at big (bytes_of m) d.more))) (no_value big (bytes_of m) d.name z) in
               subst (OwnBegins s l bare big x es out out) (sym is)
               (record {
                 ready = can_show;
                 order = ap (λ (y : Shown). y.big) shows;
-                told = (info, none, said.3 ∙ ap given none_is, ((refl, sym (over_nothing out)), shown_is));
+                told = (info, None, said.3 ∙ ap given none_is, ((refl, sym (over_nothing out)), shown_is));
                 long = omega (arith, shown_short name m es v can_show, text_shorter (column_in s l.metadata));
               })
 
@@ -237,21 +234,21 @@ module _ {s : Bytes} {l : SchemaLine} (n : NodeIn s l) where
 
           -- the extension's line is written
           pub begin_extended : (d.name ≡ 0 → ⊥) → (out' : Bytes) (len : ℕ) → PutAt 0 (extension_text name m es v d) len out out'
-              → (b : Begun) → b ≡ record { len = len; shown = nothing_shown big; pending = Pending.Nothing } → OwnBegins s l bare big x es out out' b
+              → (b : Begun) → b ≡ record { len = len; shown = nothing_shown big; pending = (Ok tt) } → OwnBegins s l bare big x es out out' b
           unfolding extension_text
           begin_extended z out' len p b is =
               let n : Bytes = (pair_at big (bytes_of m) d.name).1 in
               let value = has_value big (bytes_of m) d.name z in
               let same : big ≡ v.big = sym (ap (λ (y : Shown). y.big) shows) in
-              let some_is : own meaning said.0 ≡ (info, some (n, value_at big (bytes_of m) d.more)) = ap (λ (y : Option Bytes). (info, extension_of y (value_at big (bytes_of m) d.more))) value in
-              let line = extension_line name m es v d (shown bare info) n (value_at big (bytes_of m) d.more) (subst (λ (y : Bool). value_at y (bytes_of m) d.name ≡ some n) same value) (ap (λ (y : Bool). value_at y (bytes_of m) d.more) (sym same)) shown_is in
+              let some_is : own meaning said.0 ≡ (info, Some (n, value_at big (bytes_of m) d.more)) = ap (λ (y : Option Bytes). (info, extension_of y (value_at big (bytes_of m) d.more))) value in
+              let line = extension_line name m es v d (shown bare info) n (value_at big (bytes_of m) d.more) (subst (λ (y : Bool). value_at y (bytes_of m) d.name ≡ Some n) same value) (ap (λ (y : Bool). value_at y (bytes_of m) d.more) (sym same)) shown_is in
               subst (OwnBegins s l bare big x es out out') (sym is)
               (record {
                 ready = none_shown es;
                 order = refl;
                 told = (
                   info,
-                  some (n, value_at big (bytes_of m) d.more),
+                  Some (n, value_at big (bytes_of m) d.more),
                   said.3 ∙ ap given some_is,
                   (subst (λ (y : Bytes). PutFirst y len out out') line (put_over (extension_text name m es v d) out p), refl),
                 );

@@ -3,7 +3,7 @@
 use mathlib.Core.Path.{◌≡◌, refl, sym, ap, ◌∙◌}
 use mathlib.Core.Bool.{Bool, true, false}
 use mathlib.Core.List.{List, [], ◌∷◌, ◌++◌, append_assoc}
-use mathlib.Core.Option.{Option, some}
+use Rattle.std.specs.Prelude.{Option, Some}
 use Prim.Native.Nat.{ℕ, ◌+◌, ◌*◌, ◌≤◌}
 use native.Mathlib.Omega.{arith}
 use lib.ListN.{length, length-append}
@@ -87,10 +87,10 @@ line_text_lem sh j k own e = ap (λ (c : Bytes). (columns_piece (columns sh) ++ 
 
 -- the line of an extension
 pub extension_line : (name m : Bytes) (es : List ℕ) (w : Shown) (d : Metadata) (j : Option Info) (n : Bytes) (more : Option Bytes)
-    → value_at w.big (bytes_of m) d.name ≡ some n → value_at w.big (bytes_of m) d.more ≡ more → shown_text name m es w ≡ info_piece j
+    → value_at w.big (bytes_of m) d.name ≡ Some n → value_at w.big (bytes_of m) d.more ≡ more → shown_text name m es w ≡ info_piece j
     → extension_text name m es w d ≡ ended (field_line.write (line_of (of_extension n more) j 1) ∷ [])
 unfolding extension_text extension_piece
 extension_line name m es w d j n more e f g =
     ap (λ (v : Option Bytes). (shape_piece Kind.Extension 0 0 (write_text v) (write_text (value_at w.big (bytes_of m) d.more)) ++ shown_text name m es w) ++ end_piece 1) e
-    ∙ ap (λ (v : Option Bytes). (shape_piece Kind.Extension 0 0 (write_text (some n)) (write_text v) ++ shown_text name m es w) ++ end_piece 1) f
+    ∙ ap (λ (v : Option Bytes). (shape_piece Kind.Extension 0 0 (write_text (Some n)) (write_text v) ++ shown_text name m es w) ++ end_piece 1) f
     ∙ line_text_lem (of_extension n more) j 1 (shown_text name m es w) g

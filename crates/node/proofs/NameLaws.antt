@@ -3,7 +3,7 @@
 use mathlib.Core.Path.{◌≡◌, refl, sym, ap, ◌∙◌}
 use mathlib.Core.Bool.{Bool, true, false}
 use mathlib.Core.List.{[], ◌∷◌, ◌++◌, append_assoc}
-use mathlib.Core.Option.{Option, none, some}
+use Rattle.std.specs.Prelude.{Option, None, Some}
 use Prim.Native.Nat.{ℕ, ◌+◌}
 use native.Mathlib.Omega.{arith}
 use lib.ListN.{length, length-append}
@@ -32,7 +32,7 @@ pub own_pieces : (name : Bytes) (nullable : Bool) (pairs : Bytes) → own_piece 
 unfolding own_piece name_piece
 own_pieces name nullable pairs = refl
 
-name_null : (name : Bytes) → same name no_text ≡ true → name_column name ≡ write_text (some [])
+name_null : (name : Bytes) → same name no_text ≡ true → name_column name ≡ write_text (Some [])
 unfolding name_column
 name_null name e = rw e
 
@@ -42,37 +42,37 @@ unfolding name_column
 name_kept name e = rw e
 
 -- "Null names read as empty"
-pub name_written : (name : Bytes) (t : Option Bytes) → read_text name ≡ given t → name_column name ≡ write_text (some (or_empty t))
+pub name_written : (name : Bytes) (t : Option Bytes) → read_text name ≡ given t → name_column name ≡ write_text (Some (or_empty t))
 unfolding name_column
-name_written name none e =
-    let q : write_text none ≡ name = text_read name none e in
+name_written name None e =
+    let q : write_text None ≡ name = text_read name None e in
     rw (← q) refl
-name_written name (some b) e = pick (same name no_text) refl
+name_written name (Some b) e = pick (same name no_text) refl
   where
-    pick : (t : Bool) → same name no_text ≡ t → name_column name ≡ write_text (some b)
+    pick : (t : Bool) → same name no_text ≡ t → name_column name ≡ write_text (Some b)
     pick true s =
         let q : name ≡ no_text = same_eq name no_text s in
-        let r : read_text no_text ≡ given (some b) = rw q at e in
+        let r : read_text no_text ≡ given (Some b) = rw q at e in
         let z : ◌≡◌ {A = ℕ} 0 1 = cc in
         absurd (omega arith)
-    pick false s = name_kept name s ∙ sym (text_read name (some b) e)
+    pick false s = name_kept name s ∙ sym (text_read name (Some b) e)
 
 -- the name that import reads
 name_read : (t : Option Bytes) (m : Bytes) → name_text t ≡ given m → or_empty t ≡ m
-name_read none m e = cc
-name_read (some b) m e = (met_when not_utf8 (is (is_utf8 b)) b m e).1
+name_read None m e = cc
+name_read (Some b) m e = (met_when not_utf8 (is (is_utf8 b)) b m e).1
 
-pub name_imported : (name : Bytes) (t : Option Bytes) (m : Bytes) → read_text name ≡ given t → name_text t ≡ given m → name_column name ≡ write_text (some m)
-name_imported name t m e f = name_written name t e ∙ ap (λ (b : Bytes). write_text (some b)) (name_read t m f)
+pub name_imported : (name : Bytes) (t : Option Bytes) (m : Bytes) → read_text name ≡ given t → name_text t ≡ given m → name_column name ≡ write_text (Some m)
+name_imported name t m e f = name_written name t e ∙ ap (λ (b : Bytes). write_text (Some b)) (name_read t m f)
 
 -- the line of a field that import reads, as the writers of its shape, its name, its pairs and its end leave it one after the other
 pub named_line : (s : Shape) (i : Info) (children : ℕ) (name : Bytes) (t : Option Bytes) → read_text name ≡ given t → name_text t ≡ given i.name
-    → ended (field_line.write (line_of s (some i) children) ∷ [])
+    → ended (field_line.write (line_of s (Some i) children) ∷ [])
     ≡ ((columns_piece (columns s) ++ name_piece name i.nullable) ++ column (write_list pair_text i.pairs)) ++ end_piece children
 named_line s i children name t e f =
     let n = decimal (to_nat i.nullable) in
     let pairs = write_list pair_text i.pairs in
-    line_pieces_left s (some i) children
+    line_pieces_left s (Some i) children
     ∙ ap (λ (c : Bytes). (columns_piece (columns s) ++ own_piece c n pairs) ++ end_piece children) (sym (name_imported name t i.name e f))
     ∙ ap (λ (c : Bytes). (columns_piece (columns s) ++ c) ++ end_piece children) (own_pieces name i.nullable pairs)
     ∙ ap (λ (c : Bytes). c ++ end_piece children) (sym (append_assoc (columns_piece (columns s)) (name_piece name i.nullable) (column pairs)))

@@ -2,7 +2,7 @@
 -- Assumes nothing.
 use mathlib.Core.Path.{◌≡◌, refl, sym, ap, subst, ◌∙◌}
 use mathlib.Core.List.{List, ◌++◌}
-use mathlib.Core.Option.{Option}
+use Rattle.std.specs.Prelude.{Option, Ok, Err}
 use Prim.Native.Nat.{ℕ, ◌+◌, ◌*◌, ◌≤◌, ◌<◌, ◌^◌}
 use native.Mathlib.Omega.{arith}
 use lib.IntN.{ℤ}
@@ -14,7 +14,7 @@ use Rattle.sheets.specs.FieldSheet.{Shape, columns, of_scalar, of_nesting, of_gr
 use Rattle.sheets.specs.Import.{format_text}
 use Rattle.sheets.specs.ImportLines.{node_shape, below}
 use Rattle.refusal.specs.declared.Refusal.{Refusal as Reason}
-use Rattle.refusal.specs.Refusals.{refusal_of}
+use Rattle.refusal.specs.Refusals.{refusal_of, Refusing}
 use Rattle.buffer.specs.Over.{PutAt}
 use Rattle.buffer.proofs.OverLaws.{none_yet, and_then}
 use Rattle.field_line.specs.Columns.{columns_piece, end_piece}
@@ -25,8 +25,6 @@ use Rattle.schema_line.specs.Texts.{text_in}
 use Rattle.schema_line.proofs.TextLaws.{text_shorter}
 use Rattle.import_type.specs.TypeColumns.{below_of}
 use Rattle.import_type.specs.declared.Below.{Below}
-use Rattle.import_type.specs.declared.FormatPut.{FormatPut}
-use Rattle.import_type.specs.declared.FormatPut.TheVariants as Put
 use Rattle.node.specs.declared.lines.Shown.{Shown}
 use Rattle.node.specs.Types.{IsText, column_type, TypeTold, TypePuts}
 use Rattle.node.specs.Pieces.{shown_text, CanShow}
@@ -49,7 +47,7 @@ module _ {s : Bytes} {l : SchemaLine} (n : NodeIn s l) (t : Bytes) (e : t ≡ co
     omega (arith, ap length e, part_within s l.format, n.short),
   )
 
-  module _ (out mid : Bytes) (r : FormatPut) (h : TypePuts (column_type t l) (length t) out mid r) where
+  module _ (out mid : Bytes) (r : Refusing (ℕ × Below)) (h : TypePuts (column_type t l) (length t) out mid r) where
     -- it tells the type that the line tells
     line_type_lem : (x : Line) → Shows s l x → column_type t l ≡ line_type x
     unfolding column_type line_type
@@ -60,10 +58,10 @@ module _ {s : Bytes} {l : SchemaLine} (n : NodeIn s l) (t : Bytes) (e : t ≡ co
         ∙ ap (λ (k : ℕ). format_text x.0 >>= λ f. node_shape f x.1.1.0 k l.dictionary) w.children
         ∙ ap (λ (k : ℕ). format_text x.0 >>= λ f. node_shape f x.1.1.0 (children_of x) k) w.dictionary
 
-    pub line_refused : (q : Reason) → r ≡ Put.Refused q → (x : Line) → Shows s l x → line_type x ≡ refused (refusal_of q)
+    pub line_refused : (q : Reason) → r ≡ Err q → (x : Line) → Shows s l x → line_type x ≡ refused (refusal_of q)
     line_refused q d x w = let told : column_type t l ≡ refused (refusal_of q) = subst (TypePuts (column_type t l) (length t) out mid) d h in sym (line_type_lem x w) ∙ told
 
-    module _ (end : ℕ) (b : Below) (d : r ≡ Put.Put end b) where
+    module _ (end : ℕ) (b : Below) (d : r ≡ Ok (end, b)) where
       told : TypeTold (column_type t l) (length t) out mid (given (end, b))
       told = subst (TypePuts (column_type t l) (length t) out mid) d h
 

@@ -1,7 +1,7 @@
 -- What is known at each return of the functions that write a node's type: by the refusals of a format in document 01's order. Assumes nothing.
 use mathlib.Core.Path.{◌≡◌, refl, sym, ap, subst, ◌∙◌}
 use mathlib.Core.Bool.{Bool, true, false, true≢false}
-use mathlib.Core.Option.{Option, none, some}
+use Rattle.std.specs.Prelude.{Option, None, Some, Ok, Err}
 use Prim.Native.Nat.{ℕ, zero, suc, ◌≤◌}
 use native.Mathlib.Omega.{arith}
 use lib.ListN.{length}
@@ -19,7 +19,7 @@ use Rattle.sheets.specs.ImportLines.{node_shape, needed}
 use Rattle.sheets.proofs.BytesLaws.{same_eq, same_refl}
 use Rattle.sheets.proofs.InverseLaws.{text_read}
 use Rattle.refusal.specs.declared.Refusal.{Refusal as Reason}
-use Rattle.refusal.specs.Refusals.{refusal_of}
+use Rattle.refusal.specs.Refusals.{refusal_of, Refusing}
 use Rattle.hexadecimal.specs.Hex.{is_hex, bytes_of}
 use Rattle.buffer.specs.Over.{PutAt}
 use Rattle.field_line.specs.Columns.{columns_piece}
@@ -30,10 +30,6 @@ use Rattle.datatypes.specs.declared.IntegerType.{IntegerType}
 use Rattle.datatypes.specs.Places.{integer_place}
 use Rattle.import_type.specs.declared.Below.{Below}
 use Rattle.import_type.specs.declared.Below.TheVariants.{Values}
-use Rattle.import_type.specs.declared.FormatPut.{FormatPut}
-use Rattle.import_type.specs.declared.FormatPut.TheVariants as Put
-use Rattle.format.specs.declared.dictionary.IndexRead.{IndexRead}
-use Rattle.format.specs.declared.dictionary.IndexRead.TheVariants as Index
 use Rattle.import_type.specs.TypeColumns.{shape_of, below_of, FormatPuts}
 use Rattle.format.specs.Dictionary.{index_answer}
 use Rattle.import_type.proofs.LengthLaws.{format_short, dictionary_short_lem}
@@ -47,14 +43,14 @@ told_as a c n m out out' (given (end, b)) e l (sh, is, put, visits, long) = (sh,
 
 -- ── a line with a dictionary
 
-module _ (f : Bytes) (ordered : Bool) (r : IndexRead) (h : index_answer r ≡ to_integer_type (bytes_of f)) where
+module _ (f : Bytes) (ordered : Bool) (r : Refusing IntegerType) (h : index_answer r ≡ to_integer_type (bytes_of f)) where
   abbrev indexed : Answer ℕ → Answer Shape
   indexed a = a >>= λ ix. given (of_dictionary ix ordered)
 
-  pub index_refused : (q : Reason) → r ≡ Index.Refused q → index_shape (bytes_of f) ordered ≡ refused (refusal_of q)
+  pub index_refused : (q : Reason) → r ≡ Err q → index_shape (bytes_of f) ordered ≡ refused (refusal_of q)
   index_refused q e = ap indexed (sym h ∙ ap index_answer e)
 
-  pub index_put : (t : IntegerType) → r ≡ Index.Index t → (out out' : Bytes) (end : ℕ) → PutAt 0 (columns_piece (columns (of_dictionary (integer_place t) ordered))) end out out'
+  pub index_put : (t : IntegerType) → r ≡ Ok t → (out out' : Bytes) (end : ℕ) → PutAt 0 (columns_piece (columns (of_dictionary (integer_place t) ordered))) end out out'
       → TypeTold (index_shape (bytes_of f) ordered) (length f) out out' (given (end, Values))
   index_put t e out out' end p =
       (of_dictionary (integer_place t) ordered, ap indexed (sym h ∙ ap index_answer e), p, refl, omega (arith, p.0, dictionary_short_lem t ordered))
@@ -73,17 +69,17 @@ needed_has (of_nesting n) zero e = absurd (true≢false e)
 needed_has (of_nesting n) (suc k) e = refl
 needed_has (of_grouping g) k e = refl
 
-module _ (f : Bytes) (sorted : Bool) (children : ℕ) (out out' : Bytes) (r : FormatPut) (h : FormatPuts 0 (read_format sorted (bytes_of f)) out out' r) where
+module _ (f : Bytes) (sorted : Bool) (children : ℕ) (out out' : Bytes) (r : Refusing (ℕ × Below)) (h : FormatPuts 0 (read_format sorted (bytes_of f)) out out' r) where
   abbrev over_children : Answer Format → Answer Shape
   over_children a = a >>= λ g. needed g children
 
-  pub plain_refused_lem : (q : Reason) → r ≡ Put.Refused q → format_shape (bytes_of f) sorted children ≡ refused (refusal_of q)
+  pub plain_refused_lem : (q : Reason) → r ≡ Err q → format_shape (bytes_of f) sorted children ≡ refused (refusal_of q)
   plain_refused_lem q e =
       let is : read_format sorted (bytes_of f) ≡ refused (refusal_of q) = subst (FormatPuts 0 (read_format sorted (bytes_of f)) out out') e h in
       ap over_children is
 
-  module _ (end : ℕ) (b : Below) (e : r ≡ Put.Put end b) where
-    told : FormatPuts 0 (read_format sorted (bytes_of f)) out out' (Put.Put end b)
+  module _ (end : ℕ) (b : Below) (e : r ≡ Ok (end, b)) where
+    told : FormatPuts 0 (read_format sorted (bytes_of f)) out out' (Ok (end, b))
     told = subst (FormatPuts 0 (read_format sorted (bytes_of f)) out out') e h
 
     pub plain_lacks : lacks_child b children ≡ true → format_shape (bytes_of f) sorted children ≡ refused no_child
@@ -107,19 +103,19 @@ module _ (t : Bytes) (l : SchemaLine) where
   null_type_lem e = ap (λ (y : Bytes). column_type y l) (same_eq t no_text e)
 
   module _ (h : IsText t) (k : same t no_text ≡ false) (f : Bytes) (g : f ≡ text_in t) where
-    typed : column_type t l ≡ (format_text (some (bytes_of f)) >>= λ f. node_shape f l.flags l.children l.dictionary)
+    typed : column_type t l ≡ (format_text (Some (bytes_of f)) >>= λ f. node_shape f l.flags l.children l.dictionary)
     unfolding column_type
-    typed = pick h.0 h.1 ∙ ap (λ (y : Bytes). format_text (some (bytes_of y)) >>= λ f. node_shape f l.flags l.children l.dictionary) (sym g)
+    typed = pick h.0 h.1 ∙ ap (λ (y : Bytes). format_text (Some (bytes_of y)) >>= λ f. node_shape f l.flags l.children l.dictionary) (sym g)
       where
         pick : (x : Option Bytes) → read_text t ≡ given x
             → (read_text t >>= λ x. format_text x >>= λ f. node_shape f l.flags l.children l.dictionary)
-            ≡ (format_text (some (bytes_of (text_in t))) >>= λ f. node_shape f l.flags l.children l.dictionary)
-        pick none e =
-            let n : no_text ≡ t = text_read t none e in
+            ≡ (format_text (Some (bytes_of (text_in t))) >>= λ f. node_shape f l.flags l.children l.dictionary)
+        pick None e =
+            let n : no_text ≡ t = text_read t None e in
             absurd (true≢false (sym (same_refl no_text) ∙ ap (λ (y : Bytes). same y no_text) n ∙ k))
-        pick (some b) e =
+        pick (Some b) e =
             ap (λ (a : Answer (Option Bytes)). a >>= λ x. format_text x >>= λ f. node_shape f l.flags l.children l.dictionary) e
-            ∙ ap (λ (y : Bytes). format_text (some y) >>= λ f. node_shape f l.flags l.children l.dictionary) (sym (text_bytes t (some b) e).1)
+            ∙ ap (λ (y : Bytes). format_text (Some y) >>= λ f. node_shape f l.flags l.children l.dictionary) (sym (text_bytes t (Some b) e).1)
 
     -- 5 not UTF-8
     pub not_utf8_type : is_utf8 (bytes_of f) ≡ false → column_type t l ≡ refused not_utf8

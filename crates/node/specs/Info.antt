@@ -1,6 +1,5 @@
 -- What a line's metadata and name say of its field: pairs and an extension, as entries of the metadata's text, or a refusal. Assumes nothing.
-use Rattle.std.specs.Prelude.{◌≡◌, Bool, List, ℕ, ◌/◌, ◌≤◌, ◌<◌, length}
-use Rattle.std.proofs.Math.Option.{Option}
+use Rattle.std.specs.Prelude.{◌≡◌, Bool, List, ℕ, ◌/◌, ◌≤◌, ◌<◌, length, Option}
 use Rattle.sheets.specs.Bytes.{Bytes}
 use Rattle.sheets.specs.Answer.{Answer, given, ◌>>=◌}
 use Rattle.sheets.specs.Text.{read_text}
@@ -8,8 +7,9 @@ use Rattle.sheets.specs.Field.{Pair}
 use Rattle.sheets.specs.Metadata.{Extension, metadata_from_bytes}
 use Rattle.sheets.specs.Import.{name_text}
 use Rattle.hexadecimal.specs.Hex.{bytes_of}
-use Rattle.metadata.specs.declared.MetadataRead.{MetadataRead}
+use Rattle.metadata.specs.declared.Metadata.{Metadata}
 use Rattle.metadata.specs.Reading.{metadata_answer, MetadataStands}
+use Rattle.refusal.specs.Refusals.{Refusing}
 use Rattle.node.specs.Types.{IsText}
 
 -- the pairs and the extension of a metadata's column
@@ -21,7 +21,7 @@ abbrev pub own_answer : Bool → Bytes → Bytes → Answer (Option (List Pair) 
 own_answer big name t = metadata_of big t >>= λ o. read_text name >>= λ x. name_text x >>= λ n. given o
 
 -- the answer, as entries of the text m
-abbrev pub ReadsAs : Bool → Answer (Option (List Pair) × Option Extension) → Bytes → List ℕ → MetadataRead → Type 0
+abbrev pub ReadsAs : Bool → Answer (Option (List Pair) × Option Extension) → Bytes → List ℕ → Refusing Metadata → Type 0
 ReadsAs big a m es r = (metadata_answer big (bytes_of m) es r ≡ a) × MetadataStands big (bytes_of m) es r
 
 -- ── what is required

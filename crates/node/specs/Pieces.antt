@@ -1,6 +1,5 @@
 -- The lines of a node as they are written, from the columns of its schema line and the entries of its metadata. Assumes nothing.
-use Rattle.std.specs.Prelude.{◌≡◌, Bool, true, false, List, ◌++◌, ℕ, ◌<◌, length}
-use Rattle.std.proofs.Math.Option.{Option}
+use Rattle.std.specs.Prelude.{◌≡◌, Bool, true, false, List, ◌++◌, ℕ, ◌<◌, length, Option}
 use Rattle.sheets.specs.Bytes.{Bytes}
 use Rattle.sheets.specs.Text.{write_text}
 use Rattle.sheets.specs.Field.{Info}

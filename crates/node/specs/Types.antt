@@ -1,6 +1,5 @@
 -- The type of a node, from the columns of its line: its columns as they are written, and which subtrees it visits. Assumes nothing.
-use Rattle.std.specs.Prelude.{◌≡◌, Bool, false, ℕ, ◌+◌, ◌*◌, ◌≤◌, eqb}
-use Rattle.std.proofs.Math.Option.{Option}
+use Rattle.std.specs.Prelude.{◌≡◌, Bool, false, ℕ, ◌+◌, ◌*◌, ◌≤◌, eqb, Option}
 use Rattle.sheets.specs.Bytes.{Bytes}
 use Rattle.sheets.specs.Answer.{Answer, refused, given, ◌>>=◌}
 use Rattle.sheets.specs.Text.{read_text}
@@ -11,10 +10,10 @@ use Rattle.sheets.specs.Format.{read_format, to_integer_type}
 use Rattle.buffer.specs.Over.{PutAt}
 use Rattle.field_line.specs.Columns.{columns_piece}
 use Rattle.schema_line.specs.declared.SchemaLine.{SchemaLine}
-use Rattle.import_type.specs.TypeColumns.{below_of, put_answer}
+use Rattle.import_type.specs.TypeColumns.{below_of}
 use Rattle.import_type.specs.declared.Below.{Below}
+use Rattle.refusal.specs.Refusals.{Refusing, answer_of}
 use Rattle.import_type.specs.declared.Below.TheVariants.{Nothing, First, All, Values}
-use Rattle.import_type.specs.declared.FormatPut.{FormatPut}
 
 -- the bytes are a text's column
 abbrev pub IsText : Bytes → Type 0
@@ -45,5 +44,5 @@ TypeTold a n out out' (given (end, b)) =
     (sh : Shape) × (a ≡ given sh) × PutAt 0 (columns_piece (columns sh)) end out out' × (b ≡ below_of sh) × (end ≤ 87 + 21 * n)
 TypeTold a n out out' (refused q) = a ≡ refused q
 
-abbrev pub TypePuts : Answer Shape → ℕ → Bytes → Bytes → FormatPut → Type 0
-TypePuts a n out out' r = TypeTold a n out out' (put_answer r)
+abbrev pub TypePuts : Answer Shape → ℕ → Bytes → Bytes → Refusing (ℕ × Below) → Type 0
+TypePuts a n out out' r = TypeTold a n out out' (answer_of r)

@@ -3,16 +3,21 @@ ghost use Rattle.schema_line.specs.Texts.{text_in};
 ghost use Rattle.node.specs.Types.{IsText};
 ghost use Rattle.node.specs.Info.{metadata_of, own_answer, ReadsAs, HasBlock};
 
-use metadata::{Metadata, MetadataRead};
+use metadata::Metadata;
 use refusal::Refusal;
 
 // What the metadata's column says; a null pointer has no pairs.
-fn read_metadata(column: &[u8], big: bool, entries: &mut [u32], spare: &mut [u32]) -> MetadataRead
+fn read_metadata(
+    column: &[u8],
+    big: bool,
+    entries: &mut [u32],
+    spare: &mut [u32],
+) -> Result<Metadata, Refusal>
     requires { HasBlock column.now entries.old spare.old }
     ensures { ReadsAs big (metadata_of big column.now) (text_in column.now) entries.new result }
 {
     if buffer::same(column, b"~") {
-        return MetadataRead::Found(Metadata {
+        return Ok(Metadata {
             count: 0,
             name: 0,
             more: 0,
@@ -28,17 +33,13 @@ pub fn read_own(
     big: bool,
     entries: &mut [u32],
     spare: &mut [u32],
-) -> MetadataRead
+) -> Result<Metadata, Refusal>
     requires { IsText name.now × HasBlock column.now entries.old spare.old }
     ensures { ReadsAs big (own_answer big name.now column.now) (text_in column.now) entries.new result }
 {
-    match read_metadata(column, big, entries, spare) {
-        MetadataRead::Refused(r) => MetadataRead::Refused(r),
-        MetadataRead::Found(d) => {
-            if utf8::is_utf8_hex(schema_line::text_of(name)) {
-                return MetadataRead::Found(d);
-            }
-            MetadataRead::Refused(Refusal::NotUtf8)
-        }
+    let d = read_metadata(column, big, entries, spare)?;
+    if utf8::is_utf8_hex(schema_line::text_of(name)) {
+        return Ok(d);
     }
+    Err(Refusal::NotUtf8)
 }

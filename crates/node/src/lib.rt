@@ -13,25 +13,17 @@ ghost use Rattle.node.specs.Nodes.{column_in, metadata_in, nothing_shown, refuse
 
 use crate::lines::Shown;
 use columns::Part;
-use import_type::{Below, FormatPut};
-use metadata::MetadataRead;
+use import_type::Below;
 use refusal::Refusal;
 use schema_line::SchemaLine;
 
-// A refusal that comes after what stands below a node.
-#[derive(Drop)]
-pub enum Pending {
-    Nothing,
-    Refused(Refusal),
-}
-
 // What a node's metadata and name say: the extension's line, if there is one, has `len` bytes and is written; `shown` is what the line of the
-// type shows of the field.
+// type shows of the field; `pending` is the refusal that comes after what stands below, if one does.
 #[derive(Drop)]
 pub struct Begun {
     pub len: usize,
     pub shown: Shown,
-    pub pending: Pending,
+    pub pending: Result<(), Refusal>,
 }
 
 fn column_of(s: &[u8], p: Part) -> &[u8]
@@ -62,7 +54,7 @@ fn refused_later(r: Refusal, big: bool) -> Begun
     Begun {
         len: 0,
         shown: nothing_shown(big),
-        pending: Pending::Refused(r),
+        pending: Err(r),
     }
 }
 
@@ -84,8 +76,8 @@ pub fn begin_field(
     let name = column_of(s, line.name);
     let metadata = column_of(s, line.metadata);
     match info::read_own(name, metadata, big, entries, spare) {
-        MetadataRead::Refused(r) => refused_later(r, big),
-        MetadataRead::Found(d) => {
+        Err(r) => refused_later(r, big),
+        Ok(d) => {
             let shown = Shown {
                 bare,
                 nullable: line.nullable(),
@@ -96,14 +88,14 @@ pub fn begin_field(
                 return Begun {
                     len: 0,
                     shown,
-                    pending: Pending::Nothing,
+                    pending: Ok(()),
                 };
             }
             let m = schema_line::text_of(metadata);
             Begun {
                 len: lines::put_extension_line(out, name, m, entries, shown, d),
                 shown: nothing_shown(big),
-                pending: Pending::Nothing,
+                pending: Ok(()),
             }
         }
     }
@@ -128,20 +120,16 @@ pub fn put_type_line(
     shown: Shown,
     out: &mut [u8],
     entries: &[u32],
-) -> FormatPut
+) -> Result<(usize, Below), Refusal>
     requires { NodeIn s.now line × CanShow (column_in s.now line.name) (metadata_in s.now line) entries.now shown }
     ensures { TypeLinePuts s.now line shown entries.now out.old out.new result }
 {
     let format = column_of(s, line.format);
     let name = column_of(s, line.name);
     let metadata = column_of(s, line.metadata);
-    match dtype::put_type(out, format, line) {
-        FormatPut::Refused(r) => FormatPut::Refused(r),
-        FormatPut::Put(end, b) => {
-            let m = schema_line::text_of(metadata);
-            let own = lines::put_own(out, end, name, m, entries, shown);
-            let len = field_line::put_end(out, own, children_below(b, line.children));
-            FormatPut::Put(len, b)
-        }
-    }
+    let (end, b) = dtype::put_type(out, format, line)?;
+    let m = schema_line::text_of(metadata);
+    let own = lines::put_own(out, end, name, m, entries, shown);
+    let len = field_line::put_end(out, own, children_below(b, line.children));
+    Ok((len, b))
 }

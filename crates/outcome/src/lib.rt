@@ -1,11 +1,12 @@
-// What a call that answers a sheet tells its caller, once for all of them: a number and a length; and what a call tells that measures such a sheet.
+// What a call that answers a sheet tells its caller, once for all of them: the sheet's length, or why there is none; and the size that a call tells that
+// measures such a sheet.
 #![tactic(auto)]
 
 ghost use Rattle.std.specs.Prelude.{◌≡◌};
 ghost use Rattle.sheets.specs.Refusal.{number_of};
 ghost use Rattle.sheets.specs.Outcome.{refusal};
 ghost use Rattle.refusal.specs.Refusals.{refusal_of};
-ghost use Rattle.outcome.specs.Answers.{outcome_of, Tells, measure_of, refused_measure};
+ghost use Rattle.outcome.specs.Answers.{refused_number, outcome_of, Tells};
 
 use refusal::Refusal;
 
@@ -16,55 +17,39 @@ pub struct Size {
     pub lines: usize,
 }
 
-// 0 and the sheet's length, or a refusal's number and 0.
+// Why a call answers no sheet: the sheet is refused for a reason of its own, or what is answered is longer than the buffer.
 #[derive(Drop)]
-pub struct Answered {
-    pub number: u8,
-    pub length: usize,
+pub enum Refused {
+    Sheet(Refusal),
+    NoRoom,
 }
 
-// A number that is not 0, and zeros.
-fn turn_back(out: &mut [u8], number: u8) -> Answered
-    ensures { outcome_of result.number result.length out.new ≡ refusal number out.old }
+impl Refused {
+    pub fn number(self) -> u8
+        ensures { result ≡ refused_number self }
+    {
+        match self {
+            Refused::Sheet(reason) => reason.number(),
+            Refused::NoRoom => refusal::NO_ROOM,
+        }
+    }
+}
+
+// The sheet is refused for this reason: the buffer is cleared.
+pub fn refuse(out: &mut [u8], reason: Refusal) -> Result<usize, Refused>
+    ensures { outcome_of result out.new ≡ refusal (number_of (refusal_of reason)) out.old }
 {
     buffer::clear(out);
-    Answered { number, length: 0 }
+    Err(Refused::Sheet(reason))
 }
 
-// The sheet is refused for this reason, which becomes its number here and nowhere else.
-pub fn refuse(out: &mut [u8], reason: Refusal) -> Answered
-    ensures { outcome_of result.number result.length out.new ≡ refusal (number_of (refusal_of reason)) out.old }
-{
-    turn_back(out, reason.number())
-}
-
-// A sheet of `len` bytes has been written over out as far as it fits: refused for no room if it is longer.
-pub fn written(out: &mut [u8], len: usize) -> Answered
+// A sheet of `len` bytes has been written over out as far as it fits: its length, or there is no room for it, and the buffer is cleared.
+pub fn written(out: &mut [u8], len: usize) -> Result<usize, Refused>
     ensures { Tells out.old len result out.new }
 {
     if out.len() < len {
-        return turn_back(out, refusal::NO_ROOM);
+        buffer::clear(out);
+        return Err(Refused::NoRoom);
     }
-    Answered {
-        number: 0,
-        length: len,
-    }
-}
-
-// What a call that measures tells: 0 and the size of what the conversion would write, or the number of its refusal, and no size.
-#[derive(Drop)]
-pub struct Measured {
-    pub number: u8,
-    pub size: Size,
-}
-
-// The conversion refuses the sheet for this reason.
-pub fn unmeasured(reason: Refusal) -> Measured
-    ensures { measure_of result ≡ refused_measure (refusal_of reason) }
-{
-    let none = Size { len: 0, lines: 0 };
-    Measured {
-        number: reason.number(),
-        size: none,
-    }
+    Ok(len)
 }

@@ -3,7 +3,7 @@
 use mathlib.Core.Path.{◌≡◌, sym, ap, subst, ◌∙◌}
 use mathlib.Core.Bool.{Bool}
 use mathlib.Core.List.{List, [], ◌∷◌}
-use mathlib.Core.Option.{Option}
+use Rattle.std.specs.Prelude.{Option, Ok}
 use Prim.Native.Nat.{ℕ, ◌<◌}
 use native.Mathlib.Omega.{arith}
 use lib.Dec.{eqb}
@@ -25,8 +25,6 @@ use Rattle.read_field_line.specs.FieldLines.{Shows, FieldLineAt}
 use Rattle.read_field_line.specs.declared.FieldLine.{FieldLine}
 use Rattle.walks.specs.Places.{TypeAt, BeginsAs, one_line}
 use Rattle.walks.specs.Answers.{begun_answer}
-use Rattle.walks.specs.declared.LineBegun.TheVariants.{Below}
-use Rattle.walks.specs.declared.Pending.TheVariants.{Nothing}
 use Rattle.walks.specs.declared.Subtree.{Subtree}
 use Rattle.walks.specs.declared.Subtrees.{Subtrees}
 use Rattle.line_below.specs.Below.{row_below}
@@ -46,7 +44,7 @@ module _ {s : Bytes} (tree : Subtree) {i : Option Info} {t : ArrowDataType} {es 
   pub page_begun : (level mark len : ℕ) (name : Part) (out out' : Bytes) (w : Subtrees)
       → level ≡ level_of tree.levels tree.inside (eqb l.kind Kind.Extension) → level < 100 → mark ≡ mark_of l.bare l.nullable → name ≡ shown_part l.name
       → PutFirst (ended (line_shown level l.kind mark (part s name.start name.end) ∷ [])) len out out' → w ≡ row_below tree l
-      → BeginsAs page_step s tree.at tree.levels tree.inside (type_walked page_step t i (tree.levels, tree.inside)) es out out' (begun_answer (λ (levels : ℕ) (inside : Bool). (levels, inside)) (Below w (one_line len) Nothing))
+      → BeginsAs page_step s tree.at tree.levels tree.inside (type_walked page_step t i (tree.levels, tree.inside)) es out out' (begun_answer (λ (levels : ℕ) (inside : Bool). (levels, inside)) (Ok (record { row = w; size = one_line len; pending = Ok tt })))
   page_begun level mark len name out out' w levels small marks names put e =
       let level-is : level ≡ level_of tree.levels tree.inside (is_extension (type_shape t)) = levels ∙ ap (level_of tree.levels tree.inside) (line_extension f.stands k) in
       let marked = marks ∙ (λ x. mark_of (shown.bare x) (shown.nullable x)) ∙ sym (mark_is i) in

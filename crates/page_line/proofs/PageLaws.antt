@@ -2,7 +2,7 @@
 use mathlib.Core.Path.{◌≡◌, refl, ap, ◌∙◌}
 use mathlib.Core.Bool.{Bool, true, false, not, ◌&&◌}
 use mathlib.Core.List.{[], ◌∷◌}
-use mathlib.Core.Option.{Option, none, some}
+use Rattle.std.specs.Prelude.{Option, None, Some}
 use Prim.Native.Nat.{ℕ, ◌+◌, ◌-◌, ◌≤◌, ◌<◌}
 use native.Mathlib.Omega.{arith}
 use lib.Dec.{eqb}
@@ -39,8 +39,8 @@ flag_small false b = omega arith
 -- ── the mark and the name
 
 pub mark_is : (i : Option Info) → nullable_mark i ≡ mark_of (is_bare i) (flag_of i)
-mark_is none = refl
-mark_is (some i) = refl
+mark_is None = refl
+mark_is (Some i) = refl
 
 -- the part's bytes are the digits, and it is a part of the sheet
 pub record Shown (s : Bytes) (r : Part) (digits : Bytes) : Type 0 where
@@ -73,10 +73,10 @@ module _ (s : Bytes) (name : Part) where
       (record { order = omega (arith, p.some); within = p.within; is = p.is })
 
   pub name_shown : (i : Option Info) → PartAt s name (info_columns i).0 → Shown s (shown_part name) (name_digits i)
-  name_shown none p = one (info_columns none).0 p refl
-  name_shown (some i) p = pick i.name refl p
+  name_shown None p = one (info_columns None).0 p refl
+  name_shown (Some i) p = pick i.name refl p
     where
-      pick : (n : Bytes) → i.name ≡ n → PartAt s name (info_columns (some i)).0 → Shown s (shown_part name) (name_digits (some i))
+      pick : (n : Bytes) → i.name ≡ n → PartAt s name (info_columns (Some i)).0 → Shown s (shown_part name) (name_digits (Some i))
       pick [] e q = rw e (one _ (rw e at q) refl)
       pick (b ∷ bs) e q = rw e (more _ (rw e at q) (omega arith))
 

@@ -1,6 +1,5 @@
 -- The mark and the name of a line of the page, by what a reader of lines tells, and the pieces that a line is written in. Assumes nothing.
-use Rattle.std.specs.Prelude.{Bool, cond, [], ◌∷◌, ◌++◌, ℕ, ◌-◌, ltb, replicate}
-use Rattle.std.proofs.Math.Option.{none, some}
+use Rattle.std.specs.Prelude.{Bool, cond, [], ◌∷◌, ◌++◌, ℕ, ◌-◌, ltb, replicate, None, Some}
 use Rattle.sheets.specs.Bytes.{Bytes, line_end, space}
 use Rattle.sheets.specs.Number.{decimal}
 use Rattle.sheets.specs.KindNames.{kind_name}
@@ -10,7 +9,7 @@ use Rattle.columns.specs.declared.Part.{Part}
 
 -- the mark of a line that is bare, or of one that is nullable or not
 abbrev pub mark_of : Bool → Bool → ℕ
-mark_of bare nullable = cond bare (nullable_mark none) (nullable_mark (some (record { name = []; nullable = nullable; pairs = none })))
+mark_of bare nullable = cond bare (nullable_mark None) (nullable_mark (Some (record { name = []; nullable = nullable; pairs = None })))
 
 -- the digits of a name: none of a column of one byte, which is `-` or `~`
 abbrev pub shown_part : Part → Part

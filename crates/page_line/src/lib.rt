@@ -15,7 +15,8 @@ use columns::Part;
 use field_leaf::FieldLeaf;
 use field_sheet::levels;
 use outcome::Size;
-use walks::{LeafPut, LineBegun, Pending, Subtree};
+use refusal::Refusal;
+use walks::{LineBegun, Subtree};
 
 // The level of a line that has so many levels left.
 fn level_of(levels: usize, inside: bool, extension: bool) -> u64
@@ -54,20 +55,23 @@ fn shown_name(name: Part) -> Part
 }
 
 // Writes the line of the leaf whose field line stands at the tree's place, if it is recognised at once.
-pub fn put_page_leaf(s: &[u8], tree: Subtree, out: &mut [u8]) -> LeafPut
+pub fn put_page_leaf(s: &[u8], tree: Subtree, out: &mut [u8]) -> Option<(usize, usize)>
     ensures { PageLeafPuts s.now tree out.old out.new result }
 {
-    let FieldLeaf::Line(kind, from, e, nullable) = field_leaf::leaf_at(s, tree.at) else {
-        return LeafPut::Other;
-    };
+    let FieldLeaf {
+        kind,
+        start: from,
+        end: e,
+        nullable,
+    } = field_leaf::leaf_at(s, tree.at)?;
     let level = level_of(tree.levels, tree.inside, false);
     let mark = mark_of(false, nullable == 1);
     let len = crate::put::put_line(level, kind, mark, &s[from..e], out);
-    LeafPut::Put(e + field_leaf::AFTER_NAME, len)
+    Some((e + field_leaf::AFTER_NAME, len))
 }
 
 // Writes the line of the page for the line at `tree.at`, as much as fits.
-pub fn begin_page(s: &[u8], tree: Subtree, out: &mut [u8]) -> LineBegun
+pub fn begin_page(s: &[u8], tree: Subtree, out: &mut [u8]) -> Result<LineBegun, Refusal>
     requires { HasType s.now tree.at tree.levels tree.inside }
     ensures { PageBegins s.now tree out.old out.new result }
 {
@@ -80,5 +84,10 @@ pub fn begin_page(s: &[u8], tree: Subtree, out: &mut [u8]) -> LineBegun
     let end = name.end;
     let len = crate::put::put_line(level, l.kind, mark, &s[start..end], out);
     let row = line_below::row_below(tree, l);
-    LineBegun::Below(row, Size { len, lines: 1 }, Pending::Nothing)
+    let size = Size { len, lines: 1 };
+    Ok(LineBegun {
+        row,
+        size,
+        pending: Ok(()),
+    })
 }

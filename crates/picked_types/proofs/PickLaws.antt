@@ -3,14 +3,14 @@
 use mathlib.Core.Path.{◌≡◌, refl, sym, ap, subst, ◌∙◌}
 use mathlib.Core.Bool.{Bool, true, false, cond}
 use mathlib.Core.List.{List, [], ◌∷◌, ◌++◌, append_assoc}
-use mathlib.Core.Option.{Option, some}
+use Rattle.std.specs.Prelude.{Option, Some, None}
 use Prim.Native.Nat.{ℕ, zero, suc, ◌≤◌, ◌<◌, max}
 use native.Mathlib.Omega.{arith}
 use lib.Dec.{eqb}
 use lib.ListN.{length, drop, drop_of_length-le}
-use Rattle.sheets.specs.Refusal.{undefined_mapping}
+use Rattle.sheets.specs.Refusal.{undefined_mapping, too_deep}
 use Rattle.sheets.specs.Bytes.{Bytes}
-use Rattle.sheets.specs.Answer.{Answer, refused, given}
+use Rattle.sheets.specs.Answer.{Answer, refused, given, found}
 use Rattle.sheets.specs.Kind
 use Rattle.sheets.specs.Sheet.{level_limit}
 use Rattle.sheets.specs.Field.{Info, list, large_list, fixed_size_list, map, ArrowDataType, scalar, nested, grouped, dictionary, extension}
@@ -27,9 +27,7 @@ use Rattle.sheets.proofs.FieldTrees.{standing_lines}
 use Rattle.sheets.proofs.LineTrees.{tallest_append}
 use Rattle.read_field_line.specs.FieldLines.{FieldLineAt}
 use Rattle.read_field_line.specs.declared.FieldLine.{FieldLine}
-use Rattle.field_sheet.specs.Subtrees.{skip_answer, SkipsRow}
-use Rattle.field_sheet.specs.declared.subtrees.Skipped.{Skipped}
-use Rattle.field_sheet.specs.declared.subtrees.Skipped.TheVariants.{To, Deep}
+use Rattle.field_sheet.specs.Subtrees.{SkipsRow}
 use Rattle.field_sheet.proofs.SkipLaws.{line_row}
 use Rattle.nesting.specs.Nestings.{type_nesting, kind_nesting}
 use Rattle.nesting.specs.declared.Nesting.{Nesting}
@@ -63,7 +61,7 @@ storage_picked s at r told i t f = let w = told i t [] f in (to_storage t, refl,
 
 -- ── the type of a list's field
 
-inner_there : (t : ArrowDataType) → has_inner (type_nesting t) ≡ true → (j : Info) × (u : ArrowDataType) × (inner_dtype t ≡ given u) × (type_below t ≡ (some j, u) ∷ [])
+inner_there : (t : ArrowDataType) → has_inner (type_nesting t) ≡ true → (j : Info) × (u : ArrowDataType) × (inner_dtype t ≡ given u) × (type_below t ≡ (Some j, u) ∷ [])
 inner_there (scalar s) h = never h
 inner_there (nested list j u) h = (j, u, refl, refl)
 inner_there (nested large_list j u) h = (j, u, refl, refl)
@@ -91,16 +89,16 @@ module _ {s : Bytes} {at : ℕ} {i : Option Info} {t : ArrowDataType} (f : Field
   inner_undefined z = inner_absent t (inner_is ∙ z)
 
   module _ (z : b ≡ true) where
-    field_stands : let w = inner_there t (inner_is ∙ z) in Standing fields (drop first.end s) ((some w.0, w.1) ∷ [])
+    field_stands : let w = inner_there t (inner_is ∙ z) in Standing fields (drop first.end s) ((Some w.0, w.1) ∷ [])
     field_stands = let w = inner_there t (inner_is ∙ z) in subst (λ (us : List Entry). Standing fields (drop first.end s) (us ++ [])) w.3 (line_opened f.stands k).1
 
     pub inner_tree : HasTree fields s first.end
-    inner_tree = let w = inner_there t (inner_is ∙ z) in ((some w.0, w.1), [], field_stands)
+    inner_tree = let w = inner_there t (inner_is ∙ z) in ((Some w.0, w.1), [], field_stands)
 
     pub inner_picked : {l : FieldLine} → FieldLineAt s first.end l → PickTold s (inner_dtype t) (given (record { at = first.end; line = l; end = length s }))
     inner_picked {l} m =
         let w = inner_there t (inner_is ∙ z) in
-        (w.1, w.2, record { info = some w.0; es = []; stands = field_stands; line = m; after = end_stands s; high = omega arith; short = f.short })
+        (w.1, w.2, record { info = Some w.0; es = []; stands = field_stands; line = m; after = end_stands s; high = omega arith; short = f.short })
 
 -- ── a type up to its end
 
@@ -108,19 +106,19 @@ module _ {s : Bytes} {at : ℕ} {i : Option Info} {t : ArrowDataType} {es : List
   pub below_there : HasTrees fields s l.end l.children
   below_there = line_row l k ((i, t), es, f.stands)
 
-  module _ (r : Skipped) (h : SkipsRow s l.end l.children e level_limit (skip_answer r)) where
-    told : (q : Skipped) → r ≡ q → SkipsRow s l.end l.children e level_limit (skip_answer q)
-    told q z = subst (λ (x : Skipped). SkipsRow s l.end l.children e level_limit (skip_answer x)) z h
+  module _ (r : Option ℕ) (h : SkipsRow s l.end l.children e level_limit (found too_deep r)) where
+    told : (q : Option ℕ) → r ≡ q → SkipsRow s l.end l.children e level_limit (found too_deep q)
+    told q z = subst (λ (x : Option ℕ). SkipsRow s l.end l.children e level_limit (found too_deep x)) z h
 
-    pub whole_deep : r ≡ Deep → ⊥
+    pub whole_deep : r ≡ None → ⊥
     whole_deep z =
         let w = row_below_lem f k ext refl in
-        omega (arith, (told Deep z).1 (type_below t) es w.stands w.counted, w.deep)
+        omega (arith, (told None z).1 (type_below t) es w.stands w.counted, w.deep)
 
-    pub whole_picked : (end : ℕ) → r ≡ To end → PickedAt s (record { at = at; line = l; end = end }) t
+    pub whole_picked : (end : ℕ) → r ≡ Some end → PickedAt s (record { at = at; line = l; end = end }) t
     whole_picked end z =
         let w = row_below_lem f k ext refl in
-        let d = told (To end) z (type_below t) es w.stands w.counted in
+        let d = told (Some end) z (type_below t) es w.stands w.counted in
         record { info = i; es = es; stands = f.stands; line = k; after = d.1; high = d.3; short = f.short }
 
 -- ── one of the types of a row
@@ -161,17 +159,17 @@ module _ {s : Bytes} {at count : ℕ} {us es : List Entry} (there : RowAt s at c
   pub before_there : HasTrees fields s at index
   before_there = (it.before, (it.info, it.type) ∷ (it.others ++ es), split_stands, it.count, there.within)
 
-  module _ (r : Skipped) (h : SkipsRow s at index false level_limit (skip_answer r)) where
-    nth_told : (q : Skipped) → r ≡ q → SkipsRow s at index false level_limit (skip_answer q)
-    nth_told q z = subst (λ (x : Skipped). SkipsRow s at index false level_limit (skip_answer x)) z h
+  module _ (r : Option ℕ) (h : SkipsRow s at index false level_limit (found too_deep r)) where
+    nth_told : (q : Option ℕ) → r ≡ q → SkipsRow s at index false level_limit (found too_deep q)
+    nth_told q z = subst (λ (x : Option ℕ). SkipsRow s at index false level_limit (found too_deep x)) z h
 
-    pub nth_deep : r ≡ Deep → ⊥
-    nth_deep z = omega (arith, (nth_told Deep z).1 it.before ((it.info, it.type) ∷ (it.others ++ es)) split_stands it.count, split_deep)
+    pub nth_deep : r ≡ None → ⊥
+    nth_deep z = omega (arith, (nth_told None z).1 it.before ((it.info, it.type) ∷ (it.others ++ es)) split_stands it.count, split_deep)
 
-    module _ (next : ℕ) (z : r ≡ To next) where
+    module _ (next : ℕ) (z : r ≡ Some next) where
       nth_at : TypeAt s next level_limit false it.info it.type (it.others ++ es)
       nth_at =
-          let d = nth_told (To next) z it.before ((it.info, it.type) ∷ (it.others ++ es)) split_stands it.count in
+          let d = nth_told (Some next) z it.before ((it.info, it.type) ∷ (it.others ++ es)) split_stands it.count in
           record { stands = d.1; deep = omega (arith, split_deep, tallest_cons false (it.info, it.type) it.others); short = there.short }
 
       pub nth_there : HasType s next level_limit false

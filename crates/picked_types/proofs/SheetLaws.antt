@@ -2,14 +2,14 @@
 -- that is defined. Assumes nothing.
 use mathlib.Core.Path.{◌≡◌, refl, sym, ap, subst, ◌∙◌}
 use mathlib.Core.List.{List, [], ◌∷◌, ◌++◌, append_assoc}
-use mathlib.Core.Option.{Option, some}
+use Rattle.std.specs.Prelude.{Option, Some, None, Result, Ok, Err}
 use Prim.Native.Nat.{ℕ, ◌+◌, ◌-◌, ◌≤◌, min}
 use native.Mathlib.Omega.{arith}
 use lib.ListN.{length, take, drop, length-append, length-drop}
 use lib.Seq.{take_at}
 use Rattle.sheets.specs.Refusal.{number_of, undefined_mapping}
 use Rattle.sheets.specs.Bytes.{Bytes, line_end}
-use Rattle.sheets.specs.Answer.{Answer, refused, given, ◌>>=◌}
+use Rattle.sheets.specs.Answer.{Answer, given, ◌>>=◌, found}
 use Rattle.sheets.specs.Sheet.{ended, heading_line}
 use Rattle.sheets.specs.Field.{Info, ArrowDataType, Field}
 use Rattle.sheets.specs.FieldSheet.{Entry, field_heading, read_field_sheet}
@@ -26,25 +26,21 @@ use Rattle.read_field_line.specs.FieldLines.{FieldLineAt}
 use Rattle.read_field_line.specs.declared.FieldLine.{FieldLine}
 use Rattle.line_below.proofs.LineLaws.{line_opened}
 use Rattle.mapping_line.specs.PutLines.{info_text, HasColumns, Says, CanPutLine, line_with, LinePut}
-use Rattle.mapping_line.specs.declared.put.FieldColumns.{FieldColumns}
 use Rattle.mapping_line.proofs.PutLaws.{columns_there, columns_said}
 use Rattle.walks.specs.Places.{own_limit}
 use Rattle.refusal.specs.declared.Refusal.{Refusal as Reason}
-use Rattle.refusal.specs.Refusals.{refusal_of}
-use Rattle.field_sheet.specs.Sheets.{sheet_body, sheet_answer}
-use Rattle.field_sheet.specs.declared.SheetRead.{SheetRead}
-use Rattle.field_sheet.specs.declared.SheetRead.TheVariants.{Body, Refused as Unread}
+use Rattle.refusal.specs.Refusals.{refusal_of, Refusing, answer_of}
+use Rattle.field_sheet.specs.Sheets.{sheet_body}
 use Rattle.outcome.specs.Answers.{outcome_of, Tells}
-use Rattle.outcome.specs.declared.Answered.{Answered}
+use Rattle.outcome.specs.declared.Refused.{Refused}
 use Rattle.outcome.proofs.AnswerLaws.{told_refused}
 use Rattle.mapping_calls.proofs.CallLaws.{sheet_unread, read, read_type, sheet_read}
-use Rattle.picked_types.specs.Picks.{chosen, pick_answer, PickedAt, PickTold, HasField, Picks}
+use Rattle.picked_types.specs.Picks.{chosen, PickedAt, PickTold, HasField, Picks}
 use Rattle.picked_types.specs.Sheets.{info_for, sheet_with, choice_outcome, columns_for, HasColumnsOf, HasOwn, CanPut, SheetPut, CanAnswer, PickAnswered}
 use Rattle.picked_types.specs.declared.pick.Choice.{Choice}
 use Rattle.picked_types.specs.declared.pick.Choice.TheVariants.{Storage, Inner, Child}
-use Rattle.picked_types.specs.declared.pick.Pick.{Pick}
-use Rattle.picked_types.specs.declared.pick.Pick.TheVariants.{Found, Undefined}
 use Rattle.picked_types.specs.declared.pick.PickedType.{PickedType}
+use Rattle.columns.specs.declared.Part.{Part}
 
 -- ── the lines
 
@@ -81,11 +77,11 @@ module _ {s : Bytes} {p : PickedType} {t : ArrowDataType} (g : PickedAt s p t) w
       ∙ append_assoc field_heading (line_end ∷ []) (ended (first ∷ below))
       ∙ ap (λ (ls : List Bytes). field_heading ++ (line_end ∷ ended ls)) (sym (lines_opened t j))
 
-  pub can_put_line : (own : FieldColumns) → HasOwn s own → CanPutLine s p.at p.line own
+  pub can_put_line : (own : Option Part) → HasOwn s own → CanPutLine s p.at p.line own
   can_put_line own h = record { line = g.line; columns = h.2; short = g.short }
 
   -- no sum wraps
-  module _ (own : FieldColumns) (j : Option Info) (says : Says s own j) (lent out : Bytes) {len : ℕ} (h : LinePut s p.at p.line own lent out len) where
+  module _ (own : Option Part) (j : Option Info) (says : Says s own j) (lent out : Bytes) {len : ℕ} (h : LinePut s p.at p.line own lent out len) where
     pub line_short : len ≤ own_limit
     line_short = (h g.line j says).1
 
@@ -104,7 +100,7 @@ module _ {s : Bytes} {p : PickedType} {t : ArrowDataType} (g : PickedAt s p t) w
 
 -- ── the columns of the first line
 
-module _ (c : Choice) {s : Bytes} {at : ℕ} {i : Info} {t : ArrowDataType} {es : List Entry} (st : Standing fields (drop at s) ((some i, t) ∷ es)) {first : FieldLine} (k : FieldLineAt s at first) where
+module _ (c : Choice) {s : Bytes} {at : ℕ} {i : Info} {t : ArrowDataType} {es : List Entry} (st : Standing fields (drop at s) ((Some i, t) ∷ es)) {first : FieldLine} (k : FieldLineAt s at first) where
   pub own_said : Says s (columns_for c first) (info_for c i)
   own_said = go c
     where
@@ -123,50 +119,50 @@ module _ (c : Choice) {s : Bytes} {at : ℕ} {i : Info} {t : ArrowDataType} {es 
 
 -- ── the outcome
 
-module _ (s : Bytes) (own : FieldColumns) (out : Bytes) (a : Answer ArrowDataType) (j : Option Info) where
-  pub pick_refused : (p : Pick) → p ≡ Undefined → PickTold s a (pick_answer p) → (o : Outcome) → o ≡ refusal (number_of undefined_mapping) out → o ≡ outcome (a >>= λ t. given (sheet_with j t)) out
+module _ (s : Bytes) (own : Option Part) (out : Bytes) (a : Answer ArrowDataType) (j : Option Info) where
+  pub pick_refused : (p : Option PickedType) → p ≡ None → PickTold s a (found undefined_mapping p) → (o : Outcome) → o ≡ refusal (number_of undefined_mapping) out → o ≡ outcome (a >>= λ t. given (sheet_with j t)) out
   pick_refused p e told o r =
       told_refused (a >>= λ t. given (sheet_with j t)) out out undefined_mapping o
-      (ap (λ (x : Answer ArrowDataType). x >>= λ t. given (sheet_with j t)) (subst (λ (x : Pick). PickTold s a (pick_answer x)) e told)) r refl
+      (ap (λ (x : Answer ArrowDataType). x >>= λ t. given (sheet_with j t)) (subst (λ (x : Option PickedType). PickTold s a (found undefined_mapping x)) e told)) r refl
 
-  pub pick_written : (p : Pick) (q : PickedType) → p ≡ Found q → PickTold s a (pick_answer p) → Says s own j → (mid : Bytes) (len : ℕ) → SheetPut s q own out mid len → (r : Answered) (out' : Bytes) → Tells mid len r out'
-      → outcome_of r.number r.length out' ≡ outcome (a >>= λ t. given (sheet_with j t)) out
+  pub pick_written : (p : Option PickedType) (q : PickedType) → p ≡ Some q → PickTold s a (found undefined_mapping p) → Says s own j → (mid : Bytes) (len : ℕ) → SheetPut s q own out mid len → (r : Result ℕ Refused) (out' : Bytes) → Tells mid len r out'
+      → outcome_of r out' ≡ outcome (a >>= λ t. given (sheet_with j t)) out
   pick_written p q e told says mid len put r out' tells =
-      let w : PickTold s a (given q) = subst (λ (x : Pick). PickTold s a (pick_answer x)) e told in
+      let w : PickTold s a (given q) = subst (λ (x : Option PickedType). PickTold s a (found undefined_mapping x)) e told in
       tells (sheet_with j w.0) out (put w.0 j w.2 says)
       ∙ ap (λ (x : Answer ArrowDataType). outcome (x >>= λ t. given (sheet_with j t)) out) (sym w.1)
 
 -- the type that was found can be written
-pub found_there : (s : Bytes) (p : Pick) (q : PickedType) (own : FieldColumns) → p ≡ Found q → CanAnswer s p own → CanPut s q own
-found_there s p q own e h = let w : PickTold s h.0 (given q) = subst (λ (x : Pick). PickTold s h.0 (pick_answer x)) e h.1 in (w.0, w.2, h.2)
+pub found_there : (s : Bytes) (p : Option PickedType) (q : PickedType) (own : Option Part) → p ≡ Some q → CanAnswer s p own → CanPut s q own
+found_there s p q own e h = let w : PickTold s h.0 (given q) = subst (λ (x : Option PickedType). PickTold s h.0 (found undefined_mapping x)) e h.1 in (w.0, w.2, h.2)
 
-module _ (c : Choice) (s : Bytes) (k : SheetRead) (h : sheet_answer k ≡ sheet_body s) (out : Bytes) where
+module _ (c : Choice) (s : Bytes) (k : Refusing ℕ) (h : answer_of k ≡ sheet_body s) (out : Bytes) where
   abbrev made : Field → Answer Bytes
   made f = chosen c f.type >>= λ t. given (sheet_with (info_for c f.info) t)
 
-  pub answer_unread : (q : Reason) → k ≡ Unread q → (o : Outcome) → o ≡ refusal (number_of (refusal_of q)) out → o ≡ choice_outcome c s out
+  pub answer_unread : (q : Reason) → k ≡ Err q → (o : Outcome) → o ≡ refusal (number_of (refusal_of q)) out → o ≡ choice_outcome c s out
   answer_unread q e o r = told_refused (read_field_sheet s >>= made) out out (refusal_of q) o (sym (sheet_unread s k h q e made)) r refl
 
-  module _ (at : ℕ) (e : k ≡ Body at) {first : FieldLine} (there : FieldLineAt s at first) where
+  module _ (at : ℕ) (e : k ≡ Ok at) {first : FieldLine} (there : FieldLineAt s at first) where
     abbrev field : Field
     field = (read s k h at e).0
 
     pub field_there : HasField s at first
-    field_there = (some field.info, field.type, read_type s k h at e, there)
+    field_there = (Some field.info, field.type, read_type s k h at e, there)
 
     pub own_fits : HasColumnsOf first
     own_fits = omega (arith, there.shows.pairs.within, (read_type s k h at e).short)
 
-    own_has : (own : FieldColumns) → own ≡ columns_for c first → HasOwn s own
+    own_has : (own : Option Part) → own ≡ columns_for c first → HasOwn s own
     own_has own z =
         subst (HasOwn s) (sym z) (info_for c field.info, own_said c (read_type s k h at e).stands there, own_there c (read_type s k h at e).stands there)
 
-    module _ (p : Pick) (w : Picks c s at (pick_answer p)) (own : FieldColumns) (z : own ≡ columns_for c first) where
+    module _ (p : Option PickedType) (w : Picks c s at (found undefined_mapping p)) (own : Option Part) (z : own ≡ columns_for c first) where
       pub pick_there : CanAnswer s p own
-      pick_there = (chosen c field.type, w (some field.info) field.type (read_type s k h at e), own_has own z)
+      pick_there = (chosen c field.type, w (Some field.info) field.type (read_type s k h at e), own_has own z)
 
       pub answer_read : (o : Outcome) → PickAnswered s p own out o → o ≡ choice_outcome c s out
       answer_read o d =
-          d (chosen c field.type) (info_for c field.info) (w (some field.info) field.type (read_type s k h at e))
-          (subst (λ (x : FieldColumns). Says s x (info_for c field.info)) (sym z) (own_said c (read_type s k h at e).stands there))
+          d (chosen c field.type) (info_for c field.info) (w (Some field.info) field.type (read_type s k h at e))
+          (subst (λ (x : Option Part). Says s x (info_for c field.info)) (sym z) (own_said c (read_type s k h at e).stands there))
           ∙ ap (λ (x : Answer Bytes). outcome x out) (sheet_read s k h at e made (made field) refl)

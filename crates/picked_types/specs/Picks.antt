@@ -1,7 +1,5 @@
 -- The types that `to_storage`, `inner_dtype` and `get_child` answer, and what finding them in a sheet tells. Assumes nothing.
-use Rattle.std.specs.Prelude.{◌≡◌, Bool, true, false, List, [], ◌∷◌, ℕ, ◌≤◌, ◌<◌, length, drop}
-use Rattle.std.proofs.Math.Option.{Option}
-use Rattle.sheets.specs.Refusal.{undefined_mapping}
+use Rattle.std.specs.Prelude.{◌≡◌, Bool, true, false, List, [], ◌∷◌, ℕ, ◌≤◌, ◌<◌, length, drop, Option}
 use Rattle.sheets.specs.Bytes.{Bytes}
 use Rattle.sheets.specs.Answer.{Answer, refused, given}
 use Rattle.sheets.specs.Sheet.{level_limit}
@@ -19,8 +17,6 @@ use Rattle.walks.specs.Places.{TypeAt, RowAt}
 use Rattle.picked_types.specs.declared.pick.Choice.{Choice}
 use Rattle.picked_types.specs.declared.pick.Choice.TheVariants.{Storage, Inner, Child}
 use Rattle.picked_types.specs.declared.pick.PickedType.{PickedType}
-use Rattle.picked_types.specs.declared.pick.Pick.{Pick}
-use Rattle.picked_types.specs.declared.pick.Pick.TheVariants.{Found, Undefined}
 
 -- ── the choice
 
@@ -57,11 +53,6 @@ pub record PickedAt (s : Bytes) (p : PickedType) (t : ArrowDataType) : Type 0 wh
   pub after : Standing fields (drop p.end s) es
   pub high : p.end ≤ length s
   pub short : length s ≤ 65535
-
--- what `Pick` says: 15 "mapping undefined there, no such child"
-abbrev pub pick_answer : Pick → Answer PickedType
-pick_answer (Found p) = given p
-pick_answer Undefined = refused undefined_mapping
 
 -- the type a was to be found
 abbrev pub PickTold : Bytes → Answer ArrowDataType → Answer PickedType → Type 0

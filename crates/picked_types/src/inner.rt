@@ -1,8 +1,10 @@
 // The type that `inner_dtype` answers. It does not look into extensions.
 ghost use Rattle.std.specs.Prelude.{◌≡◌};
-ghost use Rattle.picked_types.specs.Picks.{has_inner, pick_answer, HasLine, InnerTold};
+ghost use Rattle.picked_types.specs.Picks.{has_inner, HasLine, InnerTold};
+ghost use Rattle.sheets.specs.Answer.{found};
+ghost use Rattle.sheets.specs.Refusal.{undefined_mapping};
 
-use crate::pick::{Pick, PickedType};
+use crate::pick::PickedType;
 use nesting::Nesting;
 use read_field_line::FieldLine;
 
@@ -21,16 +23,16 @@ fn has_inner(n: Nesting) -> bool
 }
 
 // The type of a list's field, whose lines end with the sheet.
-pub fn inner_type(s: &[u8], first: FieldLine) -> Pick
+pub fn inner_type(s: &[u8], first: FieldLine) -> Option<PickedType>
     requires { HasLine s.now first }
-    ensures { InnerTold s.now first (pick_answer result) }
+    ensures { InnerTold s.now first (found undefined_mapping result) }
 {
     if !has_inner(nesting::nesting_of(first.kind)) {
-        return Pick::Undefined;
+        return None;
     }
     let at = first.end;
     let line = read_field_line::field_line_at(s, at);
-    Pick::Found(PickedType {
+    Some(PickedType {
         at,
         line,
         end: s.len(),

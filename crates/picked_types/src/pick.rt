@@ -1,5 +1,7 @@
 // The type that a call answers, found among the lines of the field's type.
-ghost use Rattle.picked_types.specs.Picks.{pick_answer, HasField, Picks};
+ghost use Rattle.picked_types.specs.Picks.{HasField, Picks};
+ghost use Rattle.sheets.specs.Answer.{found};
+ghost use Rattle.sheets.specs.Refusal.{undefined_mapping};
 
 use read_field_line::FieldLine;
 use walks::Subtree;
@@ -20,17 +22,10 @@ pub struct PickedType {
     pub end: usize,
 }
 
-// The type, or that the mapping is not defined.
-#[derive(Drop)]
-pub enum Pick {
-    Found(PickedType),
-    Undefined,
-}
-
 // The type in all extensions, whose lines end with the sheet.
-fn storage_type(s: &[u8], at: usize, first: FieldLine) -> Pick
+fn storage_type(s: &[u8], at: usize, first: FieldLine) -> Option<PickedType>
     requires { HasField s.now at first }
-    ensures { Picks Choice.Storage s.now at (pick_answer result) }
+    ensures { Picks Choice.Storage s.now at (found undefined_mapping result) }
 {
     let tree = Subtree {
         at,
@@ -39,7 +34,7 @@ fn storage_type(s: &[u8], at: usize, first: FieldLine) -> Pick
     };
     let inner = storage_line::storage_line(s, tree, first);
     let line = inner.line;
-    Pick::Found(PickedType {
+    Some(PickedType {
         at: inner.at,
         line,
         end: s.len(),
@@ -47,9 +42,9 @@ fn storage_type(s: &[u8], at: usize, first: FieldLine) -> Pick
 }
 
 // `first` is the line at `at`, the field's.
-pub fn pick_type(choice: Choice, s: &[u8], at: usize, first: FieldLine) -> Pick
+pub fn pick_type(choice: Choice, s: &[u8], at: usize, first: FieldLine) -> Option<PickedType>
     requires { HasField s.now at first }
-    ensures { Picks choice s.now at (pick_answer result) }
+    ensures { Picks choice s.now at (found undefined_mapping result) }
 {
     match choice {
         Choice::Storage => storage_type(s, at, first),

@@ -3,7 +3,7 @@
 use mathlib.Core.Path.{◌≡◌, refl, sym, ap, subst, ◌∙◌}
 use mathlib.Core.Bool.{Bool, true, false, ◌&&◌, ◌||◌, cond}
 use mathlib.Core.List.{List, [], ◌∷◌, ◌++◌}
-use mathlib.Core.Option.{Option, none}
+use Rattle.std.specs.Prelude.{Option, None, Some, Ok}
 use Prim.Native.Nat.{ℕ, ◌+◌, ◌-◌, ◌≤◌, ◌<◌}
 use native.Mathlib.Omega.{arith}
 use lib.Dec.{eqb}
@@ -11,7 +11,7 @@ use lib.ListN.{length, length-append}
 use borrow.Author.Tests.{ltb-true}
 use Rattle.sheets.specs.Rule.{Meets}
 use Rattle.sheets.specs.Bytes.{Bytes}
-use Rattle.sheets.specs.Answer.{given}
+use Rattle.sheets.specs.Answer.{given, found}
 use Rattle.sheets.specs.Kind
 use Rattle.sheets.specs.Sheet.{ended}
 use Rattle.sheets.specs.Field.{Info, leaf, ArrowDataType, scalar, nested, grouped, dictionary, extension}
@@ -21,24 +21,18 @@ use Rattle.sheets.specs.PlainSteps.{plain_step}
 use Rattle.sheets.specs.Walk.{head_with, head_text, visit, skip, Step, writes, line_walked, type_walked, row_walked}
 use Rattle.sheets.proofs.Tests.{never}
 use Rattle.sheets.proofs.FieldTrees.{fields_lawful}
-use Rattle.sheets.proofs.LineTrees.{Lawful}
 use Rattle.sheets.proofs.TreeWalks.{below_fits}
 use Rattle.sheets.proofs.WalkLaws.{walked_opened, levels_below_lem}
 use Rattle.buffer.specs.Over.{PutAt, PutFirst}
 use Rattle.buffer.proofs.OverLaws.{put_over, over_nothing}
 use Rattle.read_field_line.specs.FieldLines.{FieldLineAt}
 use Rattle.read_field_line.specs.declared.FieldLine.{FieldLine}
-use Rattle.field_sheet.specs.Subtrees.{skip_answer, SkipsRow}
-use Rattle.field_sheet.specs.declared.subtrees.Skipped.{Skipped}
-use Rattle.field_sheet.specs.declared.subtrees.Skipped.TheVariants.{To, Deep}
+use Rattle.field_sheet.specs.Subtrees.{SkipsRow}
 use Rattle.field_line.specs.Columns.{columns_piece, own_piece, end_piece}
 use Rattle.field_line.proofs.LengthLaws.{shape_short, bare_length, end_short}
 use Rattle.field_line.proofs.ColumnLaws.{bare_line}
 use Rattle.walks.specs.Places.{own_limit, TypeAt, HasType, BeginsAs, one_line}
 use Rattle.walks.specs.Answers.{begun_answer}
-use Rattle.walks.specs.declared.LineBegun.{LineBegun}
-use Rattle.walks.specs.declared.LineBegun.TheVariants.{Below}
-use Rattle.walks.specs.declared.Pending.TheVariants.{Nothing}
 use Rattle.walks.specs.declared.Subtree.{Subtree}
 use Rattle.walks.specs.declared.Subtrees.{Subtrees}
 use Rattle.walks.proofs.BeginLaws.{row_smaller, begin_skip}
@@ -48,7 +42,10 @@ use Rattle.line_below.proofs.BelowLaws.{all_visited, has_tree}
 use Rattle.plain_line.specs.PlainLines.{plain_head, plain_line, LineHere, LinePut}
 use Rattle.plain_line.specs.Begins.{line_change_of, index_line}
 use Rattle.plain_line.specs.declared.LineChange.{LineChange}
+use Rattle.sheets.specs.Refusal.{too_deep}
+use Rattle.refusal.specs.Refusals.{Refusing}
 use Rattle.plain_line.specs.declared.LineChange.TheVariants.{Vanishes, BecomesIndex, Stays}
+use Rattle.walks.specs.declared.LineBegun.{LineBegun}
 
 -- ── what becomes of the line
 
@@ -98,22 +95,22 @@ opens_staying (extension n m t) i true h = never (sym h)
 opens_staying (extension n m t) i false h = walked_opened plain_step (extension n m t) i false
 
 module _ {s : Bytes} (tree : Subtree) {i : Option Info} {t : ArrowDataType} {es : List Entry} (f : TypeAt s tree.at tree.levels tree.inside i t es) {l : FieldLine} (k : FieldLineAt s tree.at l) where
-  abbrev Told : Bytes → Bytes → LineBegun → Type 0
+  abbrev Told : Bytes → Bytes → Refusing LineBegun → Type 0
   Told out out' r = BeginsAs plain_step s tree.at tree.levels tree.inside (type_walked plain_step t i tree.inside) es out out' (begun_answer (λ (levels : ℕ) (inside : Bool). inside) r)
 
   -- what is below the line is visited
   row_left : (ls : List Bytes) → OpensAs t i tree.inside (writes (given ls) (visit (is_extension (type_shape t)))) → (out out' : Bytes) (len : ℕ) → PutFirst (ended ls) len out out' → len ≤ own_limit
-      → (w : Subtrees) → w ≡ row_below tree l → Told out out' (Below w (one_line len) Nothing)
+      → (w : Subtrees) → w ≡ row_below tree l → Told out out' (Ok (record { row = w; size = one_line len; pending = Ok tt }))
   row_left = all_visited tree f k plain_step (λ (levels : ℕ) (inside : Bool). inside)
 
   -- an extension vanishes
-  pub vanished : line_change_of tree.inside l.kind ≡ Vanishes → (out : Bytes) (w : Subtrees) → w ≡ row_below tree l → Told out out (Below w (one_line 0) Nothing)
+  pub vanished : line_change_of tree.inside l.kind ≡ Vanishes → (out : Bytes) (w : Subtrees) → w ≡ row_below tree l → Told out out (Ok (record { row = w; size = one_line 0; pending = Ok tt }))
   vanished h out w e =
       let c = vanishes_only tree.inside (eqb l.kind Kind.Extension) (eqb l.kind Kind.Dictionary) h in
       row_left [] (opens_vanished t i tree.inside c.0 (sym (line_extension f.stands k) ∙ c.1)) out out 0 (refl, sym (over_nothing out)) (omega arith) w e
 
   -- a line stays
-  pub stayed : line_change_of tree.inside l.kind ≡ Stays → (out out' : Bytes) (len : ℕ) → LinePut s tree.at l out out' len → (w : Subtrees) → w ≡ row_below tree l → Told out out' (Below w (one_line len) Nothing)
+  pub stayed : line_change_of tree.inside l.kind ≡ Stays → (out out' : Bytes) (len : ℕ) → LinePut s tree.at l out out' len → (w : Subtrees) → w ≡ row_below tree l → Told out out' (Ok (record { row = w; size = one_line len; pending = Ok tt }))
   stayed h out out' len put w e =
       let c = stays_only tree.inside (eqb l.kind Kind.Extension) (eqb l.kind Kind.Dictionary) h in
       let (at_end, short) = put k in
@@ -145,11 +142,11 @@ module _ {s : Bytes} (tree : Subtree) {i : Option Info} {t : ArrowDataType} {es 
         go (extension a m u) e r b n = never (sym n)
 
     -- its bare line, then nothing
-    opens_index : OpensAs t i tree.inside (writes (given (head_text (head_with (of_scalar (leaf (l.p + Kind.Int8) 0)) none 0) ∷ [])) skip)
+    opens_index : OpensAs t i tree.inside (writes (given (head_text (head_with (of_scalar (leaf (l.p + Kind.Int8) 0)) None 0) ∷ [])) skip)
     opens_index = go t tree.inside (line_p f.stands k) bare none_inside tests.0
       where
         go : (u : ArrowDataType) (b : Bool) → l.p ≡ (columns (type_shape u)).p → bare_below (type_shape u) ≡ true → is_extension (type_shape u) ≡ false → b ≡ true
-            → OpensAs u i b (writes (given (head_text (head_with (of_scalar (leaf (l.p + Kind.Int8) 0)) none 0) ∷ [])) skip)
+            → OpensAs u i b (writes (given (head_text (head_with (of_scalar (leaf (l.p + Kind.Int8) 0)) None 0) ∷ [])) skip)
         go (scalar x) c e b n y = never b
         go (nested g j u) c e b n y = never b
         go (grouped g fs) c e b n y = never b
@@ -157,27 +154,27 @@ module _ {s : Bytes} (tree : Subtree) {i : Option Info} {t : ArrowDataType} {es 
         go (dictionary ix ordered u) false e b n y = never y
         go (dictionary ix ordered u) true e b n y =
             walked_opened plain_step (dictionary ix ordered u) i true
-            ∙ ap (λ (x : ℕ). line_walked 0 (given (writes (given (head_text (head_with (of_scalar (leaf (x + Kind.Int8) 0)) none 0) ∷ [])) skip)) (λ τ. row_walked plain_step (type_below (dictionary ix ordered u)) τ) (entry_lines (type_below (dictionary ix ordered u)))) (sym e)
+            ∙ ap (λ (x : ℕ). line_walked 0 (given (writes (given (head_text (head_with (of_scalar (leaf (x + Kind.Int8) 0)) None 0) ∷ [])) skip)) (λ τ. row_walked plain_step (type_below (dictionary ix ordered u)) τ) (entry_lines (type_below (dictionary ix ordered u)))) (sym e)
 
-    module _ (r : Skipped) (skips : SkipsRow s l.end l.children false (tree.levels - 1) (skip_answer r)) where
-      told : (q : Skipped) → r ≡ q → SkipsRow s l.end l.children false (tree.levels - 1) (skip_answer q)
-      told q e = subst (λ (x : Skipped). SkipsRow s l.end l.children false (tree.levels - 1) (skip_answer x)) e skips
+    module _ (r : Option ℕ) (skips : SkipsRow s l.end l.children false (tree.levels - 1) (found too_deep r)) where
+      told : (q : Option ℕ) → r ≡ q → SkipsRow s l.end l.children false (tree.levels - 1) (found too_deep q)
+      told q e = subst (λ (x : Option ℕ). SkipsRow s l.end l.children false (tree.levels - 1) (found too_deep x)) e skips
 
       many : length (type_below t) ≡ l.children
       many = fields_lawful.many (i, t) ∙ sym (line_count f.stands k)
 
-      pub never_deep : r ≡ Deep → ⊥
+      pub never_deep : r ≡ None → ⊥
       never_deep e =
-          let m = (told Deep e).1 (type_below t) es (line_opened f.stands k).1 many in
+          let m = (told None e).1 (type_below t) es (line_opened f.stands k).1 many in
           let d = levels_below_lem t tree.inside tree.levels f.deep in
           omega (arith, m, rw none_inside at d)
 
-      pub index_begun : (next : ℕ) → r ≡ To next → (out out' : Bytes) (len : ℕ) → PutAt 0 (index_line l.p) len out out' → len ≤ own_limit
-          → Told out out' (Below (record { at = next; count = 0; levels = tree.levels - 1; inside = false }) (one_line len) Nothing)
+      pub index_begun : (next : ℕ) → r ≡ Some next → (out out' : Bytes) (len : ℕ) → PutAt 0 (index_line l.p) len out out' → len ≤ own_limit
+          → Told out out' (Ok (record { row = (record { at = next; count = 0; levels = tree.levels - 1; inside = false }); size = one_line len; pending = Ok tt }))
       index_begun next e out out' len put short =
-          let m = told (To next) e (type_below t) es (line_opened f.stands k).1 many in
+          let m = told (Some next) e (type_below t) es (line_opened f.stands k).1 many in
           let falls = row_smaller f in
-          begin_skip plain_step s tree.at tree.levels tree.inside (type_walked plain_step t i tree.inside) (writes (given (head_text (head_with (of_scalar (leaf (l.p + Kind.Int8) 0)) none 0) ∷ [])) skip) (type_below t) es 0 opens_index
+          begin_skip plain_step s tree.at tree.levels tree.inside (type_walked plain_step t i tree.inside) (writes (given (head_text (head_with (of_scalar (leaf (l.p + Kind.Int8) 0)) None 0) ∷ [])) skip) (type_below t) es 0 opens_index
           false next (tree.levels - 1) false (rw none_inside at falls) m.1 m.3 f.short (omega (arith, k.there.low, m.2)) refl out out' len (given tt)
           (put_over (index_line l.p) out put) (omega (arith, k.there.low, m.2, short))
 

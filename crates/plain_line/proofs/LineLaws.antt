@@ -3,7 +3,7 @@
 use mathlib.Core.Path.{◌≡◌, refl, sym, ap, subst, ◌∙◌}
 use mathlib.Core.Bool.{Bool, true, false, not, cond}
 use mathlib.Core.List.{[], ◌∷◌, ◌++◌, append_assoc}
-use mathlib.Core.Option.{Option, none, some}
+use Rattle.std.specs.Prelude.{Option, None, Some}
 use Prim.Native.Nat.{ℕ, ◌+◌, ◌-◌, ◌*◌, ◌^◌, ◌≤◌, ◌<◌}
 use native.Mathlib.Omega.{arith}
 use lib.ListN.{length, take, drop, length-append, length-take, length-drop}
@@ -79,8 +79,8 @@ rest_plain (of_scalar (fixed_size_binary m)) n = record { kind = refl; p = refl;
 rest_plain (of_scalar (decimal_type w p q)) n = record { kind = refl; p = refl; q = refl; more = refl }
 rest_plain (of_nesting g) n = record { kind = refl; p = refl; q = refl; more = refl }
 rest_plain (of_grouping struct) n = record { kind = refl; p = refl; q = refl; more = refl }
-rest_plain (of_grouping (union mode none)) n = record { kind = refl; p = refl; q = refl; more = refl }
-rest_plain (of_grouping (union mode (some ids))) n = record { kind = refl; p = refl; q = refl; more = refl }
+rest_plain (of_grouping (union mode None)) n = record { kind = refl; p = refl; q = refl; more = refl }
+rest_plain (of_grouping (union mode (Some ids))) n = record { kind = refl; p = refl; q = refl; more = refl }
 rest_plain (of_dictionary ix ordered) n = record { kind = refl; p = refl; q = refl; more = refl }
 rest_plain (of_extension a m) n = record { kind = refl; p = refl; q = refl; more = refl }
 
@@ -120,14 +120,14 @@ module _ (s : Bytes) (l : FieldLine) where
   own_plain : (i : Option Info) → l.bare ≡ is_bare i → l.nullable ≡ flag_of i → column_in s l.name ≡ (info_columns i).0 → column_in s l.pairs ≡ (info_columns i).1.1
       → own_columns (plain_own i) ≡ own_text s l
   unfolding own_text
-  own_plain none b f n p = rw b
-  own_plain (some i) b f n p = rw (b, f, n, p, pairs_text_lem i.pairs)
+  own_plain None b f n p = rw b
+  own_plain (Some i) b f n p = rw (b, f, n, p, pairs_text_lem i.pairs)
 
   own_kept : (i : Option Info) → l.bare ≡ is_bare i → l.nullable ≡ flag_of i → column_in s l.name ≡ (info_columns i).0 → column_in s l.pairs ≡ (info_columns i).1.1
       → same (column_in s l.pairs) (ascii "-") ≡ false → own_columns i ≡ own_text s l
   unfolding own_text
-  own_kept none b f n p e = rw b
-  own_kept (some i) b f n p e = rw (b, e, f, n, p)
+  own_kept None b f n p e = rw b
+  own_kept (Some i) b f n p e = rw (b, e, f, n, p)
 
   -- as they are written
   pub own_bare : l.bare ≡ true → own_piece no_text no_text no_text ≡ own_text s l

@@ -1,7 +1,6 @@
 -- Document 01, 'Plain form', of a line that stays a line: "Timezone Some-empty becomes None; pairs Some-empty become None. Union ids None become 0, 1, ..
 -- one per field. The rest is unchanged". Assumes nothing.
-use Rattle.std.specs.Prelude.{Bool, false, not, cond, [], ◌∷◌, ◌++◌, ℕ, ◌+◌, ◌*◌, ◌≤◌, eqb, length}
-use Rattle.std.proofs.Math.Option.{some}
+use Rattle.std.specs.Prelude.{Bool, false, not, cond, [], ◌∷◌, ◌++◌, ℕ, ◌+◌, ◌*◌, ◌≤◌, eqb, length, Some}
 use Rattle.sheets.specs.Bytes.{Bytes, ascii, same}
 use Rattle.sheets.specs.Number.{decimal, write_signed}
 use Rattle.sheets.specs.Kind
@@ -49,7 +48,7 @@ column_in s p = part s p.start p.end
 
 -- "Union ids None become 0, 1, .. one per field"
 abbrev pub counted_ids : ℕ → Bytes
-counted_ids n = write_list write_signed (some (up_from 0 n))
+counted_ids n = write_list write_signed (Some (up_from 0 n))
 
 -- `text`, by the kind: a timezone `-` becomes `~`, and the ids `~` become 0, 1, ..
 abbrev pub text_change_of : ℕ → Bytes → TextChange

@@ -12,11 +12,9 @@ pub fn put_ids(out: &mut [u8], at: usize, count: u64) -> usize
         return buffer::put_byte(out, at, b'-');
     }
     let mut end = buffer::put_byte(out, at, b'0');
-    let mut i = 1;
-    while i < count {
+    for i in 1..count {
         let start = buffer::put_byte(out, end, b',');
         end = decimal::put::put_u64(out, start, i);
-        i += 1;
     }
     end
 }

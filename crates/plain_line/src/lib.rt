@@ -10,11 +10,10 @@ ghost use Rattle.walks.specs.Places.{HasType};
 ghost use Rattle.plain_line.specs.Begins.{line_change_of, index_line, HasIndex, PlainBegins};
 
 use datatypes::kind;
-use field_sheet::subtrees::Skipped;
 use outcome::Size;
 use read_field_line::FieldLine;
 use refusal::Refusal;
-use walks::{LineBegun, Pending, Subtree, Subtrees};
+use walks::{LineBegun, Subtree, Subtrees};
 
 // What becomes of a line: it vanishes, leaves the line of its index type, or stays a line.
 #[derive(Drop)]
@@ -51,16 +50,15 @@ fn put_index(out: &mut [u8], index: u64) -> usize
 }
 
 // A dictionary directly inside an extension: its values are skipped.
-fn begin_index(s: &[u8], tree: Subtree, l: FieldLine, out: &mut [u8]) -> LineBegun
+fn begin_index(s: &[u8], tree: Subtree, l: FieldLine, out: &mut [u8]) -> Result<LineBegun, Refusal>
     requires { HasIndex s.now tree l }
     ensures { PlainBegins s.now tree out.old out.new result }
 {
     let len = put_index(out, l.p);
     let left = tree.levels - 1;
     // The whole sheet was read before, and no tree has more levels: this refusal never comes.
-    let Skipped::To(next) = field_sheet::subtrees::skip_row(s, l.end, l.children, false, left)
-    else {
-        return LineBegun::Refused(Refusal::TooDeep);
+    let Some(next) = field_sheet::subtrees::skip_row(s, l.end, l.children, false, left) else {
+        return Err(Refusal::TooDeep);
     };
     let row = Subtrees {
         at: next,
@@ -68,11 +66,15 @@ fn begin_index(s: &[u8], tree: Subtree, l: FieldLine, out: &mut [u8]) -> LineBeg
         levels: left,
         inside: false,
     };
-    LineBegun::Below(row, Size { len, lines: 1 }, Pending::Nothing)
+    Ok(LineBegun {
+        row,
+        size: Size { len, lines: 1 },
+        pending: Ok(()),
+    })
 }
 
 // Writes the plain form of the line at `tree.at`, as far as it fits.
-pub fn begin_plain(s: &[u8], tree: Subtree, out: &mut [u8]) -> LineBegun
+pub fn begin_plain(s: &[u8], tree: Subtree, out: &mut [u8]) -> Result<LineBegun, Refusal>
     requires { HasType s.now tree.at tree.levels tree.inside }
     ensures { PlainBegins s.now tree out.old out.new result }
 {
@@ -80,13 +82,21 @@ pub fn begin_plain(s: &[u8], tree: Subtree, out: &mut [u8]) -> LineBegun
     match line_change(tree.inside, l.kind) {
         LineChange::Vanishes => {
             let row = line_below::row_below(tree, l);
-            LineBegun::Below(row, Size { len: 0, lines: 1 }, Pending::Nothing)
+            Ok(LineBegun {
+                row,
+                size: Size { len: 0, lines: 1 },
+                pending: Ok(()),
+            })
         }
         LineChange::BecomesIndex => begin_index(s, tree, l, out),
         LineChange::Stays => {
             let row = line_below::row_below(tree, l);
             let len = crate::line::put_line(s, tree.at, l, out);
-            LineBegun::Below(row, Size { len, lines: 1 }, Pending::Nothing)
+            Ok(LineBegun {
+                row,
+                size: Size { len, lines: 1 },
+                pending: Ok(()),
+            })
         }
     }
 }

@@ -5,9 +5,10 @@ mod sentence;
 
 ghost use Rattle.std.specs.Prelude.{◌≡◌, take, IfOk, OnOk};
 ghost use Rattle.std.specs.Io.KnownBytes.{Appends};
+ghost use Rattle.outcome.specs.Answers.{number_told};
 ghost use Rattle.print_answer.specs.Printed.{refused_line, printed};
 
-use outcome::Answered;
+use outcome::Refused;
 use std::io;
 use std::io::Write;
 
@@ -35,15 +36,16 @@ pub fn print_answer<W: Write, E: Write>(
     to: &mut W,
     err: &mut E,
     out: &[u8],
-    answer: Answered,
+    answer: Result<usize, Refused>,
 ) -> io::Result<u8>
-    ensures number { IfOk result (λ n. n ≡ answer.number) }
+    ensures number { IfOk result (λ n. n ≡ number_told answer) }
     ensures printed { OnOk result (Appends (W.contents to.old) (W.contents to.new) (printed out.now answer)) }
 {
-    let number = answer.number;
-    if number != 0 {
-        return print_refused(to, err, number);
+    match answer {
+        Err(refused) => print_refused(to, err, refused.number()),
+        Ok(length) => {
+            print_sheet(to, out, length)?;
+            Ok(0)
+        }
     }
-    print_sheet(to, out, answer.length)?;
-    Ok(number)
 }

@@ -3,14 +3,14 @@ use mathlib.Core.Path.{◌≡◌, refl, sym, ap, ap₂, subst, ◌∙◌}
 use mathlib.Core.Logic.{◌≢◌}
 use mathlib.Core.Bool.{Bool, true, false, cond, true≢false}
 use mathlib.Core.List.{List, [], ◌∷◌, ◌++◌, append_assoc, append-nil}
-use mathlib.Core.Option.{Option, none, some}
+use Rattle.std.specs.Prelude.{Option, None, Some}
 use Prim.Native.Nat.{ℕ, ◌+◌, ◌<◌, ◌^◌}
 use native.Mathlib.Omega.{arith}
 use lib.Dec.{eqb, ltb}
 use lib.IntN.{ℤ}
 use borrow.Author.Tests.{ne_eqb, eqb-true, ltb-true}
 use Rattle.sheets.specs.Refusal.{bad_lines}
-use Rattle.sheets.specs.Rule.{is, passes, Meets}
+use Rattle.sheets.specs.Rule.{passes, Meets}
 use Rattle.sheets.specs.Bytes.{Bytes, ascii}
 use Rattle.sheets.specs.Answer.{Answer, refused, given, ◌>>=◌}
 use Rattle.sheets.specs.Number.{decimal, read_signed}
@@ -147,7 +147,7 @@ module _ (kind p q : ℕ) (text : Bytes) (fields at : ℕ) (h : CanFormat kind p
     pub zone_arm : timestamp_format p (column_text text) ≡ line_format kind p q text fields
     unfolding column_text
     zone_arm =
-        ap₂ (λ (a : Answer TimeUnit) (z : Answer (Option Bytes)). a >>= λ u. scalar_format (timestamp u (given_or none z))) stamp.is_unit stamp.is_zone
+        ap₂ (λ (a : Answer TimeUnit) (z : Answer (Option Bytes)). a >>= λ u. scalar_format (timestamp u (given_or None z))) stamp.is_unit stamp.is_zone
         ∙ of_shape (of_scalar (timestamp stamp.unit stamp.zone)) stamp.is
 
   module _ (e : kind ≡ Kind.Union) where
@@ -163,13 +163,13 @@ module _ (kind p q : ℕ) (text : Bytes) (fields at : ℕ) (h : CanFormat kind p
         }
 
     by_ids : (m : Bool) (o : Option (List ℤ)) → union_format (union_name m) o fields ≡ grouping_format (union m o) fields
-    by_ids m none = refl
-    by_ids m (some ids) = refl
+    by_ids m None = refl
+    by_ids m (Some ids) = refl
 
     pub union_arm : union_format (union_name (eqb p 1)) (ids_in text) fields ≡ line_format kind p q text fields
     unfolding ids_in
     union_arm =
-        ap₂ (λ (m : Bool) (a : Answer (Option (List ℤ))). union_format (union_name m) (given_or none a) fields) (mode_is p joint.mode joint.is_mode) joint.is_ids
+        ap₂ (λ (m : Bool) (a : Answer (Option (List ℤ))). union_format (union_name m) (given_or None a) fields) (mode_is p joint.mode joint.is_mode) joint.is_ids
         ∙ by_ids joint.mode joint.ids
         ∙ of_shape (of_grouping (union joint.mode joint.ids)) joint.is
 

@@ -2,7 +2,7 @@
 use mathlib.Core.Path.{◌≡◌, refl, sym, ap, ap₂, ◌∙◌}
 use mathlib.Core.Bool.{Bool, true, false, not, ◌&&◌, true≢false}
 use mathlib.Core.List.{List, [], ◌∷◌, ◌++◌, map}
-use mathlib.Core.Option.{Option, none, some}
+use Rattle.std.specs.Prelude.{Option, None, Some, Ok}
 use Prim.Native.Nat.{ℕ, zero, suc, ◌+◌, ◌<◌}
 use native.Mathlib.Omega.{arith}
 use lib.Dec.{eqb}
@@ -27,7 +27,6 @@ use Rattle.hexadecimal.proofs.PartLaws.{hex_append}
 use Rattle.column_text.specs.ColumnText.{has_zero}
 use Rattle.put_format.specs.Counted.{counted_text}
 use Rattle.put_format.specs.Formats.{Formats}
-use Rattle.put_format.specs.declared.Exported.TheVariants.{Written}
 use Rattle.put_format.specs.LineFormat.{ids_in, union_format, IdsColumn}
 
 -- ── byte 00
@@ -65,7 +64,7 @@ hex_then {at} f {out} {n} {l} g {m} {k} w p =
     let v : Puts at (hex f ++ hex g) out m k = and_then (hex g) w p in
     record { place = v.place ∙ ap (λ (t : Bytes). at + length t) (sym (hex_append f g)); holds = v.holds ∙ ap (λ (t : Bytes). over_at at t out) (sym (hex_append f g)) }
 
-pub formats_put : (f : Bytes) (at r : ℕ) (z : Bool) (old out : Bytes) → Puts at (hex f) old r out → z ≡ has_zero f → Formats (given f) at (Written r z) old out
+pub formats_put : (f : Bytes) (at r : ℕ) (z : Bool) (old out : Bytes) → Puts at (hex f) old r out → z ≡ has_zero f → Formats (given f) at (Ok (r, z)) old out
 formats_put f at r z old out w e = (ap₂ (λ (n : ℕ) (b : Bool). given (n, b)) w.place e, w.holds)
 
 -- ── ids
@@ -73,11 +72,11 @@ formats_put f at r z old out w e = (ap₂ (λ (n : ℕ) (b : Bool). given (n, b)
 module _ (name text : Bytes) (fields : ℕ) where
   pub ids_empty : same text (45 ∷ []) ≡ true → refused no_union_ids ≡ union_format name (ids_in text) fields
   unfolding ids_in
-  ids_empty e = ap (λ (t : Bytes). union_format name (given_or none (read_list read_signed t)) fields) (sym (same_eq text (45 ∷ []) e))
+  ids_empty e = ap (λ (t : Bytes). union_format name (given_or None (read_list read_signed t)) fields) (sym (same_eq text (45 ∷ []) e))
 
-  ids_none : same text (126 ∷ []) ≡ true → none ≡ ids_in text
+  ids_none : same text (126 ∷ []) ≡ true → None ≡ ids_in text
   unfolding ids_in
-  ids_none e = ap (λ (t : Bytes). given_or none (read_list read_signed t)) (sym (same_eq text (126 ∷ []) e))
+  ids_none e = ap (λ (t : Bytes). given_or None (read_list read_signed t)) (sym (same_eq text (126 ∷ []) e))
 
   pub no_fields : same text (126 ∷ []) ≡ true → fields ≡ 0 → refused no_union_ids ≡ union_format name (ids_in text) fields
   no_fields e f = ap (λ (n : ℕ). write_ids name (up_from 0 n)) (sym f) ∙ ap (λ (o : Option (List ℤ)). union_format name o fields) (ids_none e)
@@ -92,13 +91,13 @@ module _ (name text : Bytes) (fields : ℕ) where
 
   module _ (h : IdsColumn text) (d : same text (45 ∷ []) ≡ false) (t : same text (126 ∷ []) ≡ false) where
     is_ids_lem : (o : Option (List ℤ)) → text ≡ write_list write_signed o → (given (name ++ text) ≡ union_format name o fields) × (has_zero text ≡ false)
-    is_ids_lem none e = absurd (true≢false (sym (same_refl (126 ∷ [])) ∙ ap (λ (x : Bytes). same x (126 ∷ [])) (sym e) ∙ t))
-    is_ids_lem (some []) e = absurd (true≢false (sym (same_refl (45 ∷ [])) ∙ ap (λ (x : Bytes). same x (45 ∷ [])) (sym e) ∙ d))
-    is_ids_lem (some (z ∷ zs)) e = (ap (λ (x : Bytes). given (name ++ x)) e, ap has_zero e ∙ joined_clean (z ∷ zs))
+    is_ids_lem None e = absurd (true≢false (sym (same_refl (126 ∷ [])) ∙ ap (λ (x : Bytes). same x (126 ∷ [])) (sym e) ∙ t))
+    is_ids_lem (Some []) e = absurd (true≢false (sym (same_refl (45 ∷ [])) ∙ ap (λ (x : Bytes). same x (45 ∷ [])) (sym e) ∙ d))
+    is_ids_lem (Some (z ∷ zs)) e = (ap (λ (x : Bytes). given (name ++ x)) e, ap has_zero e ∙ joined_clean (z ∷ zs))
 
     pub listed_ids : given (name ++ text) ≡ union_format name (ids_in text) fields
     unfolding ids_in
-    listed_ids = (is_ids_lem h.ids h.is).0 ∙ ap (λ (a : Answer (Option (List ℤ))). union_format name (given_or none a) fields) (sym h.read)
+    listed_ids = (is_ids_lem h.ids h.is).0 ∙ ap (λ (a : Answer (Option (List ℤ))). union_format name (given_or None a) fields) (sym h.read)
 
     pub listed_clean : has_zero text ≡ false
     listed_clean = (is_ids_lem h.ids h.is).1

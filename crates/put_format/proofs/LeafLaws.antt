@@ -3,11 +3,11 @@
 use mathlib.Core.Path.{◌≡◌, refl, sym, ap, ap₂, subst, ◌∙◌}
 use mathlib.Core.Bool.{Bool, true, false, not, ◌&&◌, ◌||◌, cond, true≢false}
 use mathlib.Core.List.{List, [], ◌∷◌, ◌++◌}
-use mathlib.Core.Option.{Option, none, some}
+use Rattle.std.specs.Prelude.{Option, None, Some, Ok}
 use Prim.Native.Nat.{ℕ, ◌+◌, ◌*◌, ◌≤◌, ◌<◌}
 use native.Mathlib.Omega.{arith}
 use lib.Dec.{eqb, leb, ltb}
-use lib.ListN.{length, get_or, take, drop, replicate}
+use lib.ListN.{length, get_or, take, replicate}
 use lib.Seq.{take_all}
 use borrow.Author.Tests.{eqb-true, leb-true, ltb-true, eq-eqb, ne_eqb, not-true}
 use Rattle.sheets.specs.Refusal.{no_format}
@@ -30,13 +30,12 @@ use Rattle.words.proofs.DigitLaws.{hex_bytes_small}
 use Rattle.format_names.specs.Names.{table_length, row_at, low_digits, high_digits}
 use Rattle.format_names.proofs.NameLaws.{name_short, row_bytes}
 use Rattle.column_text.specs.ColumnText.{has_zero}
+use Rattle.refusal.specs.Refusals.{Refusing}
 use Rattle.put_format.specs.Formats.{Formats, is_word}
-use Rattle.put_format.specs.declared.Exported.{Exported}
-use Rattle.put_format.specs.declared.Exported.TheVariants.{Written}
 
 -- ── a format told by another way
 
-pub formats_as : (a b : Answer Bytes) (at : ℕ) (r : Exported) (old out : Bytes) → a ≡ b → Formats a at r old out → Formats b at r old out
+pub formats_as : (a b : Answer Bytes) (at : ℕ) (r : Refusing (ℕ × Bool)) (old out : Bytes) → a ≡ b → Formats a at r old out → Formats b at r old out
 formats_as a b at r old out e h = subst (λ (x : Answer Bytes). Formats x at r old out) e h
 
 -- ── the row of a leaf
@@ -52,8 +51,8 @@ leaf_row k u = get_or first_rows k 0 + u
 
 -- row r is what the definition finds
 abbrev agrees : Option FormatRow → ℕ → FormatRow → Bool
-agrees none k r = not (eqb r.kind k)
-agrees (some x) k r = eqb r.kind k && same x.name r.name
+agrees None k r = not (eqb r.kind k)
+agrees (Some x) k r = eqb r.kind k && same x.name r.name
 
 abbrev row_test : ℕ → ℕ → Bool
 row_test k u = not (passes (leaf_rule k u)) || (ltb (leaf_row k u) table_length && agrees (row_of k u rows) k (row_at (leaf_row k u)))
@@ -93,15 +92,15 @@ module _ (k u : ℕ) (h : Meets (leaf_rule k u)) where
   leaf_named_lem e = go (row_of k u rows) agreed
     where
       go : (o : Option FormatRow) → agrees o k (row_at (leaf_row k u)) ≡ true → given (row_at (leaf_row k u)).name ≡ Said o
-      go none a = absurd (true≢false (sym a ∙ ap not (eq-eqb (row_at (leaf_row k u)).kind k e)))
-      go (some x) a = ap given (sym (same_eq x.name (row_at (leaf_row k u)).name (and_right (eqb (row_at (leaf_row k u)).kind k) (same x.name (row_at (leaf_row k u)).name) a)))
+      go None a = absurd (true≢false (sym a ∙ ap not (eq-eqb (row_at (leaf_row k u)).kind k e)))
+      go (Some x) a = ap given (sym (same_eq x.name (row_at (leaf_row k u)).name (and_right (eqb (row_at (leaf_row k u)).kind k) (same x.name (row_at (leaf_row k u)).name) a)))
 
   pub leaf_nameless : ((row_at (leaf_row k u)).kind ≡ k → ⊥) → refused no_format ≡ scalar_format (leaf k u)
   leaf_nameless n = go (row_of k u rows) agreed
     where
       go : (o : Option FormatRow) → agrees o k (row_at (leaf_row k u)) ≡ true → refused no_format ≡ Said o
-      go none a = refl
-      go (some x) a = absurd (true≢false (sym (and_left (eqb (row_at (leaf_row k u)).kind k) (same x.name (row_at (leaf_row k u)).name) a) ∙ ne_eqb (row_at (leaf_row k u)).kind k n))
+      go None a = refl
+      go (Some x) a = absurd (true≢false (sym (and_left (eqb (row_at (leaf_row k u)).kind k) (same x.name (row_at (leaf_row k u)).name) a) ∙ ne_eqb (row_at (leaf_row k u)).kind k n))
 
 -- ── the names
 
@@ -154,13 +153,13 @@ module _ (i : ℕ) (h : i < table_length) where
       ap₂ (λ (k : ℕ) (b : Bytes). take (2 * k) b) g (q ∙ ap (over_at 8 (low_bytes 8 high)) p ∙ both_words low high ∙ ap₂ (λ (x y : ℕ). low_bytes 8 x ++ low_bytes 8 y) e f) ∙ words_text i h
 
   -- and they are written
-  pub row_put : (t : Bytes) (at r : ℕ) (old out : Bytes) → t ≡ hex (row_at i).name → PutAt at t r old out → Formats (given (row_at i).name) at (Written r false) old out
+  pub row_put : (t : Bytes) (at r : ℕ) (old out : Bytes) → t ≡ hex (row_at i).name → PutAt at t r old out → Formats (given (row_at i).name) at (Ok (r, false)) old out
   row_put t at r old out e k =
       (ap₂ (λ (x : ℕ) (z : Bool). given (x, z)) (k.0 ∙ ap (λ (b : Bytes). at + length b) e) (sym (name_clean i h)), k.1 ∙ ap (λ (b : Bytes). over_at at b old) e)
 
   -- a name of two bytes, by one word
   pub two_bytes_put : (low at : ℕ) (old out : Bytes) → 2 ≡ length (row_at i).name → low ≡ low_digits (hex (row_at i).name) → out ≡ over_at at (low_bytes 4 low) old
-      → Formats (given (row_at i).name) at (Written (at + 4) false) old out
+      → Formats (given (row_at i).name) at (Ok (at + 4, false)) old out
   two_bytes_put low at old out n e p =
       let h4 = hex (row_at i).name in
       let four : length h4 ≡ 4 = length_hex (row_at i).name ∙ ap (λ (k : ℕ). 2 * k) (sym n) in

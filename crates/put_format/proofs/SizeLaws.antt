@@ -3,7 +3,7 @@ use mathlib.Core.Path.{◌≡◌, refl, sym, ap, subst, ◌∙◌}
 use mathlib.Core.Bool.{Bool, true, false, ◌&&◌, cond}
 use mathlib.Core.List.{List, [], ◌∷◌, ◌++◌}
 use mathlib.Core.List.{map as map_list}
-use mathlib.Core.Option.{Option, none, some}
+use Rattle.std.specs.Prelude.{Option, None, Some}
 use Prim.Native.Nat.{ℕ, zero, suc, ◌+◌, ◌*◌, ◌≤◌, ◌<◌, ◌^◌}
 use native.Mathlib.Omega.{arith}
 use lib.Dec.{eqb, ltb}
@@ -29,11 +29,11 @@ use Rattle.put_format.specs.LineFormat.{shape_format, line_format, CanFormat}
 abbrev short_row : FormatRow → Rule
 short_row r = is (ltb 0 (length r.name)) and is (ltb (length r.name) 8)
 
-row_short : (k u : ℕ) (l : List FormatRow) → Meets (each short_row l) → (r : FormatRow) → row_of k u l ≡ some r → Meets (short_row r)
+row_short : (k u : ℕ) (l : List FormatRow) → Meets (each short_row l) → (r : FormatRow) → row_of k u l ≡ Some r → Meets (short_row r)
 row_short k u [] h r e = absurd (let z : ◌≡◌ {A = ℕ} 0 1 = cc in omega arith)
 row_short k u (x ∷ l) h r e = pick (eqb k x.kind && eqb u x.unit) e (row_short k u l h.1 r)
   where
-    pick : (t : Bool) → cond t (some x) (row_of k u l) ≡ some r → (row_of k u l ≡ some r → Meets (short_row r)) → Meets (short_row r)
+    pick : (t : Bool) → cond t (Some x) (row_of k u l) ≡ Some r → (row_of k u l ≡ Some r → Meets (short_row r)) → Meets (short_row r)
     pick true f next =
         let s : x ≡ r = cc in
         subst (λ (y : FormatRow). Meets (short_row y)) s h.0
@@ -47,8 +47,8 @@ named_short : (k u : ℕ) (f : Bytes) → scalar_format (leaf k u) ≡ given f �
 named_short k u f h = go (row_of k u rows) refl h
   where
     go : (o : Option FormatRow) → row_of k u rows ≡ o → (found no_format o >>= λ r. given r.name) ≡ given f → (0 < length f) × (length f < 8)
-    go none e g = not_given g
-    go (some r) e g =
+    go None e g = not_given g
+    go (Some r) e g =
         let s = row_short k u rows rows_short r e in
         let n : r.name ≡ f = same_given g in
         let m : length r.name ≡ length f = ap length n in
@@ -72,9 +72,9 @@ sized : (most : ℕ) (g f : Bytes) → given g ≡ given f → Size most g → S
 sized most g f e h = subst (Size most) (same_given e) h
 
 zone_short : (z : Option Bytes) → length (or_empty z) ≤ length (write_text z)
-zone_short none = omega arith
-zone_short (some []) = omega arith
-zone_short (some (b ∷ bs)) = omega (arith, length_hex (b ∷ bs))
+zone_short None = omega arith
+zone_short (Some []) = omega arith
+zone_short (Some (b ∷ bs)) = omega (arith, length_hex (b ∷ bs))
 
 size_of : (n : ℕ) → Meets (is (ltb n (2 ^ 64))) → length (decimal n) ≤ 20
 size_of n h = decimal_short n (ltb-true n (2 ^ 64) h)
@@ -110,12 +110,12 @@ shape_size (of_nesting large_list) n f h l e = sized _ (ascii "+L") f e (omega a
 shape_size (of_nesting (fixed_size_list m)) n f h l e = sized _ (ascii "+w:" ++ decimal m) f e (omega arith, omega (arith, size_of m h))
 shape_size (of_nesting (map b)) n f h l e = sized _ (ascii "+m") f e (omega arith, omega arith)
 shape_size (of_grouping struct) n f h l e = sized _ (ascii "+s") f e (omega arith, omega arith)
-shape_size (of_grouping (union m none)) zero f h l e = not_given e
-shape_size (of_grouping (union m none)) (suc n) f h l e =
+shape_size (of_grouping (union m None)) zero f h l e = not_given e
+shape_size (of_grouping (union m None)) (suc n) f h l e =
     let t = join comma (map_list write_signed (up_from 0 (suc n))) in
     sized _ (union_name m ++ t) f e (omega (arith, length-append (union_name m) t, union_name_lem m), omega (arith, length-append (union_name m) t, union_name_lem m, counted_short 0 n (omega arith)))
-shape_size (of_grouping (union m (some []))) n f h l e = not_given e
-shape_size (of_grouping (union m (some (z ∷ zs)))) n f h l e =
+shape_size (of_grouping (union m (Some []))) n f h l e = not_given e
+shape_size (of_grouping (union m (Some (z ∷ zs)))) n f h l e =
     let t = join comma (write_signed z ∷ map_list write_signed zs) in
     sized _ (union_name m ++ t) f e (omega (arith, length-append (union_name m) t, union_name_lem m), omega (arith, length-append (union_name m) t, union_name_lem m))
 shape_size (of_dictionary ix o) n f h l e = let s = named_short (ix + 2) 0 f e in (s.0, omega (arith, s.1))

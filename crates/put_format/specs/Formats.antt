@@ -5,17 +5,10 @@ use Rattle.sheets.specs.Bytes.{Bytes}
 use Rattle.sheets.specs.Answer.{Answer, refused, given, ◌>>=◌}
 use Rattle.sheets.specs.Text.{hex}
 use Rattle.sheets.specs.Field.{leaf_rule}
-use Rattle.refusal.specs.Refusals.{refusal_of}
+use Rattle.refusal.specs.Refusals.{Refusing, answer_of}
 use Rattle.buffer.specs.Over.{over_at}
 use Rattle.format_names.specs.Names.{table_length, row_at}
 use Rattle.column_text.specs.ColumnText.{has_zero}
-use Rattle.put_format.specs.declared.Exported.{Exported}
-use Rattle.put_format.specs.declared.Exported.TheVariants.{Written, Refused}
-
--- document 01's value for each case of the answer: the place after what is written and whether byte 00 stands in its format or name, or the reason
-abbrev pub exported_answer : Exported → Answer (ℕ × Bool)
-exported_answer (Written end zero) = given (end, zero)
-exported_answer (Refused r) = refused (refusal_of r)
 
 -- the same of a format that is written from a place on
 abbrev pub format_placed : Answer Bytes → ℕ → Answer (ℕ × Bool)
@@ -27,8 +20,8 @@ format_over (refused r) at out = out
 format_over (given f) at out = over_at at (hex f) out
 
 -- the format was written in hexadecimal from a place on, or refused
-abbrev pub Formats : Answer Bytes → ℕ → Exported → Bytes → Bytes → Type 0
-Formats a at r old out = (exported_answer r ≡ format_placed a at) × (out ≡ format_over a at old)
+abbrev pub Formats : Answer Bytes → ℕ → Refusing (ℕ × Bool) → Bytes → Bytes → Type 0
+Formats a at r old out = (answer_of r ≡ format_placed a at) × (out ≡ format_over a at old)
 
 -- ── what the writers require
 

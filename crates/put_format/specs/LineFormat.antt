@@ -1,6 +1,5 @@
 -- The format of a field line's type by the line's columns and its number of children: `to_format` looks no further. Assumes nothing.
-use Rattle.std.specs.Prelude.{◌≡◌, List, ◌++◌, ℕ, ◌<◌, ◌^◌, ℤ, length}
-use Rattle.std.proofs.Math.Option.{Option, none, some}
+use Rattle.std.specs.Prelude.{◌≡◌, List, ◌++◌, ℕ, ◌<◌, ◌^◌, ℤ, length, Option, None, Some}
 use Rattle.sheets.specs.Refusal.{no_format}
 use Rattle.sheets.specs.Rule.{Meets}
 use Rattle.sheets.specs.Bytes.{Bytes, ascii}
@@ -47,12 +46,12 @@ timestamp_format p zone = unit_at p >>= λ u. scalar_format (timestamp u zone)
 
 -- what a column of ids says
 unfoldable pub ids_in : Bytes → Option (List ℤ)
-ids_in text = given_or none (read_list read_signed text)
+ids_in text = given_or None (read_list read_signed text)
 
 -- the name of a union and its ids; those that are None are counted
 abbrev pub union_format : Bytes → Option (List ℤ) → ℕ → Answer Bytes
-union_format name none fields = write_ids name (up_from 0 fields)
-union_format name (some ids) fields = write_ids name ids
+union_format name None fields = write_ids name (up_from 0 fields)
+union_format name (Some ids) fields = write_ids name ids
 
 -- ── what the writers require
 

@@ -18,24 +18,25 @@ use refusal::Refusal;
 
 // What export answers of a format, or of a line: the place after it and whether byte 00 stands in the format or the name, for which the field is refused after its
 // children (14); or why it is refused at once.
-#[derive(Drop)]
-pub enum Exported {
-    Written(usize, bool),
-    Refused(Refusal),
-}
 
 // A name and a number after it.
-fn put_sized(out: &mut [u8], at: usize, name: &[u8], n: u64) -> Exported
+fn put_sized(out: &mut [u8], at: usize, name: &[u8], n: u64) -> Result<(usize, bool), Refusal>
     requires { CanPutName name.now at }
     ensures { Formats (given (name.now ++ decimal n)) at result out.old out.new }
 {
     let after = hexadecimal::put::put_hex(out, at, name);
     let end = crate::numbers::put_number(out, after, n);
-    Exported::Written(end, false)
+    Ok((end, false))
 }
 
 // A decimal: its precision, its scale and, with a comma before it, its width.
-fn put_decimal_type(out: &mut [u8], at: usize, p: u64, q: u64, width: &[u8]) -> Exported
+fn put_decimal_type(
+    out: &mut [u8],
+    at: usize,
+    p: u64,
+    q: u64,
+    width: &[u8],
+) -> Result<(usize, bool), Refusal>
     requires { CanPutName width.now at }
     ensures { Formats (given (decimal_text p q width.now)) at result out.old out.new }
 {
@@ -44,11 +45,11 @@ fn put_decimal_type(out: &mut [u8], at: usize, p: u64, q: u64, width: &[u8]) -> 
     let scale = hexadecimal::put::put_hex(out, sign, b",");
     let after = crate::numbers::put_number(out, scale, q);
     let end = hexadecimal::put::put_hex(out, after, width);
-    Exported::Written(end, false)
+    Ok((end, false))
 }
 
 // A name and the timezone after it, which is hexadecimal already.
-fn put_zoned(out: &mut [u8], at: usize, name: &[u8], zone: &[u8]) -> Exported
+fn put_zoned(out: &mut [u8], at: usize, name: &[u8], zone: &[u8]) -> Result<(usize, bool), Refusal>
     requires { CanPutName name.now at × TextColumn zone.now }
     ensures { Formats (given (name.now ++ or_empty (column_text zone.now))) at result out.old out.new }
 {
@@ -56,10 +57,10 @@ fn put_zoned(out: &mut [u8], at: usize, name: &[u8], zone: &[u8]) -> Exported
     let text = schema_line::text_of(zone);
     let end = buffer::put_at(out, after, text);
     let zero = column_text::has_zero(zone);
-    Exported::Written(end, zero)
+    Ok((end, zero))
 }
 
-fn put_timestamp(out: &mut [u8], at: usize, p: u64, zone: &[u8]) -> Exported
+fn put_timestamp(out: &mut [u8], at: usize, p: u64, zone: &[u8]) -> Result<(usize, bool), Refusal>
     requires { CanPutZone p zone.now at }
     ensures { Formats (timestamp_format p (column_text zone.now)) at result out.old out.new }
 {
@@ -72,27 +73,39 @@ fn put_timestamp(out: &mut [u8], at: usize, p: u64, zone: &[u8]) -> Exported
 }
 
 // A name and a union's ids after it. Ids that are listed stand in the column as the format has them; else the fields are counted.
-fn put_ids(out: &mut [u8], at: usize, name: &[u8], ids: &[u8], fields: u64) -> Exported
+fn put_ids(
+    out: &mut [u8],
+    at: usize,
+    name: &[u8],
+    ids: &[u8],
+    fields: u64,
+) -> Result<(usize, bool), Refusal>
     requires { CanPutIds name.now ids.now fields at }
     ensures { Formats (union_format name.now (ids_in ids.now) fields) at result out.old out.new }
 {
     if buffer::same(ids, b"-") {
-        return Exported::Refused(Refusal::NoUnionIds);
+        return Err(Refusal::NoUnionIds);
     }
     if buffer::same(ids, b"~") {
         if fields == 0 {
-            return Exported::Refused(Refusal::NoUnionIds);
+            return Err(Refusal::NoUnionIds);
         }
         let after = hexadecimal::put::put_hex(out, at, name);
         let end = crate::numbers::put_counted(out, after, fields);
-        return Exported::Written(end, false);
+        return Ok((end, false));
     }
     let after = hexadecimal::put::put_hex(out, at, name);
     let end = hexadecimal::put::put_hex(out, after, ids);
-    Exported::Written(end, false)
+    Ok((end, false))
 }
 
-fn put_union(out: &mut [u8], at: usize, p: u64, ids: &[u8], fields: u64) -> Exported
+fn put_union(
+    out: &mut [u8],
+    at: usize,
+    p: u64,
+    ids: &[u8],
+    fields: u64,
+) -> Result<(usize, bool), Refusal>
     requires { CanPutUnion ids.now fields at }
     ensures { Formats (union_format (union_name (eqb p 1)) (ids_in ids.now) fields) at result out.old out.new }
 {
@@ -111,7 +124,7 @@ pub fn put_format(
     q: u64,
     text: &[u8],
     fields: u64,
-) -> Exported
+) -> Result<(usize, bool), Refusal>
     requires { CanFormat kind p q text.now fields at }
     ensures { Formats (line_format kind p q text.now fields) at result out.old out.new }
 {

@@ -6,7 +6,6 @@ ghost use Rattle.sheets.specs.Format.{scalar_format};
 ghost use Rattle.format_names.specs.Names.{row_at};
 ghost use Rattle.put_format.specs.Formats.{Formats, CanPutRow, is_word, CanPutLeaf};
 
-use crate::Exported;
 use format_names::names;
 use refusal::Refusal;
 
@@ -70,31 +69,31 @@ fn is_word(room: usize, at: usize, i: usize) -> bool
 }
 
 // The name of row i, as much as fits; four digits at once.
-pub fn put_row(out: &mut [u8], at: usize, i: usize) -> Exported
+pub fn put_row(out: &mut [u8], at: usize, i: usize) -> Result<(usize, bool), Refusal>
     requires { CanPutRow i at }
     ensures { Formats (given (row_at i).name) at result out.old out.new }
 {
     if is_word(out.len(), at, i) {
         words::put_word4(out, at, names::low_digits(i));
-        return Exported::Written(at + 4, false);
+        return Ok((at + 4, false));
     }
     let mut text = [0u8; 16];
     words::put_word8(&mut text, 0, names::low_digits(i));
     words::put_word8(&mut text, 8, names::high_digits(i));
     let len = 2 * names::name_length(i);
     let end = buffer::put_at(out, at, &text[..len]);
-    Exported::Written(end, false)
+    Ok((end, false))
 }
 
 // The format of a type that its kind and its unit tell. Where the row that is looked at is another kind's, the kind has no format in this unit.
-pub fn put_leaf(out: &mut [u8], at: usize, kind: u64, unit: u64) -> Exported
+pub fn put_leaf(out: &mut [u8], at: usize, kind: u64, unit: u64) -> Result<(usize, bool), Refusal>
     requires { CanPutLeaf kind unit at }
     ensures { Formats (scalar_format (leaf kind unit)) at result out.old out.new }
 {
     let row = FIRST_ROWS[kind as usize] as usize + unit as usize;
     let found = format_names::row_at(row);
     if found.kind != kind {
-        return Exported::Refused(Refusal::NoFormat);
+        return Err(Refusal::NoFormat);
     }
     put_row(out, at, row)
 }

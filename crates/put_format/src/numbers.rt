@@ -21,11 +21,9 @@ pub fn put_counted(out: &mut [u8], at: usize, count: u64) -> usize
     ensures { PutAt at (hex (counted_text count)) result out.old out.new × (result ≤ at + 42 * count) }
 {
     let mut end = put_number(out, at, 0);
-    let mut i = 1;
-    while i < count {
+    for i in 1..count {
         let next = hexadecimal::put::put_hex(out, end, b",");
         end = put_number(out, next, i);
-        i += 1;
     }
     end
 }

@@ -2,7 +2,7 @@
 -- written as (`nested_text`), of the type that import reads from its format (`nested_shape_lem`). What the schema's line says is `short_says` of `leaf_line`. Assumes nothing.
 use mathlib.Core.Path.{◌≡◌, refl, ap, ◌∙◌}
 use mathlib.Core.List.{[], ◌∷◌, ◌++◌}
-use mathlib.Core.Option.{none, some}
+use Rattle.std.specs.Prelude.{None, Some}
 use Prim.Native.Nat.{ℕ, zero, suc, ◌+◌, ◌-◌, ◌/◌, ◌%◌, ◌≤◌, ◌<◌}
 use native.Mathlib.Omega.{arith}
 use lib.IntN.{pos}
@@ -51,10 +51,10 @@ with_child struct_type (suc c) h = refl
 module _ {s : Bytes} {at : ℕ} {out out' : Bytes} {next len count last : ℕ} (w : NestedWritten s at out out' next len count last) where
   -- the field that it becomes, without its type
   abbrev pub nested_info : Info
-  nested_info = record { name = w.nested.short.bytes; nullable = nullable (pos w.flags); pairs = none }
+  nested_info = record { name = w.nested.short.bytes; nullable = nullable (pos w.flags); pairs = None }
 
   pub nested_text : short_text (nested_kind w.type) (part s (at + 5) w.e) (w.flags / 2 % 2) count
-      ≡ ended (field_line.write (line_of (nested_shape w.type) (some nested_info) count) ∷ [])
+      ≡ ended (field_line.write (line_of (nested_shape w.type) (Some nested_info) count) ∷ [])
   nested_text =
       let k = w.nested.short in
       ap (λ (b : Bytes). short_text (nested_kind w.type) b (w.flags / 2 % 2) count) k.name

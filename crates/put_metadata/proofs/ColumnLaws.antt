@@ -3,7 +3,7 @@
 use mathlib.Core.Path.{◌≡◌, refl, sym, ap, ap₂, subst, ◌∙◌}
 use mathlib.Core.Bool.{Bool, true, false, cond}
 use mathlib.Core.List.{List, [], ◌∷◌, ◌++◌, append_assoc}
-use mathlib.Core.Option.{Option, some}
+use Rattle.std.specs.Prelude.{Option, Some}
 use Prim.Native.Nat.{ℕ, zero, suc, ◌+◌, ◌*◌, ◌-◌, ◌/◌, ◌≤◌, ◌<◌}
 use native.Mathlib.Nat.{zero-add, suc-add}
 use native.Mathlib.Omega.{arith}
@@ -147,7 +147,7 @@ module _ (big : Bool) where
   module _ (at : ℕ) (old : Bytes) (ps : List Pair) where
     -- the block of the pairs
     pub whole_put : (end n : ℕ) (mid out : Bytes) → end ≡ at + 8 + length (block_text big ps) → mid ≡ over_at (at + 8) (block_text big ps) old → n ≡ length ps → out ≡ over_at at (hex (word_bytes big n)) mid
-        → PutAt at (write_text (some (metadata_to_bytes big ps))) end old out
+        → PutAt at (write_text (Some (metadata_to_bytes big ps))) end old out
     whole_put end n mid out e f g h =
         let c = hex (word_bytes big (length ps)) in
         let l : length c ≡ 8 = length_word_text big (length ps) in (
@@ -162,7 +162,7 @@ module _ (big : Bool) where
   pub joined_put : (at end last n : ℕ) (old mid out text : Bytes) (done place left all : List Pair) → all ≡ done ++ (place ++ left) → text ≡ block_text big done ++ block_text big place
       → end ≡ at + 8 + length text → mid ≡ over_at (at + 8) text old → n ≡ length done + length place
       → last ≡ end + length (block_text big left) → out ≡ over_at at (hex (word_bytes big (n + length left))) (over_at end (block_text big left) mid)
-      → PutAt at (write_text (some (metadata_to_bytes big all))) last old out
+      → PutAt at (write_text (Some (metadata_to_bytes big all))) last old out
   joined_put at end last n old mid out text done place left all e t p h c l o =
       let w : Written (at + 8) (text ++ block_text big left) old last (over_at end (block_text big left) mid) = and_then {at = at + 8} {s = text} {out = old} {n = end} {l = mid} (block_text big left) {m = last} {k = over_at end (block_text big left) mid} (record { place = p; holds = h }) (l, refl) in
       let b : text ++ block_text big left ≡ block_text big all =
@@ -176,7 +176,7 @@ module _ (big : Bool) where
 
   -- ── the column
 
-  some_block : (l : List Pair) → (l ≡ [] → ⊥) → write_text (block_of big l) ≡ write_text (some (metadata_to_bytes big l))
+  some_block : (l : List Pair) → (l ≡ [] → ⊥) → write_text (block_of big l) ≡ write_text (Some (metadata_to_bytes big l))
   some_block [] h = absurd (h refl)
   some_block (p ∷ ps) h = refl
 
@@ -215,7 +215,7 @@ module _ (big : Bool) where
       pub plain_put : (place ≡ length pairs → ⊥) → (r : ℕ) (old out : Bytes) → PutsLeft big pairs at start r old out → PutAt at (metadata_column big pairs name more) r old out
       plain_put d r old out p =
           let l = pairs_of (drop place pairs) in
-          said (write_text (some (metadata_to_bytes big l))) r old out (no_extension ∙ some_block big l (left_some pairs place start_stands (omega (arith, d, start_stands.within))))
+          said (write_text (Some (metadata_to_bytes big l))) r old out (no_extension ∙ some_block big l (left_some pairs place start_stands (omega (arith, d, start_stands.within))))
           (whole_put big at old l r (0 + length l) (over_at (at + 8) (block_text big l) old) out p.0 refl (omega arith) p.1)
 
     module _ (n : same name (126 ∷ []) ≡ false) where
@@ -262,7 +262,7 @@ module _ (big : Bool) where
               ∙ ap (λ (l : List Pair). more_done (column_text more) (pairs_of (drop place pairs)) ++ (placed name_key named.text l ++ after name_key l)) (sym m.left)
               ∙ ap (λ (l : List Pair). more_done (column_text more) (pairs_of (drop place pairs)) ++ (placed name_key named.text (left_of pairs a) ++ l)) (sym k.left)
 
-          is_extended : metadata_column big pairs name more ≡ write_text (some (metadata_to_bytes big (insert_over (name_key, named.text) (with_metadata (column_text more) (or_none (pairs_in pairs))))))
+          is_extended : metadata_column big pairs name more ≡ write_text (Some (metadata_to_bytes big (insert_over (name_key, named.text) (with_metadata (column_text more) (or_none (pairs_in pairs))))))
           unfolding metadata_column
           is_extended = ap (λ (x : Option Bytes). write_text (schema_metadata big (pairs_in pairs) (extension_of x (column_text more)))) named.says
 
@@ -272,7 +272,7 @@ module _ (big : Bool) where
               let s = before_text (hex name_key) (left_of pairs a) in
               let g : Moves pairs start b (block_text big d ++ (block_text big s ++ pair_pieces big (hex name_key) value)) (length d + (length s + 1)) (64 + length more + (16 + length (hex name_key) + length value)) (after_text (hex name_key) (from_text (hex name_key) (left_of pairs a))) old two =
               then_move pairs start a b (block_text big d) (block_text big s ++ pair_pieces big (hex name_key) value) (length d) (length s + 1) (64 + length more) (16 + length (hex name_key) + length value) (more_rest (column_text more) (pairs_of (drop place pairs))) (after_text (hex name_key) (from_text (hex name_key) (left_of pairs a))) old one two m k in
-              said (write_text (some (metadata_to_bytes big (insert_over (name_key, named.text) (with_metadata (column_text more) (or_none (pairs_in pairs))))))) r old out is_extended
+              said (write_text (Some (metadata_to_bytes big (insert_over (name_key, named.text) (with_metadata (column_text more) (or_none (pairs_in pairs))))))) r old out is_extended
               (joined_put big at b.end r b.count old two out (block_text big d ++ (block_text big s ++ pair_pieces big (hex name_key) value)) d (placed name_key named.text (left_of pairs a)) (left_of pairs b) (insert_over (name_key, named.text) (with_metadata (column_text more) (or_none (pairs_in pairs)))) all_pairs
               (ap (λ (x : Bytes). block_text big d ++ (block_text big s ++ x)) (ap (pair_pieces big (hex name_key)) (v ∙ named.is) ∙ pair_block big name_key named.text) ∙ ap (λ (x : Bytes). block_text big d ++ x) (sym (block_append big s ((name_key, named.text) ∷ []))))
               g.place g.holds (omega (arith, g.counted, length-append s ((name_key, named.text) ∷ []))) p.0 p.1)

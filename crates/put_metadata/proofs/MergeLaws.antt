@@ -3,7 +3,7 @@
 use mathlib.Core.Path.{◌≡◌, refl, sym, ap, ◌∙◌}
 use mathlib.Core.Bool.{Bool, true, false, true≢false}
 use mathlib.Core.List.{List, [], ◌∷◌, ◌++◌, append_assoc}
-use mathlib.Core.Option.{Option, none, some}
+use Rattle.std.specs.Prelude.{Option, None, Some}
 use Prim.Native.Nat.{◌+◌}
 use Rattle.sheets.specs.Rule.{Meets, each}
 use Rattle.sheets.specs.Bytes.{Bytes, is_byte, all, same}
@@ -78,8 +78,8 @@ placed_before n k v (q ∷ ps) h r b = pick (before q.0 k) refl (placed_before n
 pub merged : (n : Bytes) (m : Option Bytes) (ps : List Pair) → Meets (each text_pair ps) → Meets (each text_pair (more_rest m ps))
     → insert_over (name_key, n) (with_metadata m ps) ≡ more_done m ps ++ (placed name_key n (more_rest m ps) ++ after name_key (more_rest m ps))
 unfolding more_done more_rest
-merged n none ps r s = insert_placed name_key n ps name_bytes r
-merged n (some m) ps r s =
+merged n None ps r s = insert_placed name_key n ps name_bytes r
+merged n (Some m) ps r s =
     ap (insert_over (name_key, n)) (insert_placed metadata_key m ps metadata_bytes r)
     ∙ insert_past name_key n (placed metadata_key m ps) (after metadata_key ps) (placed_before name_key metadata_key m ps metadata_bytes r refl)
     ∙ ap (λ (l : List Pair). placed metadata_key m ps ++ l) (insert_placed name_key n (after metadata_key ps) name_bytes s)

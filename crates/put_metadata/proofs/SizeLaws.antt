@@ -2,7 +2,7 @@
 use mathlib.Core.Path.{◌≡◌, refl, sym, ap, subst, ◌∙◌}
 use mathlib.Core.Bool.{Bool, true, false, cond}
 use mathlib.Core.List.{List, [], ◌∷◌}
-use mathlib.Core.Option.{Option, none, some}
+use Rattle.std.specs.Prelude.{Option, None, Some}
 use Prim.Native.Nat.{ℕ, ◌+◌, ◌*◌, ◌≤◌}
 use native.Mathlib.Omega.{arith}
 use lib.ListN.{length, length-append}
@@ -55,28 +55,28 @@ module _ (big : Bool) where
       (subst (λ (o : Option (List Pair)). 2 * length (write_pairs big (or_none o)) ≤ 16 * length (write_list pair_text h.pairs)) (sym (pairs_in_lem h.pairs h.rule)) (go h.pairs))
     where
       go : (ps : Option (List Pair)) → 2 * length (write_pairs big (or_none ps)) ≤ 16 * length (write_list pair_text ps)
-      go none = omega arith
-      go (some []) = omega arith
-      go (some (p ∷ ps)) = omega (arith, pairs_size_lem (p ∷ ps), ap length (joined p ps))
+      go None = omega arith
+      go (Some []) = omega arith
+      go (Some (p ∷ ps)) = omega (arith, pairs_size_lem (p ∷ ps), ap length (joined p ps))
 
 -- ── the block
 
 -- twice the bytes of a text that a column says
-named_size : (c : Bytes) → TextColumn c → (b : Bytes) → column_text c ≡ some b → 2 * length b ≤ length c
+named_size : (c : Bytes) → TextColumn c → (b : Bytes) → column_text c ≡ Some b → 2 * length b ≤ length c
 named_size c h b e = go h.text h.is (sym (column_is c h) ∙ e)
   where
-    go : (o : Option Bytes) → c ≡ write_text o → o ≡ some b → 2 * length b ≤ length c
-    go none f g = absurd (let z : ◌≡◌ {A = ℕ} 0 1 = cc in omega arith)
-    go (some x) f g =
+    go : (o : Option Bytes) → c ≡ write_text o → o ≡ Some b → 2 * length b ≤ length c
+    go None f g = absurd (let z : ◌≡◌ {A = ℕ} 0 1 = cc in omega arith)
+    go (Some x) f g =
         let s : x ≡ b = cc in
         omega (arith, ap length f, write_size x, ap length s)
       where
-        write_size : (y : Bytes) → 2 * length y ≤ length (write_text (some y))
+        write_size : (y : Bytes) → 2 * length y ≤ length (write_text (Some y))
         write_size [] = omega arith
         write_size (z ∷ y) = omega (arith, length_hex (z ∷ y))
 
 module _ (big : Bool) where
-  bytes_size : (ps : List Pair) → length (write_text (some (metadata_to_bytes big ps))) ≡ 8 + 2 * length (write_pairs big ps)
+  bytes_size : (ps : List Pair) → length (write_text (Some (metadata_to_bytes big ps))) ≡ 8 + 2 * length (write_pairs big ps)
   bytes_size ps = omega (arith, ap length (word_text big (length ps) (write_pairs big ps)), length_hex (metadata_to_bytes big ps), block_length big ps)
 
   block_size : (ps : List Pair) → length (write_text (block_of big ps)) ≤ 8 + 2 * length (write_pairs big ps)
@@ -93,11 +93,11 @@ module _ (big : Bool) where
   metadata_size pairs name more h n m = by_name (column_text name) refl (column_text more) refl
     where
       with_size : (o : Option Bytes) → column_text more ≡ o → 2 * length (write_pairs big (with_metadata o (or_none (pairs_in pairs)))) ≤ 64 + length more + 16 * length pairs
-      with_size none e = omega (arith, column_size big pairs h)
-      with_size (some x) e = omega (arith, column_size big pairs h, insert_size big (metadata_key, x) (or_none (pairs_in pairs)), named_size more m x e)
+      with_size None e = omega (arith, column_size big pairs h)
+      with_size (Some x) e = omega (arith, column_size big pairs h, insert_size big (metadata_key, x) (or_none (pairs_in pairs)), named_size more m x e)
 
       by_name : (a : Option Bytes) → column_text name ≡ a → (b : Option Bytes) → column_text more ≡ b → length (write_text (schema_metadata big (pairs_in pairs) (extension_of a b))) ≤ metadata_most pairs name more
-      by_name none e b f = omega (arith, block_size big (or_none (pairs_in pairs)), column_size big pairs h)
-      by_name (some x) e b f =
+      by_name None e b f = omega (arith, block_size big (or_none (pairs_in pairs)), column_size big pairs h)
+      by_name (Some x) e b f =
           let l = with_metadata b (or_none (pairs_in pairs)) in
           omega (arith, bytes_size big (insert_over (name_key, x) l), insert_size big (name_key, x) l, with_size b f, named_size name n x e)

@@ -1,6 +1,5 @@
 -- The metadata column of a schema line from columns of a field line, and the pieces that it is written in. Assumes nothing.
-use Rattle.std.specs.Prelude.{Bool, cond, List, [], ◌∷◌, ◌++◌, ◌/◌, length}
-use Rattle.std.proofs.Math.Option.{Option, none, some}
+use Rattle.std.specs.Prelude.{Bool, cond, List, [], ◌∷◌, ◌++◌, ◌/◌, length, Option, None, Some}
 use Rattle.sheets.specs.Bytes.{Bytes, same}
 use Rattle.sheets.specs.Text.{hex, write_text}
 use Rattle.sheets.specs.Field.{Pair, before}
@@ -48,11 +47,11 @@ after_text key (p ∷ ps) = cond (same (hex p.0) key) ps (p ∷ ps)
 -- the pairs up to the extension's metadata, and that
 unfoldable pub more_done : Option Bytes → List Pair → List Pair
 unfolding before_text
-more_done none ps = []
-more_done (some m) ps = before_text (hex metadata_key) ps ++ ((metadata_key, m) ∷ [])
+more_done None ps = []
+more_done (Some m) ps = before_text (hex metadata_key) ps ++ ((metadata_key, m) ∷ [])
 
 -- the pairs after it
 unfoldable pub more_rest : Option Bytes → List Pair → List Pair
 unfolding from_text after_text
-more_rest none ps = ps
-more_rest (some m) ps = after_text (hex metadata_key) (from_text (hex metadata_key) ps)
+more_rest None ps = ps
+more_rest (Some m) ps = after_text (hex metadata_key) (from_text (hex metadata_key) ps)

@@ -2,7 +2,7 @@
 use mathlib.Core.Path.{◌≡◌, refl}
 use mathlib.Core.Bool.{true, false}
 use mathlib.Core.List.{[], ◌∷◌, ◌++◌}
-use mathlib.Core.Option.{none, some}
+use Rattle.std.specs.Prelude.{None, Some}
 use lib.ListN.{replicate}
 use Rattle.sheets.specs.Bytes.{line_end, ascii}
 use Rattle.sheets.specs.Format.{rows}
@@ -14,24 +14,24 @@ use Rattle.put_schema_leaf.specs.Formats.{format_digits}
 use Rattle.put_schema_leaf.specs.Written.{schema_tail, schema_text, schema_fits}
 
 -- `g`, `tdD`, `_pli128`
-float64 : format_digits Kind.Float64 ≡ some (ascii "67")
+float64 : format_digits Kind.Float64 ≡ Some (ascii "67")
 unfolding rows
 float64 = refl
 
-date32 : format_digits Kind.Date32 ≡ some (ascii "746444")
+date32 : format_digits Kind.Date32 ≡ Some (ascii "746444")
 unfolding rows
 date32 = refl
 
-int128 : format_digits Kind.Int128 ≡ some (ascii "5f706c69313238")
+int128 : format_digits Kind.Int128 ≡ Some (ascii "5f706c69313238")
 unfolding rows
 int128 = refl
 
 -- 12 "no format", and a kind with a unit, whose format is for the general way
-unknown : format_digits Kind.Unknown ≡ none
+unknown : format_digits Kind.Unknown ≡ None
 unfolding rows
 unknown = refl
 
-duration : format_digits Kind.Duration ≡ none
+duration : format_digits Kind.Duration ≡ None
 unfolding rows
 duration = refl
 

@@ -3,7 +3,7 @@
 use mathlib.Core.Path.{◌≡◌, refl, sym, ap, ap₂, subst, ◌∙◌}
 use mathlib.Core.Bool.{Bool, true, false, ◌&&◌, ◌||◌, not, cond, and-false, true≢false}
 use mathlib.Core.List.{List, [], ◌∷◌, ◌++◌}
-use mathlib.Core.Option.{Option, none, some}
+use Rattle.std.specs.Prelude.{Option, None, Some}
 use Prim.Native.Nat.{ℕ, ◌-◌, ◌≤◌, ◌<◌, min}
 use native.Mathlib.Nat.{min_comm}
 use native.Mathlib.Omega.{arith}
@@ -47,33 +47,33 @@ all_named : Meets (each named rows)
 unfolding rows
 all_named = meets (each named rows) refl
 
-row_named : (l : List FormatRow) → Meets (each named l) → (k u : ℕ) (r : FormatRow) → row_of k u l ≡ some r → Meets (named r)
+row_named : (l : List FormatRow) → Meets (each named l) → (k u : ℕ) (r : FormatRow) → row_of k u l ≡ Some r → Meets (named r)
 row_named [] h k u r e = not_some e
 row_named (x ∷ l) h k u r e = pick (eqb k x.kind && eqb u x.unit) e (row_named l h.1 k u r)
   where
-    pick : (t : Bool) → cond t (some x) (row_of k u l) ≡ some r → (row_of k u l ≡ some r → Meets (named r)) → Meets (named r)
+    pick : (t : Bool) → cond t (Some x) (row_of k u l) ≡ Some r → (row_of k u l ≡ Some r → Meets (named r)) → Meets (named r)
     pick true f next = subst (λ (y : FormatRow). Meets (named y)) (same_some f) h.0
     pick false f next = next f
 
 -- a format's digits: those of the name in the table
 pub record Format (kind low high len : ℕ) : Type 0 where
   pub row : FormatRow
-  pub is_row : row_of kind 0 rows ≡ some row
+  pub is_row : row_of kind 0 rows ≡ Some row
   pub is : digits_text low high len ≡ hex row.name
   pub some : 0 < length row.name
   pub few : length row.name ≤ 7
   pub nonzero : Meets (lacks 0 row.name)
 
-pub format_told : (kind low high len : ℕ) → format_digits kind ≡ some (digits_text low high len) → Format kind low high len
+pub format_told : (kind low high len : ℕ) → format_digits kind ≡ Some (digits_text low high len) → Format kind low high len
 format_told kind low high len e = pick (is_short kind) e
   where
-    found : (o : Option FormatRow) → row_of kind 0 rows ≡ o → name_digits o ≡ some (digits_text low high len) → Format kind low high len
-    found none q f = not_some f
-    found (some r) q f =
+    found : (o : Option FormatRow) → row_of kind 0 rows ≡ o → name_digits o ≡ Some (digits_text low high len) → Format kind low high len
+    found None q f = not_some f
+    found (Some r) q f =
         let n = row_named rows all_named kind 0 r q in
         record { row = r; is_row = q; is = sym (same_some f); some = ltb-true 0 (length r.name) n.0; few = leb-true (length r.name) 7 n.1.0; nonzero = n.1.1 }
 
-    pick : (t : Bool) → cond t (name_digits (row_of kind 0 rows)) none ≡ some (digits_text low high len) → Format kind low high len
+    pick : (t : Bool) → cond t (name_digits (row_of kind 0 rows)) None ≡ Some (digits_text low high len) → Format kind low high len
     pick true f = found (row_of kind 0 rows) refl f
     pick false f = not_some f
 
@@ -83,15 +83,15 @@ format_told kind low high len e = pick (is_short kind) e
 abbrev pub unnamed : List (List ℕ) → ℕ → Bool
 unnamed kss k = listed kss k || not (is_some (format_digits k))
 
-pub rest_format : (kss : List (List ℕ)) → Meets (every 41 (unnamed kss)) → (x : ℕ) → Rest kss x → none ≡ format_digits x
+pub rest_format : (kss : List (List ℕ)) → Meets (every 41 (unnamed kss)) → (x : ℕ) → Rest kss x → None ≡ format_digits x
 rest_format kss h x rest = unlisted (ltb x 41) refl
   where
-    nothing : (t : Bool) (o : Option Bytes) → not t ≡ true → (t || not (is_some o)) ≡ true → none ≡ o
+    nothing : (t : Bool) (o : Option Bytes) → not t ≡ true → (t || not (is_some o)) ≡ true → None ≡ o
     nothing true o f g = absurd (true≢false (sym f))
-    nothing false none f g = refl
-    nothing false (some d) f g = absurd (true≢false (sym g))
+    nothing false None f g = refl
+    nothing false (Some d) f g = absurd (true≢false (sym g))
 
-    unlisted : (t : Bool) → ltb x 41 ≡ t → none ≡ format_digits x
+    unlisted : (t : Bool) → ltb x 41 ≡ t → None ≡ format_digits x
     unlisted true e = nothing (listed kss x) (format_digits x) (not_listed x kss rest) (at_each 41 (unnamed kss) h x (ltb-true x 41 e))
     unlisted false e =
         let past : 41 ≤ x = ltb-false x 41 e in

@@ -3,7 +3,7 @@
 use mathlib.Core.Path.{◌≡◌, refl, sym, ap, ap₂, subst, ◌∙◌}
 use mathlib.Core.Bool.{Bool, true, false, not, ◌&&◌, ◌||◌, and-false}
 use mathlib.Core.List.{[], ◌∷◌, ◌++◌, append_assoc, append-nil}
-use mathlib.Core.Option.{Option, none, some}
+use Rattle.std.specs.Prelude.{Option, None, Some}
 use Prim.Native.Nat.{ℕ, zero, suc, ◌+◌, ◌*◌, ◌-◌, ◌/◌, ◌%◌, ◌^◌, ◌≤◌, ◌<◌, min}
 use native.Mathlib.Nat.{zero-add, pow-suc, div-div-eq-div-mul}
 use native.Mathlib.Omega.{arith}
@@ -31,12 +31,8 @@ use Rattle.words.specs.Words.{low_bytes}
 use Rattle.words.proofs.WordLaws.{length_low, put_both, word_put}
 use Rattle.columns.specs.Columns.{part}
 use Rattle.copy_part.specs.Copies.{CanCopy}
-use Rattle.field_leaf.specs.FieldLeaves.{Told, field_leaf_in, leaf_option, leaf_field, FieldLeafAt}
-use Rattle.field_leaf.specs.declared.FieldLeaf.{FieldLeaf}
-use Rattle.field_leaf.specs.declared.FieldLeaf.TheVariants.{Line, Other}
+use Rattle.field_leaf.specs.FieldLeaves.{Told, field_leaf_in, leaf_field, FieldLeafAt}
 use Rattle.field_leaf.proofs.LeafLaws.{leaf_told, name_size, leaf_part}
-use Rattle.put_schema_leaf.specs.declared.format.Digits.{Digits}
-use Rattle.put_schema_leaf.specs.declared.format.Digits.TheVariants.{Are, Nothing}
 use Rattle.put_schema_leaf.specs.Formats.{digits_text, digits_option, format_digits}
 use Rattle.put_schema_leaf.specs.Written.{schema_tail, schema_text, format_fits, schema_fits, SchemaLeafWritten, is_copied, copy_fits, LeafCopied}
 use Rattle.put_schema_leaf.proofs.FormatLaws.{digits_size, Format, format_told}
@@ -146,12 +142,6 @@ tail_put at n out mid h room e =
 
 -- ── what was recognised
 
-pub leaf_there : (s : Bytes) (at : ℕ) (r : FieldLeaf) (kind from e n : ℕ) → r ≡ Line kind from e n → leaf_option r ≡ field_leaf_in s at → FieldLeafAt s at kind from e n
-leaf_there s at r kind from e n is h = leaf_told s at (sym h ∙ ap leaf_option is)
-
-pub format_there : (q : Digits) (kind low high len : ℕ) → q ≡ Are low high len → digits_option q ≡ format_digits kind → Format kind low high len
-format_there q kind low high len is h = format_told kind low high len (sym h ∙ ap digits_option is)
-
 -- how many digits it has
 pub format_size : {kind low high len : ℕ} → Format kind low high len → (len % 2 ≡ 0) × (len ≤ 14)
 format_size {kind} {low} {high} {len} f =
@@ -161,7 +151,7 @@ format_size {kind} {low} {high} {len} f =
 -- ── the node
 
 abbrev leaf_node : Bytes → Bytes → ℕ → Node
-leaf_node format name n = record { format = some format; name = some name; flags = pos (flag (eqb n 1) NULLABLE + 0); metadata = none }
+leaf_node format name n = record { format = Some format; name = Some name; flags = pos (flag (eqb n 1) NULLABLE + 0); metadata = None }
 
 -- the line as it is written
 line_text_lem : (f b : Bytes) (n : ℕ) → 0 < length f → 0 < length b → n < 2 → schema_text (hex f) (hex b) n ≡ ended (schema_lines (schema (leaf_node f b n) end absent))
@@ -255,30 +245,29 @@ module _ (dates : Bool) (kind : ℕ) (d : dates ≡ false) where
 
 -- ── nothing is written
 
-module _ (s : Bytes) (at : ℕ) (out : Bytes) (r : FieldLeaf) (h : leaf_option r ≡ field_leaf_in s at) where
-  pub no_leaf : r ≡ Other → schema_fits out (field_leaf_in s at) ≡ false
-  no_leaf is = ap (schema_fits out) (sym h ∙ ap leaf_option is)
+module _ (s : Bytes) (at : ℕ) (out : Bytes) where
+  pub no_leaf : None ≡ field_leaf_in s at → schema_fits out (field_leaf_in s at) ≡ false
+  no_leaf h = ap (schema_fits out) (sym h)
 
-  pub no_copy : (dates : Bool) → r ≡ Other → copy_fits out at dates (field_leaf_in s at) ≡ false
-  no_copy dates is = ap (copy_fits out at dates) (sym h ∙ ap leaf_option is)
+  pub no_copy : (dates : Bool) → None ≡ field_leaf_in s at → copy_fits out at dates (field_leaf_in s at) ≡ false
+  no_copy dates h = ap (copy_fits out at dates) (sym h)
 
-  module _ (kind from e n : ℕ) (is : r ≡ Line kind from e n) where
+  module _ (kind from e n : ℕ) (h : Some (kind, (from, (e, n))) ≡ field_leaf_in s at) where
     fits_here : schema_fits out (field_leaf_in s at) ≡ format_fits out (e - from) (format_digits kind)
-    fits_here = ap (schema_fits out) (sym h ∙ ap leaf_option is)
+    fits_here = ap (schema_fits out) (sym h)
 
-    module _ (q : Digits) (g : digits_option q ≡ format_digits kind) where
-      pub no_format : q ≡ Nothing → schema_fits out (field_leaf_in s at) ≡ false
-      no_format nothing = fits_here ∙ ap (format_fits out (e - from)) (sym g ∙ ap digits_option nothing)
+    pub no_format : None ≡ format_digits kind → schema_fits out (field_leaf_in s at) ≡ false
+    no_format g = fits_here ∙ ap (format_fits out (e - from)) (sym g)
 
-      pub no_room : (low high len : ℕ) → q ≡ Are low high len → (length out ≡ 0 → ⊥) → length out < len + 10 + (e - from) → schema_fits out (field_leaf_in s at) ≡ false
-      no_room low high len are lent l =
-          fits_here ∙ ap (format_fits out (e - from)) (sym g ∙ ap digits_option are)
-          ∙ ap (λ (b : Bool). b || leb (length (digits_text low high len) + 10 + (e - from)) (length out)) (ne_eqb (length out) 0 lent)
-          ∙ lt-leb (length (digits_text low high len) + 10 + (e - from)) (length out) (omega (arith, digits_size low high len))
+    pub no_room : (low high len : ℕ) → Some (digits_text low high len) ≡ format_digits kind → (length out ≡ 0 → ⊥) → length out < len + 10 + (e - from) → schema_fits out (field_leaf_in s at) ≡ false
+    no_room low high len g lent l =
+        fits_here ∙ ap (format_fits out (e - from)) (sym g)
+        ∙ ap (λ (b : Bool). b || leb (length (digits_text low high len) + 10 + (e - from)) (length out)) (ne_eqb (length out) 0 lent)
+        ∙ lt-leb (length (digits_text low high len) + 10 + (e - from)) (length out) (omega (arith, digits_size low high len))
 
     module _ (dates : Bool) where
       copy_here : copy_fits out at dates (field_leaf_in s at) ≡ (is_copied dates kind && leb (e + 7 - at) (length out))
-      copy_here = ap (copy_fits out at dates) (sym h ∙ ap leaf_option is)
+      copy_here = ap (copy_fits out at dates) (sym h)
 
       pub no_copy_date : is_copied dates kind ≡ false → copy_fits out at dates (field_leaf_in s at) ≡ false
       no_copy_date d = copy_here ∙ ap (λ (b : Bool). b && leb (e + 7 - at) (length out)) d

@@ -1,6 +1,5 @@
 -- What is known where a leaf's line was written at once, and where it was not. Assumes nothing.
-use Rattle.std.specs.Prelude.{◌≡◌, Bool, true, false, not, ◌&&◌, ◌||◌, [], ◌∷◌, ◌++◌, ℕ, ◌+◌, ◌*◌, ◌-◌, ◌≤◌, eqb, leb, length}
-use Rattle.std.proofs.Math.Option.{Option, none, some}
+use Rattle.std.specs.Prelude.{◌≡◌, Bool, true, false, not, ◌&&◌, ◌||◌, [], ◌∷◌, ◌++◌, ℕ, ◌+◌, ◌*◌, ◌-◌, ◌≤◌, eqb, leb, length, Option, None, Some}
 use Rattle.sheets.specs.Bytes.{Bytes}
 use Rattle.sheets.specs.Answer.{given}
 use Rattle.sheets.specs.Kind
@@ -12,8 +11,6 @@ use Rattle.sheets.specs.Plain.{plain}
 use Rattle.buffer.specs.Over.{PutFirst}
 use Rattle.field_leaf.specs.FieldLeaves.{Told, field_leaf_in, leaf_field, FieldLeafAt}
 use Rattle.put_schema_leaf.specs.Formats.{format_digits}
-use Rattle.walks.specs.Answers.{put_option}
-use Rattle.walks.specs.declared.LeafPut.{LeafPut}
 
 -- ── the schema line
 
@@ -40,27 +37,27 @@ pub record SchemaLeafWritten (s : Bytes) (at : ℕ) (out out' : Bytes) (next len
 
 -- no byte is lent, or there is room for the line, ten bytes longer than its format and its name
 abbrev pub format_fits : Bytes → ℕ → Option Bytes → Bool
-format_fits out name none = false
-format_fits out name (some format) = eqb (length out) 0 || leb (length format + 10 + name) (length out)
+format_fits out name None = false
+format_fits out name (Some format) = eqb (length out) 0 || leb (length format + 10 + name) (length out)
 
 -- a line that is written at once: short, with a format and with room
 abbrev pub schema_fits : Bytes → Option Told → Bool
-schema_fits out none = false
-schema_fits out (some (kind, (from, (e, nullable)))) = format_fits out (e - from) (format_digits kind)
+schema_fits out None = false
+schema_fits out (Some (kind, (from, (e, nullable)))) = format_fits out (e - from) (format_digits kind)
 
 abbrev pub SchemaLeafTold : Bytes → ℕ → Bytes → Bytes → Option (ℕ × ℕ) → Type 0
-SchemaLeafTold s at out out' (some (next, len)) = SchemaLeafWritten s at out out' next len
-SchemaLeafTold s at out out' none = (schema_fits out (field_leaf_in s at) ≡ false) × (out' ≡ out)
+SchemaLeafTold s at out out' (Some (next, len)) = SchemaLeafWritten s at out out' next len
+SchemaLeafTold s at out out' None = (schema_fits out (field_leaf_in s at) ≡ false) × (out' ≡ out)
 
 -- what `put_schema_leaf` tells
-abbrev pub SchemaLeafPuts : Bytes → ℕ → Bytes → Bytes → LeafPut → Type 0
-SchemaLeafPuts s at out out' r = SchemaLeafTold s at out out' (put_option r)
+abbrev pub SchemaLeafPuts : Bytes → ℕ → Bytes → Bytes → Option (ℕ × ℕ) → Type 0
+SchemaLeafPuts s at out out' r = SchemaLeafTold s at out out' r
 
 -- ── the line itself
 
 -- the lines of the leaf's plain form
 abbrev pub plain_text : ℕ → Bytes → ℕ → Bytes
-plain_text kind name nullable = let f = plain (leaf_field kind name nullable) in ended (type_lines f.type (some f.info))
+plain_text kind name nullable = let f = plain (leaf_field kind name nullable) in ended (type_lines f.type (Some f.info))
 
 -- a date is another type underneath
 abbrev pub is_copied : Bool → ℕ → Bool
@@ -80,13 +77,13 @@ pub record LeafCopied (s : Bytes) (at : ℕ) (dates : Bool) (out out' : Bytes) (
 
 -- a line that is copied at once: short, of a kind that is copied, and with room
 abbrev pub copy_fits : Bytes → ℕ → Bool → Option Told → Bool
-copy_fits out at dates none = false
-copy_fits out at dates (some (kind, (from, (e, nullable)))) = is_copied dates kind && leb (e + 7 - at) (length out)
+copy_fits out at dates None = false
+copy_fits out at dates (Some (kind, (from, (e, nullable)))) = is_copied dates kind && leb (e + 7 - at) (length out)
 
 abbrev pub LeafCopyTold : Bytes → ℕ → Bool → Bytes → Bytes → Option (ℕ × ℕ) → Type 0
-LeafCopyTold s at dates out out' (some (next, len)) = LeafCopied s at dates out out' next len
-LeafCopyTold s at dates out out' none = (copy_fits out at dates (field_leaf_in s at) ≡ false) × (out' ≡ out)
+LeafCopyTold s at dates out out' (Some (next, len)) = LeafCopied s at dates out out' next len
+LeafCopyTold s at dates out out' None = (copy_fits out at dates (field_leaf_in s at) ≡ false) × (out' ≡ out)
 
 -- what `copy_leaf` tells
-abbrev pub LeafCopies : Bytes → ℕ → Bool → Bytes → Bytes → LeafPut → Type 0
-LeafCopies s at dates out out' r = LeafCopyTold s at dates out out' (put_option r)
+abbrev pub LeafCopies : Bytes → ℕ → Bool → Bytes → Bytes → Option (ℕ × ℕ) → Type 0
+LeafCopies s at dates out out' r = LeafCopyTold s at dates out out' r

@@ -1,6 +1,5 @@
 // The format of a type that has no unit, as the digits of its fixed name.
-ghost use Rattle.std.specs.Prelude.{◌≡◌, ◌<◌};
-ghost use Rattle.std.proofs.Math.Option.{some};
+ghost use Rattle.std.specs.Prelude.{◌≡◌, ◌<◌, Some};
 ghost use Rattle.sheets.specs.Text.{hex};
 ghost use Rattle.format_names.specs.Names.{row_at, table_length};
 ghost use Rattle.put_schema_leaf.specs.Formats.{digits_option, format_digits};
@@ -10,25 +9,26 @@ use format_names::names;
 
 // The first eight digits as one number, the lowest byte first, those after them, and how many there are.
 #[derive(Drop)]
-pub enum Digits {
-    Are(u64, u64, usize),
-    Nothing,
+pub struct Digits {
+    pub low: u64,
+    pub high: u64,
+    pub len: usize,
 }
 
 // The digits of the name of row i; with the row known, constants.
-fn named(i: usize) -> Digits
+fn named(i: usize) -> Option<Digits>
     requires { i < table_length }
-    ensures { digits_option result ≡ some (hex (row_at i).name) }
+    ensures { digits_option result ≡ Some (hex (row_at i).name) }
 {
-    Digits::Are(
-        names::low_digits(i),
-        names::high_digits(i),
-        2 * names::name_length(i),
-    )
+    Some(Digits {
+        low: names::low_digits(i),
+        high: names::high_digits(i),
+        len: 2 * names::name_length(i),
+    })
 }
 
 // The format of a kind, if it has no unit and a fixed name.
-pub fn format_of(kind: u64) -> Digits
+pub fn format_of(kind: u64) -> Option<Digits>
     ensures { digits_option result ≡ format_digits kind }
 {
     match kind {
@@ -55,6 +55,6 @@ pub fn format_of(kind: u64) -> Digits
         kind::LARGE_UTF8 => named(names::LARGE_UTF8),
         kind::BINARY_VIEW => named(names::BINARY_VIEW),
         kind::UTF8_VIEW => named(names::UTF8_VIEW),
-        _ => Digits::Nothing,
+        _ => None,
     }
 }

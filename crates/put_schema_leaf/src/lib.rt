@@ -13,7 +13,6 @@ ghost use Rattle.put_schema_leaf.specs.Written.{schema_tail, SchemaLeafPuts, is_
 use crate::format::Digits;
 use datatypes::kind;
 use field_leaf::FieldLeaf;
-use walks::LeafPut;
 
 // Writes the len lowest bytes of w, two at once, from place at on; the place after them.
 fn put_low(out: &mut [u8], at: usize, w: u64, len: usize) -> usize
@@ -72,30 +71,31 @@ fn put_tail(out: &mut [u8], at: usize, nullable: u64) -> usize
 }
 
 // Writes the schema line of the leaf whose field line stands at `at`, if it is recognised, its type has a format and the line fits; where no byte is lent, as
-// by a call that measures, it is only counted.
-pub fn put_schema_leaf(s: &[u8], at: usize, out: &mut [u8]) -> LeafPut
+// by a call that measures, it is only counted. Where the reading goes on and how many bytes the line has; or nothing is written.
+pub fn put_schema_leaf(s: &[u8], at: usize, out: &mut [u8]) -> Option<(usize, usize)>
     ensures { SchemaLeafPuts s.now at out.old out.new result }
 {
-    let FieldLeaf::Line(kind, from, e, nullable) = field_leaf::leaf_at(s, at) else {
-        return LeafPut::Other;
-    };
-    let Digits::Are(low, high, len) = format::format_of(kind) else {
-        return LeafPut::Other;
-    };
+    let FieldLeaf {
+        kind,
+        start: from,
+        end: e,
+        nullable,
+    } = field_leaf::leaf_at(s, at)?;
+    let Digits { low, high, len } = format::format_of(kind)?;
     let name = e - from;
     if out.len() < name {
         if out.len() == 0 {
-            return LeafPut::Put(e + 7, name + len + 10);
+            return Some((e + 7, name + len + 10));
         }
-        return LeafPut::Other;
+        return None;
     }
     if out.len() - name < len + 10 {
-        return LeafPut::Other;
+        return None;
     }
     let to = put_format(out, low, high, len);
     let end = copy_part::copy_part(out, to, s, from, e);
     let written = put_tail(out, end, nullable);
-    LeafPut::Put(e + 7, written)
+    Some((e + 7, written))
 }
 
 // Whether the line of a leaf of this kind is copied: a date, which is another type underneath, only where dates are.
@@ -112,19 +112,22 @@ fn is_copied(dates: bool, kind: u64) -> bool
 }
 
 // Copies the line of the leaf that stands at `at`, if it is recognised and fits; a date's only where `dates` are copied.
-pub fn copy_leaf(s: &[u8], at: usize, dates: bool, out: &mut [u8]) -> LeafPut
+pub fn copy_leaf(s: &[u8], at: usize, dates: bool, out: &mut [u8]) -> Option<(usize, usize)>
     ensures { LeafCopies s.now at dates out.old out.new result }
 {
-    let FieldLeaf::Line(kind, from, e, nullable) = field_leaf::leaf_at(s, at) else {
-        return LeafPut::Other;
-    };
+    let FieldLeaf {
+        kind,
+        start: from,
+        end: e,
+        nullable,
+    } = field_leaf::leaf_at(s, at)?;
     if !is_copied(dates, kind) {
-        return LeafPut::Other;
+        return None;
     }
     let next = e + 7;
     if out.len() < next - at {
-        return LeafPut::Other;
+        return None;
     }
     let len = copy_part::copy_part(out, 0, s, at, next);
-    LeafPut::Put(next, len)
+    Some((next, len))
 }

@@ -2,7 +2,7 @@
 use mathlib.Core.Path.{◌≡◌, refl}
 use mathlib.Core.Bool.{false}
 use mathlib.Core.List.{[], ◌∷◌}
-use mathlib.Core.Option.{some}
+use Rattle.std.specs.Prelude.{Some}
 use native.Mathlib.Omega.{arith}
 use Rattle.sheets.specs.Bytes.{ascii}
 use Rattle.sheets.specs.Number.{decimal}
@@ -22,11 +22,11 @@ unfolding line_shape
 can_put =
     record {
       format = record { shape = of_scalar (leaf 14 0); read = refl; is = refl; rule = (refl, refl); plain = λ e. omega arith; short = omega arith; few = omega arith; low = omega arith };
-      named = record { text = some (ascii "item"); is = refl; rule = refl; short = omega arith };
-      column = record { pairs = some ((ascii "m", ascii "2") ∷ []); text = refl; rule = (refl, (refl, (refl, refl))) };
+      named = record { text = Some (ascii "item"); is = refl; rule = refl; short = omega arith };
+      column = record { pairs = Some ((ascii "m", ascii "2") ∷ []); text = refl; rule = (refl, (refl, (refl, refl))) };
       short = omega arith;
-      extended = record { text = some (ascii "foo"); is = refl; rule = refl; short = omega arith };
-      metadata = record { text = some []; is = refl; rule = refl; short = omega arith };
+      extended = record { text = Some (ascii "foo"); is = refl; rule = refl; short = omega arith };
+      metadata = record { text = Some []; is = refl; rule = refl; short = omega arith };
     }
 
 pub is_text_lem : line_text numbers (ascii "6974656d") (ascii "6d=32") (ascii "666f6f") (ascii "-") (ascii "g")

@@ -2,7 +2,7 @@
 use mathlib.Core.Path.{◌≡◌, refl, sym, ap, ap₂, subst, ◌∙◌}
 use mathlib.Core.Bool.{Bool, true, false, not, ◌&&◌, ◌||◌, cond, true≢false}
 use mathlib.Core.List.{[], ◌∷◌, ◌++◌, append_assoc}
-use mathlib.Core.Option.{Option, none, some}
+use Rattle.std.specs.Prelude.{Option, None, Some, Ok}
 use Prim.Native.Nat.{ℕ, suc, ◌+◌, ◌*◌, ◌≤◌, ◌<◌, ◌^◌}
 use Prim.Native.Nat.{zero as first}
 use native.Mathlib.Nat.{zero-add}
@@ -42,12 +42,11 @@ use Rattle.put_metadata.specs.Block.{metadata_column}
 use Rattle.field_pairs.proofs.PairsLaws.{pairs_in_lem}
 use Rattle.put_metadata.proofs.ColumnLaws.{no_metadata}
 use Rattle.put_metadata.proofs.SizeLaws.{metadata_size}
-use Rattle.put_format.specs.Formats.{exported_answer, Formats}
+use Rattle.put_format.specs.Formats.{Formats}
 use Rattle.put_format.specs.LineFormat.{line_format}
-use Rattle.put_format.specs.declared.Exported.{Exported}
-use Rattle.put_format.specs.declared.Exported.TheVariants.{Written as Told}
 use Rattle.put_format.proofs.SizeLaws.{format_size}
 use Rattle.put_schema_line.specs.Lines.{node_name, name_piece, tail_piece, rest_piece, is_plain, line_text, other_flags, CanPutTail, CanPutRest, CanPutColumns, PutsLine, PutsColumns}
+use Rattle.refusal.specs.Refusals.{Refusing, answer_of}
 use Rattle.put_schema_line.specs.declared.LineNumbers.{LineNumbers}
 
 -- a fact of five byte strings, said of their equals
@@ -59,34 +58,34 @@ moved P {t} {t'} {a} {a'} {b} {b'} {c} {c'} {d} {d'} e f g h i x =
 -- ── the name
 
 module _ (name : Bytes) (h : TextColumn name) where
-  by_text : (o : Option Bytes) → h.text ≡ o → write_text (some (node_name name)) ≡ write_text (some (or_empty o))
-  by_text o e = ap (λ (x : Option Bytes). write_text (some (or_empty x))) (column_is name h ∙ e)
+  by_text : (o : Option Bytes) → h.text ≡ o → write_text (Some (node_name name)) ≡ write_text (Some (or_empty o))
+  by_text o e = ap (λ (x : Option Bytes). write_text (Some (or_empty x))) (column_is name h ∙ e)
 
-  pub name_one : length name ≡ 1 → write_text (some (node_name name)) ≡ 45 ∷ []
+  pub name_one : length name ≡ 1 → write_text (Some (node_name name)) ≡ 45 ∷ []
   name_one e = go h.text refl h.is
     where
-      go : (o : Option Bytes) → h.text ≡ o → name ≡ write_text o → write_text (some (node_name name)) ≡ 45 ∷ []
-      go none f g = by_text none f
-      go (some []) f g = by_text (some []) f
-      go (some (b ∷ bs)) f g = absurd (omega (arith, e, ap length g))
+      go : (o : Option Bytes) → h.text ≡ o → name ≡ write_text o → write_text (Some (node_name name)) ≡ 45 ∷ []
+      go None f g = by_text None f
+      go (Some []) f g = by_text (Some []) f
+      go (Some (b ∷ bs)) f g = absurd (omega (arith, e, ap length g))
 
-  pub name_long : (length name ≡ 1 → ⊥) → write_text (some (node_name name)) ≡ name
+  pub name_long : (length name ≡ 1 → ⊥) → write_text (Some (node_name name)) ≡ name
   name_long n = go h.text refl h.is
     where
-      go : (o : Option Bytes) → h.text ≡ o → name ≡ write_text o → write_text (some (node_name name)) ≡ name
-      go none f g = absurd (n (ap length g))
-      go (some []) f g = absurd (n (ap length g))
-      go (some (b ∷ bs)) f g = by_text (some (b ∷ bs)) f ∙ sym g
+      go : (o : Option Bytes) → h.text ≡ o → name ≡ write_text o → write_text (Some (node_name name)) ≡ name
+      go None f g = absurd (n (ap length g))
+      go (Some []) f g = absurd (n (ap length g))
+      go (Some (b ∷ bs)) f g = by_text (Some (b ∷ bs)) f ∙ sym g
 
   pub name_short : length (name_piece name) ≤ 2 + length name
   unfolding name_piece
   name_short = go (eqb (length name) 1) refl
     where
-      go : (t : Bool) → eqb (length name) 1 ≡ t → length ((space ∷ []) ++ write_text (some (node_name name))) ≤ 2 + length name
+      go : (t : Bool) → eqb (length name) 1 ≡ t → length ((space ∷ []) ++ write_text (Some (node_name name))) ≤ 2 + length name
       go true e = omega (arith, ap length (name_one (eqb-true (length name) 1 e)))
       go false e = omega (arith, ap length (name_long (eqb-false (length name) 1 e)))
 
-pub name_put : (name t : Bytes) → write_text (some (node_name name)) ≡ t → (at r : ℕ) (old out : Bytes) → PutAt at ((32 ∷ []) ++ t) r old out → PutAt at (name_piece name) r old out
+pub name_put : (name t : Bytes) → write_text (Some (node_name name)) ≡ t → (at r : ℕ) (old out : Bytes) → PutAt at ((32 ∷ []) ++ t) r old out → PutAt at (name_piece name) r old out
 unfolding name_piece
 name_put name t e at r old out p = subst (λ (x : Bytes). PutAt at ((32 ∷ []) ++ x) r old out) (sym e) p
 
@@ -160,7 +159,7 @@ module _ (n : LineNumbers) (f : n.flags ≤ 9) (c : n.children ≤ 9) (d : n.dic
 
 -- ── the pieces are the line
 
-format_text_lem : (f : Bytes) → 0 < length f → write_text (some f) ≡ hex f
+format_text_lem : (f : Bytes) → 0 < length f → write_text (Some f) ≡ hex f
 format_text_lem [] h = absurd (omega arith)
 format_text_lem (b ∷ f) h = refl
 
@@ -172,7 +171,7 @@ unfolding rest_piece name_piece tail_piece column end_piece line_text metadata_c
 line_is n name pairs extension more f h =
     let s = space ∷ [] in
     let m = metadata_column n.big pairs extension more in
-    let x = write_text (some (node_name name)) in
+    let x = write_text (Some (node_name name)) in
     let rest : Bytes = s ++ (x ++ (s ++ (decimal n.flags ++ (s ++ (m ++ (s ++ (decimal n.children ++ (s ++ decimal n.dictionary)))))))) in
     pieces (hex f) s x (decimal n.flags) m (decimal n.children) (decimal n.dictionary) (line_end ∷ [])
     ∙ ap (λ (y : Bytes). (y ++ rest) ++ (line_end ∷ [])) (sym (format_text_lem f h))
@@ -191,7 +190,7 @@ other_small kind p q = go (eqb kind Kind.Map) (eqb kind Kind.Dictionary) (eqb p 
 
 -- ── the format, and what stands after it
 
-pub line_refused : (a : Answer Bytes) (name : Bytes) (text : Bytes → Bytes) (r : Exported) (why : Refusal) (old mid : Bytes) → exported_answer r ≡ refused why → Formats a 0 r old mid → PutsLine a name text r old mid
+pub line_refused : (a : Answer Bytes) (name : Bytes) (text : Bytes → Bytes) (r : Refusing (ℕ × Bool)) (why : Refusal) (old mid : Bytes) → answer_of r ≡ refused why → Formats a 0 r old mid → PutsLine a name text r old mid
 line_refused (refused x) name text r why old mid e h = h
 line_refused (given f) name text r why old mid e h = not_given (sym e ∙ h.0)
 
@@ -203,7 +202,7 @@ pub record Formatted (a : Answer Bytes) (at : ℕ) (zero : Bool) (old mid : Byte
   pub zeros : zero ≡ has_zero format
   pub holds : mid ≡ over (hex format) old
 
-pub formatted : (a : Answer Bytes) (at : ℕ) (zero : Bool) (old mid : Bytes) → Formats a 0 (Told at zero) old mid → Formatted a at zero old mid
+pub formatted : (a : Answer Bytes) (at : ℕ) (zero : Bool) (old mid : Bytes) → Formats a 0 (Ok (at, zero)) old mid → Formatted a at zero old mid
 formatted (refused x) at zero old mid h = not_given (sym h.0)
 formatted (given f) at zero old mid h =
     let p = same_given h.0 in
@@ -218,14 +217,14 @@ module _ (n : LineNumbers) (text name pairs extension more : Bytes) (h : CanPutC
   rest = rest_piece n name (metadata_column n.big pairs extension more)
 
   pub line_put : (at : ℕ) (zero : Bool) (old mid : Bytes) → Formatted format at zero old mid → (end : ℕ) (out : Bytes) → PutAt at rest end mid out
-      → (named : Bool) → named ≡ has_zero (node_name name) → PutsColumns n text name pairs extension more (Told end (zero || named)) old out
+      → (named : Bool) → named ≡ has_zero (node_name name) → PutsColumns n text name pairs extension more (Ok (end, zero || named)) old out
   line_put at zero old mid w end out p named z =
       let f = w.format in
       let line = line_text n name pairs extension more in
       let t : hex f ++ rest ≡ line f = line_is n name pairs extension more f (format_size n.kind n.p n.q text n.children 0 h.format f w.is).0 in
       let m : end ≡ length (line f) = p.0 ∙ ap (λ (x : ℕ). x + length rest) w.place ∙ sym (length-append (hex f) rest) ∙ ap length t in
       let o : out ≡ over (line f) old = p.1 ∙ ap₂ (λ (x : ℕ) (b : Bytes). over_at x rest b) w.place w.holds ∙ sym (over_append (hex f) rest old) ∙ ap (λ (x : Bytes). over x old) t in
-      subst (λ (b : Answer Bytes). PutsLine b name line (Told end (zero || named)) old out) (sym w.is) (ap₂ (λ (x : ℕ) (b : Bool). given (x, b)) m (ap₂ ◌||◌ w.zeros z), o)
+      subst (λ (b : Answer Bytes). PutsLine b name line (Ok (end, zero || named)) old out) (sym w.is) (ap₂ (λ (x : ℕ) (b : Bool). given (x, b)) m (ap₂ ◌||◌ w.zeros z), o)
 
   pub rest_low : (at : ℕ) (zero : Bool) (old mid : Bytes) → Formatted format at zero old mid → CanPutRest name pairs extension more at
   rest_low at zero old mid w =
@@ -265,18 +264,18 @@ module _ (n : LineNumbers) (text name pairs extension more : Bytes) (h : CanPutC
 -- the node of a field, by its info and the name and metadata of its extension
 abbrev field_line_text : Info → Option Bytes → Option Bytes → LineNumbers → Bytes → Bytes
 field_line_text i x m n f =
-    schema_line.write (line_of (record { format = some f; name = some i.name; flags = pos n.flags; metadata = schema_metadata n.big i.pairs (extension_of x m) }) n.children n.dictionary) ++ (line_end ∷ [])
+    schema_line.write (line_of (record { format = Some f; name = Some i.name; flags = pos n.flags; metadata = schema_metadata n.big i.pairs (extension_of x m) }) n.children n.dictionary) ++ (line_end ∷ [])
 
 module _ (x m : Option Bytes) (n : LineNumbers) (f : Bytes) (k : Meets (text_rule x)) (l : Meets (text_rule m)) where
   -- the columns of a line that were written from a field and its extension say that field's node
-  pub node_line : (i : Info) → Meets (info_rule i) → line_text n (write_text (some i.name)) (write_list pair_text i.pairs) (write_text x) (write_text m) f ≡ field_line_text i x m n f
+  pub node_line : (i : Info) → Meets (info_rule i) → line_text n (write_text (Some i.name)) (write_list pair_text i.pairs) (write_text x) (write_text m) f ≡ field_line_text i x m n f
   unfolding line_text
-  node_line i h = rw (column_says (some i.name) h.0, pairs_in_lem i.pairs h.1, column_says x k, column_says m l)
+  node_line i h = rw (column_says (Some i.name) h.0, pairs_in_lem i.pairs h.1, column_says x k, column_says m l)
 
   -- a bare line's columns say the node of a dictionary's values
   pub bare_line : line_text n no_text no_text (write_text x) (write_text m) f ≡ field_line_text values_info x m n f
   unfolding line_text
-  bare_line = rw (column_says none refl, pairs_in_lem none refl, column_says x k, column_says m l)
+  bare_line = rw (column_says None refl, pairs_in_lem None refl, column_says x k, column_says m l)
 
 -- the flags that a shape has beside nullable
 abbrev pub shape_flags : Shape → ℕ

@@ -1,6 +1,5 @@
 -- A schema line from columns of a field sheet: "`format name flags metadata children dictionary`". Assumes nothing.
-use Rattle.std.specs.Prelude.{◌≡◌, Bool, ◌&&◌, ◌||◌, cond, [], ◌∷◌, ◌++◌, ℕ, ◌+◌, ◌≤◌, ◌<◌, ◌^◌, eqb, leb, ltb, pos, length}
-use Rattle.std.proofs.Math.Option.{some}
+use Rattle.std.specs.Prelude.{◌≡◌, Bool, ◌&&◌, ◌||◌, cond, [], ◌∷◌, ◌++◌, ℕ, ◌+◌, ◌≤◌, ◌<◌, ◌^◌, eqb, leb, ltb, pos, length, Some}
 use Rattle.sheets.specs.Bytes.{Bytes, line_end, space, same}
 use Rattle.sheets.specs.Answer.{Answer, refused, given, ◌>>=◌}
 use Rattle.sheets.specs.Number.{decimal}
@@ -17,10 +16,9 @@ use Rattle.columns.specs.declared.Part.{Part}
 use Rattle.field_line.specs.Columns.{column, end_piece}
 use Rattle.column_text.specs.ColumnText.{column_text, has_zero, TextColumn}
 use Rattle.field_pairs.specs.Pairs.{PairsColumn, pairs_in, first_place}
-use Rattle.put_format.specs.Formats.{exported_answer}
 use Rattle.put_format.specs.LineFormat.{line_format, CanFormat}
-use Rattle.put_format.specs.declared.Exported.{Exported}
 use Rattle.put_schema_line.specs.declared.LineNumbers.{LineNumbers}
+use Rattle.refusal.specs.Refusals.{Refusing, answer_of}
 use Rattle.put_schema_line.specs.declared.LineColumns.{LineColumns}
 
 -- ── flags
@@ -41,7 +39,7 @@ node_name name = or_empty (column_text name)
 -- the node of a line with this format
 abbrev pub node_text : LineNumbers → Bytes → Bytes → Bytes → Bytes → Bytes → Node
 node_text n name pairs extension more f =
-    record { format = some f; name = some (node_name name); flags = pos n.flags; metadata = schema_metadata n.big (pairs_in pairs) (extension_of (column_text extension) (column_text more)) }
+    record { format = Some f; name = Some (node_name name); flags = pos n.flags; metadata = schema_metadata n.big (pairs_in pairs) (extension_of (column_text extension) (column_text more)) }
 
 -- the line of a schema sheet, with the byte that ends it
 unfoldable pub line_text : LineNumbers → Bytes → Bytes → Bytes → Bytes → Bytes → Bytes
@@ -54,13 +52,13 @@ line_over (given f) text old = over (text f) old
 
 -- The line of the format was written, or there is no format. The answer is the line's length, and whether byte 00 stands in its format or name: 14,
 -- where nothing below the line is refused
-abbrev pub PutsLine : Answer Bytes → Bytes → (Bytes → Bytes) → Exported → Bytes → Bytes → Type 0
+abbrev pub PutsLine : Answer Bytes → Bytes → (Bytes → Bytes) → Refusing (ℕ × Bool) → Bytes → Bytes → Type 0
 PutsLine format name text r old out =
-    (exported_answer r ≡ (format >>= λ f. given (length (text f), has_zero f || has_zero (node_name name))))
+    (answer_of r ≡ (format >>= λ f. given (length (text f), has_zero f || has_zero (node_name name))))
     × (out ≡ line_over format text old)
 
 -- the same by the columns
-abbrev pub PutsColumns : LineNumbers → Bytes → Bytes → Bytes → Bytes → Bytes → Exported → Bytes → Bytes → Type 0
+abbrev pub PutsColumns : LineNumbers → Bytes → Bytes → Bytes → Bytes → Bytes → Refusing (ℕ × Bool) → Bytes → Bytes → Type 0
 PutsColumns n text name pairs extension more r old out =
     PutsLine (line_format n.kind n.p n.q text n.children) name (line_text n name pairs extension more) r old out
 
@@ -69,7 +67,7 @@ abbrev pub column_at : Bytes → Part → Bytes
 column_at s p = part s p.start p.end
 
 -- the same by the parts of a sheet
-abbrev pub LinePut : Bytes → LineColumns → LineNumbers → Exported → Bytes → Bytes → Type 0
+abbrev pub LinePut : Bytes → LineColumns → LineNumbers → Refusing (ℕ × Bool) → Bytes → Bytes → Type 0
 LinePut s c n r old out =
     PutsColumns n (column_at s c.text) (column_at s c.name) (column_at s c.pairs) (column_at s c.extension) (column_at s c.more) r old out
 
@@ -77,7 +75,7 @@ LinePut s c n r old out =
 
 -- a space and the name
 unfoldable pub name_piece : Bytes → Bytes
-name_piece name = (space ∷ []) ++ write_text (some (node_name name))
+name_piece name = (space ∷ []) ++ write_text (Some (node_name name))
 
 -- what stands after the name
 unfoldable pub tail_piece : LineNumbers → Bytes → Bytes

@@ -10,7 +10,7 @@ ghost use Rattle.put_schema_line.specs.Lines.{other_flags, line_flags, name_piec
 
 use columns::Part;
 use datatypes::kind;
-use put_format::Exported;
+use refusal::Refusal;
 use schema_line::SchemaLine;
 
 // The numbers of a line: `kind`, `p`, `q` of the field line, and `flags`, `children`, `dictionary` of the schema line; and whether its metadata is written
@@ -186,18 +186,14 @@ fn put_columns(
     pairs: &[u8],
     extension: &[u8],
     more: &[u8],
-) -> Exported
+) -> Result<(usize, bool), Refusal>
     requires { CanPutColumns n text.now name.now pairs.now extension.now more.now }
     ensures { PutsColumns n text.now name.now pairs.now extension.now more.now result out.old out.new }
 {
-    match put_format::put_format(out, 0, n.kind, n.p, n.q, text, n.children) {
-        Exported::Refused(why) => Exported::Refused(why),
-        Exported::Written(at, zero) => {
-            let end = put_rest(out, at, n, name, pairs, extension, more);
-            let named = column_text::has_zero(name);
-            Exported::Written(end, zero | named)
-        }
-    }
+    let (at, zero) = put_format::put_format(out, 0, n.kind, n.p, n.q, text, n.children)?;
+    let end = put_rest(out, at, n, name, pairs, extension, more);
+    let named = column_text::has_zero(name);
+    Ok((end, zero | named))
 }
 
 fn cut(s: &[u8], p: Part) -> &[u8]
@@ -211,7 +207,12 @@ fn cut(s: &[u8], p: Part) -> &[u8]
 
 // Writes the line over the first bytes of what is left of the buffer, as much as fits. The answer is the line's length, and whether byte 00 stands
 // in its format or name: then the field is refused after what stands below the line.
-pub fn put_schema_line(out: &mut [u8], s: &[u8], c: LineColumns, n: LineNumbers) -> Exported
+pub fn put_schema_line(
+    out: &mut [u8],
+    s: &[u8],
+    c: LineColumns,
+    n: LineNumbers,
+) -> Result<(usize, bool), Refusal>
     requires { CanPutLine s.now c n }
     ensures { LinePut s.now c n result out.old out.new }
 {

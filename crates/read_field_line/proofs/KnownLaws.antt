@@ -3,7 +3,7 @@
 use mathlib.Core.Path.{◌≡◌, refl, sym, ◌∙◌, ap, ap₂, subst}
 use mathlib.Core.Bool.{Bool, true, false, cond, and-false, true≢false}
 use mathlib.Core.List.{[], ◌∷◌}
-use mathlib.Core.Option.{Option, none, some}
+use Rattle.std.specs.Prelude.{Option, None, Some}
 use Prim.Native.Nat.{ℕ, ◌+◌, ◌-◌, ◌/◌, ◌^◌, ◌<◌}
 use native.Mathlib.Nat.{add-zero}
 use native.Mathlib.Omega.{arith}
@@ -174,9 +174,9 @@ unfolding is_nothing
 mark_first c h = let w = text_is_lem c h in go w.0 w.1 w.2
   where
     go : (t : Option Bytes) → write_text t ≡ c → Meets (text_rule t) → eqb (get_or c 0 0) 126 ≡ is_nothing c
-    go none e r = subst (λ (y : Bytes). eqb (get_or y 0 0) 126 ≡ is_nothing y) e refl
-    go (some []) e r = subst (λ (y : Bytes). eqb (get_or y 0 0) 126 ≡ is_nothing y) e refl
-    go (some (b ∷ bs)) e r =
+    go None e r = subst (λ (y : Bytes). eqb (get_or y 0 0) 126 ≡ is_nothing y) e refl
+    go (Some []) e r = subst (λ (y : Bytes). eqb (get_or y 0 0) 126 ≡ is_nothing y) e refl
+    go (Some (b ∷ bs)) e r =
         let l : b < 256 = ltb-true b 256 (utf8_bytes (b ∷ bs) r).0 in
         subst (λ (y : Bytes). eqb (get_or y 0 0) 126 ≡ is_nothing y) e (digit_other (b / 16) (omega arith) ∙ sym (and-false (eqb 126 (hex_digit (b / 16)))))
 

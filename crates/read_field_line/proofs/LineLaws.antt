@@ -3,7 +3,7 @@
 use mathlib.Core.Path.{◌≡◌, refl, sym, ◌∙◌, ap, subst}
 use mathlib.Core.Bool.{Bool, true, false, true≢false}
 use mathlib.Core.List.{[], ◌∷◌, ◌++◌}
-use mathlib.Core.Option.{Option, none, some}
+use Rattle.std.specs.Prelude.{Option, None, Some}
 use Prim.Native.Nat.{ℕ, suc, ◌+◌, ◌-◌, ◌^◌, ◌≤◌, ◌<◌}
 use native.Mathlib.Nat.{add-zero}
 use native.Mathlib.Omega.{arith}
@@ -184,8 +184,8 @@ part_at {s} {a} {e} {stop} k c h {p} same =
 
 flag_byte : (i : Option Info) → eqb (get_or (info_columns i).1.0 0 0) 49 ≡ flag_of i
 unfolding decimal
-flag_byte none = refl
-flag_byte (some i) = go i.nullable
+flag_byte None = refl
+flag_byte (Some i) = go i.nullable
   where
     go : (b : Bool) → eqb (get_or (decimal (to_nat b)) 0 0) 49 ≡ b
     go true = refl
@@ -193,8 +193,8 @@ flag_byte (some i) = go i.nullable
 
 flag_one : (i : Option Info) → length (info_columns i).1.0 ≡ 1
 unfolding decimal
-flag_one none = refl
-flag_one (some i) = go i.nullable
+flag_one None = refl
+flag_one (Some i) = go i.nullable
   where
     go : (b : Bool) → length (decimal (to_nat b)) ≡ 1
     go true = refl

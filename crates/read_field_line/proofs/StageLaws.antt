@@ -2,22 +2,20 @@
 -- finds them. Assumes nothing.
 use mathlib.Core.Path.{◌≡◌, refl, sym, ◌∙◌, ap, ap₂}
 use mathlib.Core.Bool.{Bool, true, false, true≢false}
-use mathlib.Core.Option.{none}
+use Rattle.std.specs.Prelude.{None, Option}
 use Prim.Native.Nat.{ℕ, ◌+◌}
 use lib.Dec.{eqb}
 use lib.ListN.{get_or}
 use Rattle.sheets.specs.Refusal.{bad_lines}
 use Rattle.sheets.specs.Bytes.{Bytes}
-use Rattle.sheets.specs.Answer.{refused, given}
+use Rattle.sheets.specs.Answer.{refused, given, found}
 use Rattle.sheets.specs.Codec.{number, raw, done, ◌▸◌}
 use Rattle.sheets.specs.Number.{read_number}
 use Rattle.sheets.specs.FieldSheet.{Line, columns_of}
 use Rattle.sheets.proofs.Tests.{same_given}
-use Rattle.columns.specs.Columns.{part, column_of, is_stop, place_option, ColumnAt}
-use Rattle.columns.specs.NumberColumns.{number_in, number_answer}
+use Rattle.columns.specs.Columns.{part, column_of, is_stop, ColumnAt}
+use Rattle.columns.specs.NumberColumns.{number_in}
 use Rattle.columns.specs.Tails.{Tail}
-use Rattle.columns.specs.declared.Place.{Place}
-use Rattle.columns.specs.declared.number.NumberColumn.{NumberColumn}
 use Rattle.columns.proofs.FindLaws.{Finds, finds}
 use Rattle.columns.proofs.NumberFindLaws.{FindsNumber, finds_number}
 use Rattle.columns.proofs.TailLaws.{tail_next, tail_bad}
@@ -32,11 +30,11 @@ use Rattle.read_field_line.specs.declared.types.Numbers.{Numbers}
 
 -- ── what was found of a column
 
-pub column_told : (f : Bytes → Bool) (s : Bytes) (a : ℕ) {r q : Place} → r ≡ q → place_option r ≡ column_of f 32 s a → Finds f s a 32 (place_option q)
-column_told f s a {r} {q} e h = finds f s a 32 refl (place_option q) (ap place_option (sym e) ∙ h)
+pub column_told : (f : Bytes → Bool) (s : Bytes) (a : ℕ) {r q : Option ℕ} → r ≡ q → r ≡ column_of f 32 s a → Finds f s a 32 q
+column_told f s a {r} {q} e h = finds f s a 32 refl q ((sym e) ∙ h)
 
-pub number_told : (s : Bytes) (a stop : ℕ) → is_stop stop ≡ true → {r q : NumberColumn} → r ≡ q → number_answer r ≡ number_in stop s a → FindsNumber s a stop (number_answer q)
-number_told s a stop is {r} {q} e h = finds_number s a stop is (number_answer q) (ap number_answer (sym e) ∙ h)
+pub number_told : (s : Bytes) (a stop : ℕ) → is_stop stop ≡ true → {r q : Option (ℕ × ℕ)} → r ≡ q → found bad_lines r ≡ number_in stop s a → FindsNumber s a stop (found bad_lines q)
+number_told s a stop is {r} {q} e h = finds_number s a stop is (found bad_lines q) (ap (found bad_lines) (sym e) ∙ h)
 
 -- ── kind p q
 
@@ -102,7 +100,7 @@ module _ {s : Bytes} {at : ℕ} {x : Line} {rest : Bytes} (w : TypeStands s at x
   pub the_kind : x.0 ≡ n.kind
   the_kind = kind_is_lem w a.kind_at a.p_at a.q_at a.kind_is a.p_is a.q_is
 
-  pub text_bad : (k : Content) → k ≡ text_content n.kind → Finds (is_content k) s (n.end + 1) 32 none → ⊥
+  pub text_bad : (k : Content) → k ≡ text_content n.kind → Finds (is_content k) s (n.end + 1) 32 None → ⊥
   text_bad k is miss =
       tail_bad raw raw own_row after_numbers (λ e c r.
       miss e c (ap₂ is_content is (same_given r) ∙ ap (λ (j : ℕ). is_content (text_content j) (columns_of x).text) (sym the_kind) ∙ (stood w).text_fit))
@@ -111,7 +109,7 @@ module _ {s : Bytes} {at : ℕ} {x : Line} {rest : Bytes} (w : TypeStands s at x
     more_tail : Tail (raw ▸ own_row) s (f + 1) x.1.1.1.1 rest
     more_tail = (tail_next raw (raw ▸ own_row) after_numbers cf).1
 
-    pub more_bad : (k : Content) → k ≡ more_content n.kind → Finds (is_content k) s (f + 1) 32 none → ⊥
+    pub more_bad : (k : Content) → k ≡ more_content n.kind → Finds (is_content k) s (f + 1) 32 None → ⊥
     more_bad k is miss =
         tail_bad raw raw (raw ▸ raw ▸ number ▸ done) more_tail (λ e c r.
         miss e c (ap₂ is_content is (same_given r) ∙ ap (λ (j : ℕ). is_content (more_content j) (columns_of x).more) (sym the_kind) ∙ (stood w).more_fit))
@@ -160,7 +158,7 @@ module _ {s : Bytes} {at : ℕ} {y : OwnLine} {rest : Bytes} (w : OwnStands s at
   pub owned : OwnFits (y.0, (y.1.0, y.1.1.0))
   owned = (info_fits (y.0, (y.1.0, y.1.1.0)) w.info w.reads w.rule).fits
 
-  pub name_bad : Finds (is_content C.OptionalText) s at 32 none → ⊥
+  pub name_bad : Finds (is_content C.OptionalText) s at 32 None → ⊥
   name_bad miss = tail_bad raw raw (raw ▸ number ▸ done) w.tail (λ e c r. miss e c (ap (is_content C.OptionalText) (same_given r) ∙ owned.name_fit))
 
   module _ {f : ℕ} (cf : ColumnAt s at f 32) where
@@ -171,7 +169,7 @@ module _ {s : Bytes} {at : ℕ} {y : OwnLine} {rest : Bytes} (w : OwnStands s at
     name_is_lem = same_given (tail_next raw (raw ▸ raw ▸ number ▸ done) w.tail cf).0
 
     module _ (b : Bool) (bare : b ≡ is_nothing (part s at f)) where
-      pub flag_bad : (k : Content) → k ≡ flag_content b → Finds (is_content k) s (f + 1) 32 none → ⊥
+      pub flag_bad : (k : Content) → k ≡ flag_content b → Finds (is_content k) s (f + 1) 32 None → ⊥
       flag_bad k is miss =
           tail_bad raw raw (number ▸ done) flag_tail (λ e c r.
           miss e c (ap₂ is_content is (same_given r) ∙ ap (λ (t : Bool). is_content (flag_content t) y.1.0) (bare ∙ ap is_nothing name_is_lem) ∙ owned.flag_fit))
@@ -180,7 +178,7 @@ module _ {s : Bytes} {at : ℕ} {y : OwnLine} {rest : Bytes} (w : OwnStands s at
         pub pairs_tail : Tail (raw ▸ number ▸ done) s (g + 1) y.1.1 rest
         pairs_tail = (tail_next raw (raw ▸ number ▸ done) flag_tail cg).1
 
-        pub pairs_bad : (k : Content) → k ≡ pairs_content b → Finds (is_content k) s (g + 1) 32 none → ⊥
+        pub pairs_bad : (k : Content) → k ≡ pairs_content b → Finds (is_content k) s (g + 1) 32 None → ⊥
         pairs_bad k is miss =
             tail_bad raw number done pairs_tail (λ e c r.
             miss e c (ap₂ is_content is (same_given r) ∙ ap (λ (t : Bool). is_content (pairs_content t) y.1.1.0) (bare ∙ ap is_nothing name_is_lem) ∙ owned.pairs_fit))

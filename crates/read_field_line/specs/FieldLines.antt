@@ -1,6 +1,5 @@
 -- A line of a field sheet at a place of the sheet: what `FieldLine` shows of it, and what reading it tells. Assumes nothing.
-use Rattle.std.specs.Prelude.{◌≡◌, Bool, false, ℕ, ◌+◌, ◌≤◌, ◌<◌, length}
-use Rattle.std.proofs.Math.Option.{Option, none, some}
+use Rattle.std.specs.Prelude.{◌≡◌, Bool, false, ℕ, ◌+◌, ◌≤◌, ◌<◌, length, Option, None, Some}
 use Rattle.sheets.specs.Refusal.{bad_lines}
 use Rattle.sheets.specs.Bytes.{Bytes}
 use Rattle.sheets.specs.Answer.{Answer, refused, given}
@@ -12,8 +11,6 @@ use Rattle.sheets.specs.TreeWalks.{LineAt, TreeBad}
 use Rattle.columns.specs.Columns.{part}
 use Rattle.columns.specs.declared.Part.{Part}
 use Rattle.read_field_line.specs.declared.FieldLine.{FieldLine}
-use Rattle.read_field_line.specs.declared.LineRead.{LineRead}
-use Rattle.read_field_line.specs.declared.LineRead.TheVariants.{Line as Good, Bad}
 
 -- the bytes from the part's start to its end are the column c, which is not empty
 pub record PartAt (s : Bytes) (p : Part) (c : Bytes) : Type 0 where
@@ -23,8 +20,8 @@ pub record PartAt (s : Bytes) (p : Part) (c : Bytes) : Type 0 where
 
 -- `nullable`; 0 where the line is bare
 abbrev pub flag_of : Option Info → Bool
-flag_of none = false
-flag_of (some i) = i.nullable
+flag_of None = false
+flag_of (Some i) = i.nullable
 
 -- the struct shows the line: its numbers as they are, its texts and lists as parts of the sheet, each as its type and its field are written
 pub record Shows (s : Bytes) (l : FieldLine) (h : Head) : Type 0 where
@@ -47,11 +44,6 @@ pub record FieldLineAt (s : Bytes) (at : ℕ) (l : FieldLine) : Type 0 where
   pub line : Head
   pub there : LineAt fields s at line l.end
   pub shows : Shows s l line
-
--- what `LineRead` says
-abbrev pub line_answer : LineRead → Answer FieldLine
-line_answer (Good l) = given l
-line_answer Bad = refused bad_lines
 
 -- a line that keeps its rules; or no tree begins here, bare or not
 abbrev pub ReadsLine : Bytes → ℕ → Answer FieldLine → Type 0

@@ -1,7 +1,6 @@
 -- A line of a field sheet is read in stages: kind p q, then text more, then name nullable pairs. What each stage finds from a place on, or that no line
 -- stands there whose columns of this stage keep the rules. Assumes nothing.
-use Rattle.std.specs.Prelude.{◌≡◌, Bool, true, false, ◌&&◌, ℕ, ◌+◌, eqb, get_or, drop}
-use Rattle.std.proofs.Math.Option.{Option}
+use Rattle.std.specs.Prelude.{◌≡◌, Bool, true, false, ◌&&◌, ℕ, ◌+◌, eqb, get_or, drop, Option, Some, None}
 use Rattle.sheets.specs.Refusal.{bad_lines}
 use Rattle.sheets.specs.Rule.{Meets}
 use Rattle.sheets.specs.Bytes.{Bytes, space}
@@ -16,14 +15,8 @@ use Rattle.columns.specs.Tails.{Tail}
 use Rattle.field_columns.specs.FieldColumns.{is_nothing, is_content}
 use Rattle.field_kinds.specs.FieldKinds.{p_fits, q_fits, text_content, Fits, OwnFits}
 use Rattle.read_field_line.specs.declared.types.Numbers.{Numbers}
-use Rattle.read_field_line.specs.declared.types.NumbersRead.{NumbersRead}
-use Rattle.read_field_line.specs.declared.types.NumbersRead.TheVariants as N
 use Rattle.read_field_line.specs.declared.types.TypeColumns.{TypeColumns}
-use Rattle.read_field_line.specs.declared.types.TypeRead.{TypeRead}
-use Rattle.read_field_line.specs.declared.types.TypeRead.TheVariants as T
 use Rattle.read_field_line.specs.declared.own.OwnColumns.{OwnColumns}
-use Rattle.read_field_line.specs.declared.own.OwnRead.{OwnRead}
-use Rattle.read_field_line.specs.declared.own.OwnRead.TheVariants as O
 
 -- ── the columns of a line
 
@@ -53,10 +46,6 @@ pub record OwnStands (s : Bytes) (at : ℕ) (y : OwnLine) (rest : Bytes) : Type 
 
 -- ── what each stage tells
 
-abbrev pub numbers_answer : NumbersRead → Answer Numbers
-numbers_answer (N.Columns n) = given n
-numbers_answer N.Bad = refused bad_lines
-
 pub record NumbersAt (s : Bytes) (at : ℕ) (n : Numbers) : Type 0 where
   pub kind_end : ℕ
   pub p_end : ℕ
@@ -73,10 +62,6 @@ abbrev pub ReadsNumbers : Bytes → ℕ → Answer Numbers → Type 0
 ReadsNumbers s at (given n) = NumbersAt s at n
 ReadsNumbers s at (refused r) = (r ≡ bad_lines) × ((x : Line) (rest : Bytes) → TypeStands s at x rest → ⊥)
 
-abbrev pub type_answer : TypeRead → Answer TypeColumns
-type_answer (T.Columns t) = given t
-type_answer T.Bad = refused bad_lines
-
 pub record TypeAt (s : Bytes) (at : ℕ) (t : TypeColumns) : Type 0 where
   pub q_end : ℕ
   pub text_end : ℕ
@@ -90,10 +75,6 @@ pub record TypeAt (s : Bytes) (at : ℕ) (t : TypeColumns) : Type 0 where
 abbrev pub ReadsType : Bytes → ℕ → Answer TypeColumns → Type 0
 ReadsType s at (given t) = TypeAt s at t
 ReadsType s at (refused r) = (r ≡ bad_lines) × ((x : Line) (rest : Bytes) → TypeStands s at x rest → ⊥)
-
-abbrev pub own_answer : OwnRead → Answer OwnColumns
-own_answer (O.Columns o) = given o
-own_answer O.Bad = refused bad_lines
 
 -- byte 49 is `1`
 pub record OwnAt (s : Bytes) (at : ℕ) (o : OwnColumns) : Type 0 where

@@ -6,11 +6,10 @@ pub mod types;
 
 ghost use Rattle.sheets.specs.TreeWalks.{HasTree};
 ghost use Rattle.sheets.specs.FieldTrees.{fields};
-ghost use Rattle.read_field_line.specs.FieldLines.{line_answer, ReadsLine, FieldLineAt};
+ghost use Rattle.read_field_line.specs.FieldLines.{ReadsLine, FieldLineAt};
+ghost use Rattle.sheets.specs.Answer.{found};
+ghost use Rattle.sheets.specs.Refusal.{bad_lines};
 
-use crate::own::OwnRead;
-use crate::types::TypeRead;
-use columns::number::NumberColumn;
 use columns::{Part, number};
 
 // `kind p q text more name nullable pairs children`; a bare line has no name, and `nullable` is false there; `end` is the place after the line's byte 10.
@@ -29,33 +28,21 @@ pub struct FieldLine {
     pub end: usize,
 }
 
-#[derive(Drop)]
-pub enum LineRead {
-    Line(FieldLine),
-    Bad,
-}
-
 // The line from place at on.
-pub fn read_field_line(s: &[u8], at: usize) -> LineRead
-    ensures { ReadsLine s.now at (line_answer result) }
+pub fn read_field_line(s: &[u8], at: usize) -> Option<FieldLine>
+    ensures { ReadsLine s.now at (found bad_lines result) }
 {
-    let TypeRead::Columns(t) = crate::types::read_type(s, at) else {
-        return LineRead::Bad;
-    };
-    let OwnRead::Columns(o) = crate::own::read_own(s, t.end + 1) else {
-        return LineRead::Bad;
-    };
-    let NumberColumn::At(children, end) = number::number_column(s, o.end + 1, b'\n') else {
-        return LineRead::Bad;
-    };
+    let t = crate::types::read_type(s, at)?;
+    let o = crate::own::read_own(s, t.end + 1)?;
+    let (children, end) = number::number_column(s, o.end + 1, b'\n')?;
     if !field_kinds::children_fit(t.kind, children) {
-        return LineRead::Bad;
+        return None;
     }
     let text = t.text;
     let more = t.more;
     let name = o.name;
     let pairs = o.pairs;
-    LineRead::Line(FieldLine {
+    Some(FieldLine {
         kind: t.kind,
         p: t.p,
         q: t.q,

@@ -4,9 +4,11 @@ ghost use Rattle.sheets.specs.Bytes.{space};
 ghost use Rattle.buffer.specs.Over.{IsUsize};
 ghost use Rattle.columns.specs.Columns.{one_of};
 ghost use Rattle.field_kinds.specs.FieldKinds.{flag_content, pairs_content};
-ghost use Rattle.read_field_line.specs.Stages.{is_none, bare_at, bare_own, own_answer, ReadsOwn, HasOwnColumns, OwnAt};
+ghost use Rattle.read_field_line.specs.Stages.{is_none, bare_at, bare_own, ReadsOwn, HasOwnColumns, OwnAt};
+ghost use Rattle.sheets.specs.Answer.{found};
+ghost use Rattle.sheets.specs.Refusal.{bad_lines};
 
-use columns::{Part, Place, text};
+use columns::{Part, text};
 use field_columns::Content;
 
 // `end` is the place after `pairs`; `nullable` is false on a bare line.
@@ -17,12 +19,6 @@ pub struct OwnColumns {
     pub nullable: bool,
     pub pairs: Part,
     pub end: usize,
-}
-
-#[derive(Drop)]
-pub enum OwnRead {
-    Columns(OwnColumns),
-    Bad,
 }
 
 // What `nullable` must hold.
@@ -83,21 +79,15 @@ fn is_bare(s: &[u8], at: usize) -> bool
 }
 
 // The same as `read_own`, for a line that is not bare or does not keep the rules.
-fn any_own(s: &[u8], at: usize) -> OwnRead
-    ensures { ReadsOwn s.now at (own_answer result) }
+fn any_own(s: &[u8], at: usize) -> Option<OwnColumns>
+    ensures { ReadsOwn s.now at (found bad_lines result) }
 {
-    let Place::At(name) = field_columns::content_column(s, at, Content::OptionalText) else {
-        return OwnRead::Bad;
-    };
+    let name = field_columns::content_column(s, at, Content::OptionalText)?;
     let bare = field_columns::is_nothing(&s[at..name]);
     let start = name + 1;
-    let Place::At(flag) = field_columns::content_column(s, start, flag_content(bare)) else {
-        return OwnRead::Bad;
-    };
-    let Place::At(pairs) = field_columns::content_column(s, flag + 1, pairs_content(bare)) else {
-        return OwnRead::Bad;
-    };
-    OwnRead::Columns(OwnColumns {
+    let flag = field_columns::content_column(s, start, flag_content(bare))?;
+    let pairs = field_columns::content_column(s, flag + 1, pairs_content(bare))?;
+    Some(OwnColumns {
         name: columns::between(at, name),
         bare,
         nullable: s[start] == b'1',
@@ -106,11 +96,11 @@ fn any_own(s: &[u8], at: usize) -> OwnRead
     })
 }
 
-pub fn read_own(s: &[u8], at: usize) -> OwnRead
-    ensures { ReadsOwn s.now at (own_answer result) }
+pub fn read_own(s: &[u8], at: usize) -> Option<OwnColumns>
+    ensures { ReadsOwn s.now at (found bad_lines result) }
 {
     if is_bare(s, at) {
-        return OwnRead::Columns(bare_own(at));
+        return Some(bare_own(at));
     }
     any_own(s, at)
 }

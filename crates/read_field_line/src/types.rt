@@ -1,10 +1,11 @@
 // The columns `kind p q text more` of a field line: what it says of its type.
 ghost use Rattle.std.specs.Prelude.{◌≡◌};
 ghost use Rattle.columns.specs.Columns.{stop_from};
-ghost use Rattle.read_field_line.specs.Stages.{numbers_answer, ReadsNumbers, type_answer, ReadsType, HasTypeText, HasTypeColumns, TypeAt};
+ghost use Rattle.read_field_line.specs.Stages.{ReadsNumbers, ReadsType, HasTypeText, HasTypeColumns, TypeAt};
+ghost use Rattle.sheets.specs.Answer.{found};
+ghost use Rattle.sheets.specs.Refusal.{bad_lines};
 
-use columns::number::NumberColumn;
-use columns::{Part, Place, number, text};
+use columns::{Part, number, text};
 use datatypes::kind;
 
 // The columns `kind p q`; `end` is the place after q.
@@ -14,12 +15,6 @@ pub struct Numbers {
     pub p: u64,
     pub q: u64,
     pub end: usize,
-}
-
-#[derive(Drop)]
-pub enum NumbersRead {
-    Columns(Numbers),
-    Bad,
 }
 
 // The columns `kind p q text more`; `end` is the place after `more`.
@@ -33,52 +28,29 @@ pub struct TypeColumns {
     pub end: usize,
 }
 
-#[derive(Drop)]
-pub enum TypeRead {
-    Columns(TypeColumns),
-    Bad,
-}
-
-fn read_numbers(s: &[u8], at: usize) -> NumbersRead
-    ensures { ReadsNumbers s.now at (numbers_answer result) }
+fn read_numbers(s: &[u8], at: usize) -> Option<Numbers>
+    ensures { ReadsNumbers s.now at (found bad_lines result) }
 {
-    let NumberColumn::At(kind, kind_end) = number::number_column(s, at, b' ') else {
-        return NumbersRead::Bad;
-    };
-    let NumberColumn::At(p, p_end) = number::number_column(s, kind_end + 1, b' ') else {
-        return NumbersRead::Bad;
-    };
-    let NumberColumn::At(q, end) = number::number_column(s, p_end + 1, b' ') else {
-        return NumbersRead::Bad;
-    };
+    let (kind, kind_end) = number::number_column(s, at, b' ')?;
+    let (p, p_end) = number::number_column(s, kind_end + 1, b' ')?;
+    let (q, end) = number::number_column(s, p_end + 1, b' ')?;
     if !field_kinds::p_fits(kind, p) {
-        return NumbersRead::Bad;
+        return None;
     }
     if !field_kinds::q_fits(kind, q) {
-        return NumbersRead::Bad;
+        return None;
     }
-    NumbersRead::Columns(Numbers { kind, p, q, end })
+    Some(Numbers { kind, p, q, end })
 }
 
-pub fn read_type(s: &[u8], at: usize) -> TypeRead
-    ensures { ReadsType s.now at (type_answer result) }
+pub fn read_type(s: &[u8], at: usize) -> Option<TypeColumns>
+    ensures { ReadsType s.now at (found bad_lines result) }
 {
-    let NumbersRead::Columns(n) = read_numbers(s, at) else {
-        return TypeRead::Bad;
-    };
+    let n = read_numbers(s, at)?;
     let start = n.end + 1;
-    let Place::At(text) = field_columns::content_column(s, start, field_kinds::text_content(n.kind))
-    else {
-        return TypeRead::Bad;
-    };
-    let Place::At(more) = field_columns::content_column(
-        s,
-        text + 1,
-        field_kinds::more_content(n.kind),
-    ) else {
-        return TypeRead::Bad;
-    };
-    TypeRead::Columns(TypeColumns {
+    let text = field_columns::content_column(s, start, field_kinds::text_content(n.kind))?;
+    let more = field_columns::content_column(s, text + 1, field_kinds::more_content(n.kind))?;
+    Some(TypeColumns {
         kind: n.kind,
         p: n.p,
         q: n.q,

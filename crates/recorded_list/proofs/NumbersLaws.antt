@@ -1,12 +1,13 @@
 -- A line of numbers says its numbers: each ends at the first byte that is no digit. Assumes nothing.
 use mathlib.Core.Path.{◌≡◌, refl, sym, ap, ap₂, subst, ◌∙◌}
 use mathlib.Core.List.{List, [], ◌∷◌, ◌++◌, append_assoc}
-use mathlib.Core.Option.{none, some}
-use Prim.Native.Nat.{ℕ, suc, pred, ◌+◌, ◌^◌, ◌<◌}
+use Rattle.std.specs.Prelude.{None, Some}
+use Prim.Native.Nat.{ℕ, suc, pred, ◌+◌, ◌^◌, ◌≤◌, ◌<◌}
 use native.Mathlib.Numerals.{add-one}
 use native.Mathlib.Omega.{arith}
 use lib.ListN.{length, get_or, take, drop, set, take-append-drop, drop_of_length-le}
 use lib.Seq.{drop-cons, take-suc-set, set_split, length-take-le}
+use Rattle.std.proofs.lemmas.List.{take-append-le}
 use borrow.Author.Tests.{lt-ltb, ltb-true}
 use Rattle.sheets.specs.Rule.{Meets}
 use Rattle.sheets.specs.Bytes.{Bytes, all}
@@ -129,7 +130,7 @@ module _ (s : Bytes) (at : ℕ) (out : List ℕ) (k i : ℕ) (h : SpacedTo s at 
         words = subst (λ (x : List ℕ). Meets (all is_word x)) (sym now) (words_more n f.2);
       }
 
-  pub last_number_lem : (n e : ℕ) → k + 1 ≡ length out → FindsNumber s i 10 (given (n, e)) → Reads (IsNumbers (length (set out k n))) numbers_text s at (some (set out k n, e + 1))
+  pub last_number_lem : (n e : ℕ) → k + 1 ≡ length out → FindsNumber s i 10 (given (n, e)) → Reads (IsNumbers (length (set out k n))) numbers_text s at (Some (set out k n, e + 1))
   last_number_lem n e l f =
       let whole : set out k n ≡ take k out ++ (n ∷ []) = set_split out k n (omega arith) ∙ ap (λ (t : List ℕ). take k out ++ (n ∷ t)) (drop_of_length-le out {i = suc k} (omega arith)) in
       let line : numbers_text (n ∷ []) ≡ decimal n ++ (10 ∷ []) = first_number n [] ∙ ap (λ (t : Bytes). decimal n ++ (10 ∷ t)) no_numbers in
@@ -142,28 +143,34 @@ module _ (s : Bytes) (at : ℕ) (out : List ℕ) (k i : ℕ) (h : SpacedTo s at 
         },
       )
 
-  module _ (ns : List ℕ) (l : k < length out) (n : length ns ≡ length out) (words : Meets (all is_word ns)) where
+  -- the same before other numbers
+  pub spaced_before : (more : List ℕ) → k ≤ length out → SpacedTo s at (out ++ more) k i
+  spaced_before more l =
+      let same : take k (out ++ more) ≡ take k out = take-append-le k out more l in
+      record { is = h.is ∙ ap (λ (x : List ℕ). spaced_text x ++ drop i s) (sym same); words = subst (λ (x : List ℕ). Meets (all is_word x)) (sym same) h.words }
+
+  module _ (ns : List ℕ) (l : k ≤ length out) (m : k < length ns) (words : Meets (all is_word ns)) where
     -- what a line would have to say from here on
     left : (rest : Bytes) → drop at s ≡ numbers_text ns ++ rest → drop i s ≡ decimal (get_or ns k 0) ++ (stop_before (drop (suc k) ns) ∷ (numbers_text (drop (suc k) ns) ++ rest))
     left rest e =
-        let next : drop k ns ≡ get_or ns k 0 ∷ drop (suc k) ns = drop-cons ns k 0 (omega arith) in
+        let next : drop k ns ≡ get_or ns k 0 ∷ drop (suc k) ns = drop-cons ns k 0 m in
         let split : ns ≡ take k ns ++ (get_or ns k 0 ∷ drop (suc k) ns) = sym (take-append-drop k ns) ∙ ap (λ (t : List ℕ). take k ns ++ t) next in
         let text : numbers_text ns ≡ spaced_text (take k ns) ++ numbers_text (get_or ns k 0 ∷ drop (suc k) ns) = ap numbers_text split ∙ numbers_split (take k ns) (get_or ns k 0) (drop (suc k) ns) in
-        let long : length (take k out) ≡ length (take k ns) = length-take-le k out (omega arith) ∙ sym (length-take-le k ns (omega arith)) in
+        let long : length (take k out) ≡ length (take k ns) = length-take-le k out l ∙ sym (length-take-le k ns (omega arith)) in
         let here = (spaced_same (take k out) (take k ns) (drop i s) (numbers_text (get_or ns k 0 ∷ drop (suc k) ns) ++ rest) long (sym h.is ∙ e ∙ ap (λ (t : Bytes). t ++ rest) text ∙ append_assoc (spaced_text (take k ns)) (numbers_text (get_or ns k 0 ∷ drop (suc k) ns)) rest)).1 in
         here ∙ ap (λ (t : Bytes). t ++ rest) (first_number (get_or ns k 0) (drop (suc k) ns)) ∙ append_assoc (decimal (get_or ns k 0)) (stop_before (drop (suc k) ns) ∷ numbers_text (drop (suc k) ns)) rest
 
     stuck : (stop : ℕ) → stop_before (drop (suc k) ns) ≡ stop → FindsNumber s i stop (refused bad_lines) → Missing s at (numbers_text ns)
     stuck stop b f rest e =
-        not_found s i stop (get_or ns k 0) (numbers_text (drop (suc k) ns) ++ rest) f (ltb-true (get_or ns k 0) (2 ^ 64) (all_at is_word ns k (omega arith) words))
+        not_found s i stop (get_or ns k 0) (numbers_text (drop (suc k) ns) ++ rest) f (ltb-true (get_or ns k 0) (2 ^ 64) (all_at is_word ns k m words))
         (left rest e ∙ ap (λ (c : ℕ). decimal (get_or ns k 0) ++ (c ∷ (numbers_text (drop (suc k) ns) ++ rest))) b)
 
-  pub no_number : suc k < length out → FindsNumber s i 32 (refused bad_lines) → Reads (IsNumbers (length out)) numbers_text s at none
-  no_number m f ns numbers =
+  pub no_number : (count : ℕ) → k ≤ length out → suc k < count → FindsNumber s i 32 (refused bad_lines) → Reads (IsNumbers count) numbers_text s at None
+  no_number count l m f ns numbers =
       let long = numbers.long in
-      stuck ns (omega arith) long numbers.words 32 (ap stop_before (drop-cons ns (suc k) 0 (omega arith))) f
+      stuck ns l (omega arith) numbers.words 32 (ap stop_before (drop-cons ns (suc k) 0 (omega arith))) f
 
-  pub no_last_number : suc k ≡ length out → FindsNumber s i 10 (refused bad_lines) → Reads (IsNumbers (length out)) numbers_text s at none
-  no_last_number m f ns numbers =
+  pub no_last_number : (count : ℕ) → k ≤ length out → suc k ≡ count → FindsNumber s i 10 (refused bad_lines) → Reads (IsNumbers count) numbers_text s at None
+  no_last_number count l m f ns numbers =
       let long = numbers.long in
-      stuck ns (omega arith) long numbers.words 10 (ap stop_before (drop_of_length-le ns {i = suc k} (omega arith))) f
+      stuck ns l (omega arith) numbers.words 10 (ap stop_before (drop_of_length-le ns {i = suc k} (omega arith))) f

@@ -1,9 +1,10 @@
 -- A part of so many bytes at a place of the list, byte by byte: the first k are read, and the text goes on at place i. What the part's text would
 -- have to say from there on follows, since bytes have one text only. Assumes nothing.
+use Rattle.std.proofs.lemmas.List.{take-append-le}
 use mathlib.Core.Path.{◌≡◌, refl, sym, ap, ap₂, subst, ◌∙◌}
 use mathlib.Core.Bool.{Bool, true}
 use mathlib.Core.List.{[], ◌∷◌, ◌++◌, append_assoc, append-nil}
-use mathlib.Core.Option.{none, some}
+use Rattle.std.specs.Prelude.{None, Some}
 use Prim.Native.Nat.{ℕ, zero, suc, ◌+◌, ◌≤◌, ◌<◌}
 use native.Mathlib.Nat.{not-suc-le-zero, le_of_suc-le-suc}
 use native.Mathlib.Numerals.{add-one}
@@ -49,7 +50,7 @@ unfolding bytes_text
 none_yet s at out = record { is = refl; bytes = refl }
 
 module _ (s : Bytes) (at : ℕ) (out : Bytes) (k i : ℕ) (h : ReadTo s at out k i) where
-  pub one_more : (b next : ℕ) → k < length out → Reads IsByte byte_text s i (some (b, next)) → ReadTo s at (set out k b) (k + 1) next
+  pub one_more : (b next : ℕ) → k < length out → Reads IsByte byte_text s i (Some (b, next)) → ReadTo s at (set out k b) (k + 1) next
   one_more b next l r =
       let now : take (k + 1) (set out k b) ≡ take k out ++ (b ∷ []) = ap (λ (m : ℕ). take m (set out k b)) (add-one k) ∙ take-suc-set out k b l in
       let text : bytes_text (take (k + 1) (set out k b)) ≡ bytes_text (take k out) ++ byte_text b = ap bytes_text now ∙ bytes_append (take k out) (b ∷ []) ∙ ap (λ (t : Bytes). bytes_text (take k out) ++ t) (one_text b) in
@@ -58,12 +59,18 @@ module _ (s : Bytes) (at : ℕ) (out : Bytes) (k i : ℕ) (h : ReadTo s at out k
         bytes = subst (λ (x : Bytes). Meets (all is_byte x)) (sym now) (all_append is_byte (take k out) (b ∷ []) h.bytes (r.0, refl));
       }
 
-  pub whole : (count : ℕ) → k ≡ count → count ≤ length out → i < length s → get_or s i 0 ≡ 10 → Reads (IsPart count (length out)) part_text s at (some (take count out, i + 1))
+  -- the same before other bytes
+  pub read_before : (more : Bytes) → k ≤ length out → ReadTo s at (out ++ more) k i
+  read_before more l =
+      let same : take k (out ++ more) ≡ take k out = take-append-le k out more l in
+      record { is = h.is ∙ ap (λ (x : Bytes). bytes_text x ++ drop i s) (sym same); bytes = subst (λ (x : Bytes). Meets (all is_byte x)) (sym same) h.bytes }
+
+  pub whole : (count : ℕ) → k ≡ count → count ≤ length out → i < length s → get_or s i 0 ≡ 10 → Reads (IsPart count (length out)) part_text s at (Some (take count out, i + 1))
   whole count done fit m e =
       let l : k ≤ length out = omega arith in
       let end : drop i s ≡ 10 ∷ drop (i + 1) s = drop-cons s i 0 m ∙ ap₂ ◌∷◌ e (ap (λ (n : ℕ). drop n s) (sym (add-one i))) in
       let part : IsPart k (length out) (take k out) = record { long = length-take-le k out l; fits = l; bytes = h.bytes } in
-      subst (λ (n : ℕ). Reads (IsPart n (length out)) part_text s at (some (take n out, i + 1))) done
+      subst (λ (n : ℕ). Reads (IsPart n (length out)) part_text s at (Some (take n out, i + 1))) done
       (part, record { is = h.is ∙ ap (λ (t : Bytes). bytes_text (take k out) ++ t) end ∙ sym (part_apart (take k out) (drop (i + 1) s)); within = omega arith })
 
   module _ (l : k ≤ length out) (x : Bytes) (m : k ≤ length x) (rest : Bytes) (e : drop at s ≡ part_text x ++ rest) where
@@ -79,21 +86,21 @@ module _ (s : Bytes) (at : ℕ) (out : Bytes) (k i : ℕ) (h : ReadTo s at out k
     at_end n = left ∙ ap (λ (t : Bytes). bytes_text t ++ (10 ∷ rest)) (drop_of_length-le x {i = k} (omega arith)) ∙ ap (λ (t : Bytes). t ++ (10 ∷ rest)) no_text
 
   module _ (l : k ≤ length out) where
-    pub stuck : (count : ℕ) → k < count → Reads IsByte byte_text s i none → Reads (IsPart count (length out)) part_text s at none
-    stuck count m missing x part rest e =
+    pub stuck : (count room : ℕ) → k < count → Reads IsByte byte_text s i None → Reads (IsPart count room) part_text s at None
+    stuck count room m missing x part rest e =
         let long = part.long in
         let next : drop k x ≡ get_or x k 0 ∷ drop (suc k) x = drop-cons x k 0 (omega arith) in
         let text : bytes_text (drop k x) ≡ byte_text (get_or x k 0) ++ bytes_text (drop (suc k) x) = ap bytes_text next ∙ first_text (get_or x k 0) (drop (suc k) x) in
         missing (get_or x k 0) (all_at is_byte x k (omega arith) part.bytes) (bytes_text (drop (suc k) x) ++ (10 ∷ rest))
         (left l x (omega arith) rest e ∙ ap (λ (t : Bytes). t ++ (10 ∷ rest)) text ∙ append_assoc (byte_text (get_or x k 0)) (bytes_text (drop (suc k) x)) (10 ∷ rest))
 
-    pub ends_early : (count : ℕ) → k ≡ count → length s ≤ i → Reads (IsPart count (length out)) part_text s at none
-    ends_early count done m x part rest e =
+    pub ends_early : (count room : ℕ) → k ≡ count → length s ≤ i → Reads (IsPart count room) part_text s at None
+    ends_early count room done m x part rest e =
         let long = part.long ∙ sym done in
         let z : 0 ≡ length (10 ∷ rest) = ap length (sym (drop_of_length-le s m) ∙ at_end l x (omega arith) rest e long) in
         omega arith
 
-    pub no_end : (count : ℕ) → k ≡ count → i < length s → (get_or s i 0 ≡ 10 → ⊥) → Reads (IsPart count (length out)) part_text s at none
-    no_end count done m not x part rest e =
+    pub no_end : (count room : ℕ) → k ≡ count → i < length s → (get_or s i 0 ≡ 10 → ⊥) → Reads (IsPart count room) part_text s at None
+    no_end count room done m not x part rest e =
         let long = part.long ∙ sym done in
         not (same_head (sym (drop-cons s i 0 m) ∙ at_end l x (omega arith) rest e long))

@@ -2,7 +2,7 @@
 -- For a byte, a line of numbers, the first line, a header, a part and a record. Assumes nothing.
 use mathlib.Core.Path.{◌≡◌, refl, sym, ap, ◌∙◌}
 use mathlib.Core.List.{List, ◌++◌}
-use mathlib.Core.Option.{Option, none, some}
+use Rattle.std.specs.Prelude.{Option, None, Some}
 use Prim.Native.Nat.{ℕ}
 use native.Mathlib.Omega.{arith}
 use lib.ListN.{length, get_or, drop, length-drop}
@@ -19,13 +19,13 @@ abbrev pub OneText : {A : Type 0} → (A → Type 0) → (A → Bytes) → Type 
 OneText {A} Kind text = (x y : A) (a b : Bytes) → Kind x → Kind y → text x ++ a ≡ text y ++ b → (x ≡ y) × (a ≡ b)
 
 pub reads_one : {A : Type 0} (Kind : A → Type 0) (text : A → Bytes) → OneText Kind text → (s : Bytes) (at : ℕ) (o p : Option (A × ℕ)) → Reads Kind text s at o → Reads Kind text s at p → o ≡ p
-reads_one Kind text one s at none none r q = refl
-reads_one Kind text one s at none (some y) r q = absurd (r y.0 q.0 (drop y.1 s) q.1.is)
-reads_one Kind text one s at (some x) none r q = absurd (q x.0 r.0 (drop x.1 s) r.1.is)
-reads_one Kind text one s at (some x) (some y) r q =
+reads_one Kind text one s at None None r q = refl
+reads_one Kind text one s at None (Some y) r q = absurd (r y.0 q.0 (drop y.1 s) q.1.is)
+reads_one Kind text one s at (Some x) None r q = absurd (q x.0 r.0 (drop x.1 s) r.1.is)
+reads_one Kind text one s at (Some x) (Some y) r q =
     let e = one x.0 y.0 (drop x.1 s) (drop y.1 s) r.0 q.0 (sym r.1.is ∙ q.1.is) in
     let n : x.1 ≡ y.1 = omega (arith, ap length e.1, length-drop x.1 s, length-drop y.1 s, r.1.within, q.1.within) in
-    λ i. some (e.0 i, n i)
+    λ i. Some (e.0 i, n i)
 
 -- ── the kinds
 

@@ -2,7 +2,7 @@
 -- stood there would have the same parts as far as they were read. Assumes nothing.
 use mathlib.Core.Path.{◌≡◌, refl, sym, ap, subst, ◌∙◌}
 use mathlib.Core.List.{List, [], ◌∷◌, ◌++◌, append_assoc}
-use mathlib.Core.Option.{none, some}
+use Rattle.std.specs.Prelude.{None, Some}
 use Prim.Native.Nat.{ℕ}
 use native.Mathlib.Omega.{arith}
 use lib.ListN.{length, get_or, drop}
@@ -37,22 +37,22 @@ eight (a ∷ b ∷ c ∷ d ∷ e ∷ f ∷ g ∷ h ∷ i ∷ l) n = absurd (omeg
 
 -- ── lines
 
-pub no_first_line : (s : Bytes) (at n : ℕ) → n ≡ 3 → Reads (IsNumbers n) numbers_text s at none → Reads IsFirstLine first_line_text s at none
+pub no_first_line : (s : Bytes) (at n : ℕ) → n ≡ 3 → Reads (IsNumbers n) numbers_text s at None → Reads IsFirstLine first_line_text s at None
 no_first_line s at n e told l words = told (first_numbers l) (record { long = sym e; words = words })
 
-pub first_line_lem : (s : Bytes) (at : ℕ) (l : FirstLine) (next : ℕ) (ns : List ℕ) → first_numbers l ≡ ns → Reads (IsNumbers (length ns)) numbers_text s at (some (ns, next))
-    → Reads IsFirstLine first_line_text s at (some (l, next))
+pub first_line_lem : (s : Bytes) (at : ℕ) (l : FirstLine) (next : ℕ) (ns : List ℕ) → first_numbers l ≡ ns → Reads (IsNumbers (length ns)) numbers_text s at (Some (ns, next))
+    → Reads IsFirstLine first_line_text s at (Some (l, next))
 first_line_lem s at l next ns e told =
-    let r = subst (λ (ms : List ℕ). Reads (IsNumbers (length ms)) numbers_text s at (some (ms, next))) (sym e) told in
+    let r = subst (λ (ms : List ℕ). Reads (IsNumbers (length ms)) numbers_text s at (Some (ms, next))) (sym e) told in
     (r.0.words, r.1)
 
-pub no_header : (s : Bytes) (at n : ℕ) → n ≡ 8 → Reads (IsNumbers n) numbers_text s at none → Reads IsHeader header_text s at none
+pub no_header : (s : Bytes) (at n : ℕ) → n ≡ 8 → Reads (IsNumbers n) numbers_text s at None → Reads IsHeader header_text s at None
 no_header s at n e told h words = told (header_numbers h) (record { long = sym e; words = words })
 
-pub header : (s : Bytes) (at : ℕ) (h : Header) (next : ℕ) (ns : List ℕ) → header_numbers h ≡ ns → Reads (IsNumbers (length ns)) numbers_text s at (some (ns, next))
-    → Reads IsHeader header_text s at (some (h, next))
+pub header : (s : Bytes) (at : ℕ) (h : Header) (next : ℕ) (ns : List ℕ) → header_numbers h ≡ ns → Reads (IsNumbers (length ns)) numbers_text s at (Some (ns, next))
+    → Reads IsHeader header_text s at (Some (h, next))
 header s at h next ns e told =
-    let r = subst (λ (ms : List ℕ). Reads (IsNumbers (length ms)) numbers_text s at (some (ms, next))) (sym e) told in
+    let r = subst (λ (ms : List ℕ). Reads (IsNumbers (length ms)) numbers_text s at (Some (ms, next))) (sym e) told in
     (r.0.words, r.1)
 
 -- ── the parts of a record
@@ -65,10 +65,10 @@ apart r rest =
     append_assoc (header_text r.header) (x ++ y) rest ∙ ap (λ (t : Bytes). header_text r.header ++ t) (append_assoc x y rest)
 
 module _ (s : Bytes) (at input_room output_room : ℕ) where
-  pub headless : Reads IsHeader header_text s at none → Reads (IsRecord input_room output_room) record_text s at none
+  pub headless : Reads IsHeader header_text s at None → Reads (IsRecord input_room output_room) record_text s at None
   headless told r is rest e = told r.header is.header (part_text r.input ++ (part_text r.output ++ rest)) (e ∙ apart r rest)
 
-  module _ (g : Header) (body : ℕ) (read : Reads IsHeader header_text s at (some (g, body))) where
+  module _ (g : Header) (body : ℕ) (read : Reads IsHeader header_text s at (Some (g, body))) where
     -- a record there has this header
     same_header : (r : Record) (rest : Bytes) → drop at s ≡ record_text r ++ rest → (header_numbers g ≡ header_numbers r.header) × (drop body s ≡ part_text r.input ++ (part_text r.output ++ rest))
     same_header r rest e =
@@ -80,21 +80,21 @@ module _ (s : Bytes) (at input_room output_room : ℕ) where
     same_output : (h : Header) → header_numbers g ≡ header_numbers h → h.output ≡ g.output
     same_output h e = ap (λ (l : List ℕ). get_or l 7 0) (sym e)
 
-    pub no_input : Reads (IsPart g.input input_room) part_text s body none → Reads (IsRecord input_room output_room) record_text s at none
+    pub no_input : Reads (IsPart g.input input_room) part_text s body None → Reads (IsRecord input_room output_room) record_text s at None
     no_input told r is rest e =
         let f = same_header r rest e in
         told r.input (subst (λ (n : ℕ). IsPart n input_room r.input) (same_input r.header f.0) is.input) (part_text r.output ++ rest) f.1
 
-    module _ (x : Bytes) (middle : ℕ) (input : Reads (IsPart g.input input_room) part_text s body (some (x, middle))) where
-      pub no_output : Reads (IsPart g.output output_room) part_text s middle none → Reads (IsRecord input_room output_room) record_text s at none
+    module _ (x : Bytes) (middle : ℕ) (input : Reads (IsPart g.input input_room) part_text s body (Some (x, middle))) where
+      pub no_output : Reads (IsPart g.output output_room) part_text s middle None → Reads (IsRecord input_room output_room) record_text s at None
       no_output told r is rest e =
           let f = same_header r rest e in
           let long : length x ≡ length r.input = input.0.long ∙ sym (same_input r.header f.0) ∙ sym is.input.long in
           let p = part_same x r.input (drop middle s) (part_text r.output ++ rest) long (sym input.1.is ∙ f.1) in
           told r.output (subst (λ (n : ℕ). IsPart n output_room r.output) (same_output r.header f.0) is.output) rest p.1
 
-      pub whole_record : (y : Bytes) (end : ℕ) → Reads (IsPart g.output output_room) part_text s middle (some (y, end))
-          → Reads (IsRecord input_room output_room) record_text s at (some (record { header = g; input = x; output = y }, end))
+      pub whole_record : (y : Bytes) (end : ℕ) → Reads (IsPart g.output output_room) part_text s middle (Some (y, end))
+          → Reads (IsRecord input_room output_room) record_text s at (Some (record { header = g; input = x; output = y }, end))
       whole_record y end output =
           let r : Record = record { header = g; input = x; output = y } in (
             record { header = read.0; input = input.0; output = output.0 },

@@ -1,34 +1,25 @@
--- The window: bytes moved to its front one by one, and what stands there after it is read into behind them. Assumes nothing.
-use mathlib.Core.Path.{◌≡◌, refl, sym, ap, ap₂, ◌∙◌}
+-- The window: what stands in it after bytes were moved to its front and more was read behind them. Assumes nothing.
+use mathlib.Core.Path.{◌≡◌, refl, ap, ◌∙◌}
 use mathlib.Core.Bool.{false}
-use mathlib.Core.List.{[], ◌∷◌, ◌++◌}
-use Prim.Native.Nat.{ℕ, ◌+◌, ◌-◌, ◌≤◌, ◌<◌, min}
+use Prim.Native.Nat.{ℕ, ◌+◌, ◌-◌, ◌≤◌, min}
 use native.Mathlib.Nat.{le_refl}
-use native.Mathlib.Numerals.{add-one}
 use native.Mathlib.Omega.{arith}
 use lib.Dec.{ltb}
-use lib.ListN.{length, get_or, take, drop, set, length-drop}
-use lib.Seq.{take-suc, take-suc-set, drop-set-lt, drop-drop, get_or-drop, length-take-le}
+use lib.ListN.{length, take, drop, length-drop}
+use lib.Seq.{length-take-le, take-paste}
 use borrow.Author.Tests.{ltb-false}
 use borrow.Rule.Slice.PartMut.{mid_of, put_mid, same_len_mid, take_put}
+use Rattle.std.specs.List.{copy_within}
 use Rattle.sheets.specs.Bytes.{Bytes}
 use Rattle.recorded_list.specs.Moving.{longest_record, Within, Refilled}
 use Rattle.recorded_list.specs.declared.window.Window.{Window}
 
-module _ (before now : Bytes) (at i : ℕ) (moved : take i now ≡ take i (drop at before)) (left : drop i now ≡ drop i before) (size : length now ≡ length before) (room : at + i < length before) where
-  same_byte : get_or now (at + i) 0 ≡ get_or (drop at before) i 0
-  same_byte =
-      let w : at + i ≡ i + at = omega arith in
-      ap (λ (k : ℕ). get_or now k 0) w ∙ sym (get_or-drop i now at 0) ∙ ap (λ (l : Bytes). get_or l at 0) left ∙ get_or-drop i before at 0 ∙ ap (λ (k : ℕ). get_or before k 0) (sym w) ∙ sym (get_or-drop at before i 0)
-
-  pub moved_more : take (i + 1) (set now i (get_or now (at + i) 0)) ≡ take (i + 1) (drop at before)
-  moved_more =
-      let b = get_or now (at + i) 0 in
-      rw add-one (take-suc-set now i b (omega arith) ∙ ap₂ (λ (l : Bytes) (y : ℕ). l ++ (y ∷ [])) moved same_byte ∙ sym (take-suc (drop at before) i 0 (omega (arith, length-drop at before))))
-
-  pub left_more : drop (i + 1) (set now i (get_or now (at + i) 0)) ≡ drop (i + 1) before
-  left_more =
-      drop-set-lt (i + 1) now i (get_or now (at + i) 0) (omega arith) ∙ sym (drop-drop 1 i now) ∙ ap (drop 1) left ∙ drop-drop 1 i before
+-- what was to be read stands at the front
+pub to_front : (text moved : Bytes) (at end : ℕ) → moved ≡ copy_within text at end 0 → end ≤ length text → take (end - at) moved ≡ take (end - at) (drop at text)
+to_front text moved at end e h =
+    let n = end - at in
+    let whole : n ≡ 0 + n = omega arith in
+    ap (take n) e ∙ ap (λ (k : ℕ). take k (copy_within text at end 0)) whole ∙ take-paste text 0 (drop at text) n (omega arith) (omega (arith, length-drop at text))
 
 -- as it was
 pub unmoved : (text : Bytes) (w : Window) → Within w (length text) → (w.ended ≡ false → min longest_record (length text) ≤ w.end - w.at) → Refilled text w text w

@@ -1,7 +1,6 @@
 -- What is told of the list at the front of its window: the first line, or the next record of a window that was refilled, and what is still to be
 -- read after it; or that nothing is left. Assumes nothing.
-use Rattle.std.specs.Prelude.{◌≡◌, Bool, true, false, ◌&&◌, not, cond, ℕ, eqb, leb, take}
-use Rattle.std.proofs.Math.Option.{Option, none, some}
+use Rattle.std.specs.Prelude.{◌≡◌, Bool, true, false, ◌&&◌, not, cond, ℕ, eqb, leb, take, Option, None, Some}
 use Rattle.sheets.specs.Bytes.{Bytes}
 use Rattle.recorded_list.specs.ListText.{Record, first_line_text, record_text}
 use Rattle.recorded_list.specs.Reads.{Reads, IsFirstLine, IsRecord}
@@ -15,8 +14,8 @@ fitting input output l = not (eqb l.records 0) && (leb l.input input && leb l.ou
 
 -- what stands at the front of a window, if it passes the test, and what is still to be read after it
 abbrev pub front : {A : Type 0} → (A → Bool) → Window → Option (A × ℕ) → Option (A × Window)
-front test w none = none
-front test w (some p) = cond (test p.0) (some (p.0, record { at = p.1; end = w.end; ended = w.ended })) none
+front test w None = None
+front test w (Some p) = cond (test p.0) (Some (p.0, record { at = p.1; end = w.end; ended = w.ended })) None
 
 -- the thing of the kind at the front of the refilled window, if it passes the test, and what is still to be read after it
 pub record ReadsOn {A : Type 0} (Kind : A → Type 0) (text : A → Bytes) (test : A → Bool) (before : Bytes) (w : Window) (after : Bytes) (o : Option (A × Window)) : Type 0 where

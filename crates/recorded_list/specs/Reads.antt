@@ -1,7 +1,6 @@
 -- What a reader of the list tells: of the things of a kind, each of which has its text, the one whose text stands from a place on and the place after
 -- it; or that none of them stands there. No thing's text begins another's, so one answer alone is right (`ReadsLaws`). Assumes nothing.
-use Rattle.std.specs.Prelude.{◌≡◌, Bool, true, List, ◌++◌, ℕ, ◌^◌, ◌≤◌, ltb, length, drop}
-use Rattle.std.proofs.Math.Option.{Option, none, some}
+use Rattle.std.specs.Prelude.{◌≡◌, Bool, true, List, ◌++◌, ℕ, ◌^◌, ◌≤◌, ltb, length, drop, Option, None, Some}
 use Rattle.sheets.specs.Rule.{Meets}
 use Rattle.sheets.specs.Bytes.{Bytes, all, is_byte}
 use Rattle.recorded_list.specs.ListText.{Record, first_numbers, header_numbers}
@@ -19,8 +18,8 @@ Missing s at t = (rest : Bytes) → drop at s ≡ t ++ rest → ⊥
 
 -- the thing of the kind whose text stands from place at on, and the place after it
 abbrev pub Reads : {A : Type 0} → (A → Type 0) → (A → Bytes) → Bytes → ℕ → Option (A × ℕ) → Type 0
-Reads {A} Kind text s at none = (x : A) → Kind x → Missing s at (text x)
-Reads {A} Kind text s at (some p) = Kind p.0 × TextBetween s at p.1 (text p.0)
+Reads {A} Kind text s at None = (x : A) → Kind x → Missing s at (text x)
+Reads {A} Kind text s at (Some p) = Kind p.0 × TextBetween s at p.1 (text p.0)
 
 -- ── what is read
 

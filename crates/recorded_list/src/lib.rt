@@ -8,28 +8,14 @@ pub mod text;
 pub mod window;
 
 ghost use Rattle.std.specs.Prelude.{◌≡◌, length, IfOk, OnErr};
-ghost use Rattle.recorded_list.specs.Answers.{start_option, next_option};
+ghost use Rattle.recorded_list.specs.Answers.{next_option};
 ghost use Rattle.recorded_list.specs.Moving.{Within};
 ghost use Rattle.recorded_list.specs.Reading.{fitting, ReadsStart, ReadsNext, ReadsEnd};
 
-use crate::records::{FirstLine, FirstLineRead, Header, RecordRead};
+use crate::records::{FirstLine, Header};
 use crate::window::Window;
 use std::io;
 use std::io::Read;
-
-// The first line and what is still to be read after it.
-#[derive(Drop)]
-pub enum Start {
-    Read(FirstLine, Window),
-    Bad,
-}
-
-// The numbers of a record's first line and what is still to be read after the record.
-#[derive(Drop)]
-pub enum Next {
-    Read(Header, Window),
-    Bad,
-}
 
 // Whether there are records, and the buffers hold the longest input and the longest output.
 fn fits(line: FirstLine, input: usize, output: usize) -> bool
@@ -44,14 +30,14 @@ fn fits(line: FirstLine, input: usize, output: usize) -> bool
     line.output as usize <= output
 }
 
-// Reads the first line, for buffers of so many bytes. Only a read fails, and the text then has its length.
+// Reads the first line, for buffers of so many bytes, and tells it with what is still to be read after it. Only a read fails, and the text then has its length.
 pub fn first_line<R: Read>(
     source: &mut R,
     text: &mut [u8],
     input: usize,
     output: usize,
-) -> io::Result<Start>
-    ensures ok { IfOk result (λ r. ReadsStart input output text.old text.new (start_option r)) }
+) -> io::Result<Option<(FirstLine, Window)>>
+    ensures ok { IfOk result (λ r. ReadsStart input output text.old text.new r) }
     ensures err { OnErr result (length text.new ≡ length text.old) }
 {
     let w = crate::window::refill(
@@ -64,48 +50,47 @@ pub fn first_line<R: Read>(
         },
     )?;
     let end = w.end;
-    let FirstLineRead::Read(line, next) = crate::records::read_first_line(&text[..end], w.at) else {
-        return Ok(Start::Bad);
+    let Some((line, next)) = crate::records::read_first_line(&text[..end], w.at) else {
+        return Ok(None);
     };
     if !fits(line, input, output) {
-        return Ok(Start::Bad);
+        return Ok(None);
     }
-    Ok(Start::Read(
+    Ok(Some((
         line,
         Window {
             at: next,
             end,
             ended: w.ended,
         },
-    ))
+    )))
 }
 
-// Reads the next record, its parts into the first bytes of input and output. Only a read fails; the text then has its length, and the two are unchanged.
+// Reads the next record, its parts into the first bytes of input and output, and tells the numbers of its first line with what is still to be read. Only a read fails; the text then has its length, and the two are unchanged.
 pub fn next_record<R: Read>(
     source: &mut R,
     text: &mut [u8],
     before: Window,
     input: &mut [u8],
     output: &mut [u8],
-) -> io::Result<Next>
+) -> io::Result<Option<(Header, Window)>>
     requires { Within before (length text.old) }
     ensures ok { IfOk result (λ r. ReadsNext (length input.new) (length output.new) text.old before text.new (next_option input.new output.new r)) }
     ensures err { OnErr result ((length text.new ≡ length text.old) × (input.new ≡ input.old) × (output.new ≡ output.old)) }
 {
     let w = crate::window::refill(source, text, before)?;
     let end = w.end;
-    let RecordRead::Read(h, next) = crate::records::read_record(&text[..end], w.at, input, output)
-    else {
-        return Ok(Next::Bad);
+    let Some((h, next)) = crate::records::read_record(&text[..end], w.at, input, output) else {
+        return Ok(None);
     };
-    Ok(Next::Read(
+    Ok(Some((
         h,
         Window {
             at: next,
             end,
             ended: w.ended,
         },
-    ))
+    )))
 }
 
 // Whether nothing is left of the list. Only a read fails, and the text then has its length.

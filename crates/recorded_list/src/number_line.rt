@@ -4,28 +4,20 @@ ghost use Rattle.recorded_list.specs.ListText.{numbers_text};
 ghost use Rattle.recorded_list.specs.Reads.{Reads, IsNumbers};
 ghost use Rattle.recorded_list.specs.Answers.{text_option};
 
-use crate::text::TextRead;
-use columns::number::NumberColumn;
-
-// Reads a line of as many numbers as out holds.
-pub fn read_numbers(s: &[u8], at: usize, out: &mut [u64]) -> TextRead
+// Reads a line of as many numbers as out holds, and tells where the text goes on.
+pub fn read_numbers(s: &[u8], at: usize, out: &mut [u64]) -> Option<usize>
     requires { 0 < length out.old }
     ensures { Reads (IsNumbers (length out.new)) numbers_text s.now at (text_option out.new result) }
 {
     let last = out.len() - 1;
     let mut i = at;
-    let mut k = 0;
-    while k < last {
-        let NumberColumn::At(n, end) = columns::number::number_column(s, i, b' ') else {
-            return TextRead::Bad;
-        };
-        out[k] = n;
+    let spaced = &mut out[..last];
+    for n in spaced.iter_mut() {
+        let (value, end) = columns::number::number_column(s, i, b' ')?;
+        *n = value;
         i = end + 1;
-        k += 1;
     }
-    let NumberColumn::At(n, end) = columns::number::number_column(s, i, b'\n') else {
-        return TextRead::Bad;
-    };
-    out[last] = n;
-    TextRead::To(end + 1)
+    let (value, end) = columns::number::number_column(s, i, b'\n')?;
+    out[last] = value;
+    Some(end + 1)
 }

@@ -2,9 +2,7 @@
 ghost use Rattle.std.specs.Prelude.{length};
 ghost use Rattle.recorded_list.specs.ListText.{first_line_text, header_text, record_text};
 ghost use Rattle.recorded_list.specs.Reads.{Reads, IsFirstLine, IsHeader, IsRecord};
-ghost use Rattle.recorded_list.specs.Answers.{first_line_option, header_option, record_option};
-
-use crate::text::TextRead;
+ghost use Rattle.recorded_list.specs.Answers.{record_option};
 
 // How many records there are, and how many bytes the longest input and the longest output have.
 #[derive(Clone, Copy)]
@@ -27,45 +25,29 @@ pub struct Header {
     pub output: u64,
 }
 
-#[derive(Drop)]
-pub enum FirstLineRead {
-    Read(FirstLine, usize),
-    Bad,
-}
-
-#[derive(Drop)]
-pub enum RecordRead {
-    Read(Header, usize),
-    Bad,
-}
-
-// The list's first line, from place at on.
-pub fn read_first_line(s: &[u8], at: usize) -> FirstLineRead
-    ensures { Reads IsFirstLine first_line_text s.now at (first_line_option result) }
+// The list's first line, from place at on, and where the text goes on.
+pub fn read_first_line(s: &[u8], at: usize) -> Option<(FirstLine, usize)>
+    ensures { Reads IsFirstLine first_line_text s.now at result }
 {
     let mut n = [0u64; 3];
-    let TextRead::To(next) = crate::number_line::read_numbers(s, at, &mut n) else {
-        return FirstLineRead::Bad;
-    };
-    FirstLineRead::Read(
+    let next = crate::number_line::read_numbers(s, at, &mut n)?;
+    Some((
         FirstLine {
             records: n[0],
             input: n[1],
             output: n[2],
         },
         next,
-    )
+    ))
 }
 
-// The first line of the record from place at on.
-fn read_header(s: &[u8], at: usize) -> RecordRead
-    ensures { Reads IsHeader header_text s.now at (header_option result) }
+// The first line of the record from place at on, and where the text goes on.
+fn read_header(s: &[u8], at: usize) -> Option<(Header, usize)>
+    ensures { Reads IsHeader header_text s.now at result }
 {
     let mut n = [0u64; 8];
-    let TextRead::To(next) = crate::number_line::read_numbers(s, at, &mut n) else {
-        return RecordRead::Bad;
-    };
-    RecordRead::Read(
+    let next = crate::number_line::read_numbers(s, at, &mut n)?;
+    Some((
         Header {
             call: n[0],
             argument: n[1],
@@ -77,21 +59,20 @@ fn read_header(s: &[u8], at: usize) -> RecordRead
             output: n[7],
         },
         next,
-    )
+    ))
 }
 
-// Reads the record from place at on, its parts into the first bytes of input and output.
-pub fn read_record(s: &[u8], at: usize, input: &mut [u8], output: &mut [u8]) -> RecordRead
+// Reads the record from place at on, its parts into the first bytes of input and output: the numbers of its first line, and where the text goes on.
+pub fn read_record(
+    s: &[u8],
+    at: usize,
+    input: &mut [u8],
+    output: &mut [u8],
+) -> Option<(Header, usize)>
     ensures { Reads (IsRecord (length input.new) (length output.new)) record_text s.now at (record_option input.new output.new result) }
 {
-    let RecordRead::Read(h, body) = read_header(s, at) else {
-        return RecordRead::Bad;
-    };
-    let TextRead::To(middle) = crate::text::read_part(s, body, h.input, input) else {
-        return RecordRead::Bad;
-    };
-    let TextRead::To(end) = crate::text::read_part(s, middle, h.output, output) else {
-        return RecordRead::Bad;
-    };
-    RecordRead::Read(h, end)
+    let (h, body) = read_header(s, at)?;
+    let middle = crate::text::read_part(s, body, h.input, input)?;
+    let end = crate::text::read_part(s, middle, h.output, output)?;
+    Some((h, end))
 }

@@ -2,21 +2,7 @@
 ghost use Rattle.std.specs.Prelude.{◌≡◌, length, take};
 ghost use Rattle.recorded_list.specs.ListText.{is_plain, byte_text, part_text};
 ghost use Rattle.recorded_list.specs.Reads.{Reads, IsByte, IsPart};
-ghost use Rattle.recorded_list.specs.Answers.{byte_option, text_option};
-
-// Where the text goes on, or that what is looked for does not stand there.
-#[derive(Drop)]
-pub enum TextRead {
-    To(usize),
-    Bad,
-}
-
-// A byte and where the text goes on.
-#[derive(Drop)]
-pub enum ByteRead {
-    Byte(u8, usize),
-    Bad,
-}
+ghost use Rattle.recorded_list.specs.Answers.{text_option};
 
 // Whether the byte stands for itself.
 fn is_plain(b: u8) -> bool
@@ -34,57 +20,54 @@ fn is_plain(b: u8) -> bool
     b != b'\\'
 }
 
-// The byte whose text stands from place at on.
-fn read_byte(s: &[u8], at: usize) -> ByteRead
-    ensures { Reads IsByte byte_text s.now at (byte_option result) }
+// The byte whose text stands from place at on, and where the text goes on.
+fn read_byte(s: &[u8], at: usize) -> Option<(u8, usize)>
+    ensures { Reads IsByte byte_text s.now at result }
 {
     if s.len() <= at {
-        return ByteRead::Bad;
+        return None;
     }
     let b = s[at];
     if is_plain(b) {
-        return ByteRead::Byte(b, at + 1);
+        return Some((b, at + 1));
     }
     if b != b'\\' {
-        return ByteRead::Bad;
+        return None;
     }
     if s.len() - at < 3 {
-        return ByteRead::Bad;
+        return None;
     }
     let digits = &s[at + 1..at + 3];
     if !hexadecimal::is_hex(digits) {
-        return ByteRead::Bad;
+        return None;
     }
     let c = hexadecimal::byte_at(digits, 0);
     if is_plain(c) {
-        return ByteRead::Bad;
+        return None;
     }
-    ByteRead::Byte(c, at + 3)
+    Some((c, at + 3))
 }
 
-// Reads a part of so many bytes and its byte 10 into the first bytes of out.
-pub fn read_part(s: &[u8], at: usize, count: u64, out: &mut [u8]) -> TextRead
+// Reads a part of so many bytes and its byte 10 into the first bytes of out, and tells where the text goes on.
+pub fn read_part(s: &[u8], at: usize, count: u64, out: &mut [u8]) -> Option<usize>
     ensures { Reads (IsPart count (length out.new)) part_text s.now at (text_option (take count out.new) result) }
 {
     let n = count as usize;
     if out.len() < n {
-        return TextRead::Bad;
+        return None;
     }
     let mut i = at;
-    let mut k = 0;
-    while k < n {
-        let ByteRead::Byte(b, next) = read_byte(s, i) else {
-            return TextRead::Bad;
-        };
-        out[k] = b;
+    let part = &mut out[..n];
+    for b in part.iter_mut() {
+        let (byte, next) = read_byte(s, i)?;
+        *b = byte;
         i = next;
-        k += 1;
     }
     if s.len() <= i {
-        return TextRead::Bad;
+        return None;
     }
     if s[i] != b'\n' {
-        return TextRead::Bad;
+        return None;
     }
-    TextRead::To(i + 1)
+    Some(i + 1)
 }

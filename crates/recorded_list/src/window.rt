@@ -22,16 +22,6 @@ pub struct Window {
     pub ended: bool,
 }
 
-// Moves n bytes from place at to the front.
-fn move_down(text: &mut [u8], at: usize, n: usize)
-    requires { at + n ≤ length text.old }
-    ensures { take n text.new ≡ take n (drop at text.old) }
-{
-    for i in 0..n {
-        text[i] = text[at + i];
-    }
-}
-
 // Reads on if less than the longest record is left: what the input gave stands behind what was still to be read. After a read that failed the text has its length; what was still to be read is not promised.
 pub fn refill<R: Read>(source: &mut R, text: &mut [u8], w: Window) -> io::Result<Window>
     requires { Within w (length text.old) }
@@ -43,12 +33,11 @@ pub fn refill<R: Read>(source: &mut R, text: &mut [u8], w: Window) -> io::Result
     if w.ended {
         return Ok(w);
     }
-    let at = w.at;
-    let left = w.end - at;
+    let left = w.end - w.at;
     if LONGEST_RECORD <= left {
         return Ok(w);
     }
-    move_down(text, at, left);
+    text.copy_within(w.at..w.end, 0);
     let end = left + streams::read_full(source, &mut text[left..])?;
     Ok(Window {
         at: 0,

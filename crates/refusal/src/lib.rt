@@ -7,23 +7,23 @@ ghost use Rattle.refusal.specs.Refusals.{refusal_of};
 
 #[derive(Drop)]
 pub enum Refusal {
-    NotSheet,
-    BadLines,
-    TooDeep,
-    NullFormat,
-    NotUtf8,
-    UnsupportedFormat,
-    BadNumber,
-    BadDecimal,
-    BadIndex,
-    NoChild,
-    BadMetadata,
-    NoFormat,
-    NoUnionIds,
-    ZeroByte,
-    UndefinedMapping,
-    ReservedKey,
-    WideIndex,
+    NotSheet = 1,
+    BadLines = 2,
+    TooDeep = 3,
+    NullFormat = 4,
+    NotUtf8 = 5,
+    UnsupportedFormat = 6,
+    BadNumber = 7,
+    BadDecimal = 8,
+    BadIndex = 9,
+    NoChild = 10,
+    BadMetadata = 11,
+    NoFormat = 12,
+    NoUnionIds = 13,
+    ZeroByte = 14,
+    UndefinedMapping = 15,
+    ReservedKey = 17,
+    WideIndex = 18,
 }
 
 // The caller's: the sheet is longer than the buffer. It is no reason of a sheet's, so it is no case of `Refusal`; it is tried last,
@@ -34,24 +34,6 @@ impl Refusal {
     pub fn number(self) -> u8
         ensures { result ≡ number_of (refusal_of self) }
     {
-        match self {
-            Refusal::NotSheet => 1,
-            Refusal::BadLines => 2,
-            Refusal::TooDeep => 3,
-            Refusal::NullFormat => 4,
-            Refusal::NotUtf8 => 5,
-            Refusal::UnsupportedFormat => 6,
-            Refusal::BadNumber => 7,
-            Refusal::BadDecimal => 8,
-            Refusal::BadIndex => 9,
-            Refusal::NoChild => 10,
-            Refusal::BadMetadata => 11,
-            Refusal::NoFormat => 12,
-            Refusal::NoUnionIds => 13,
-            Refusal::ZeroByte => 14,
-            Refusal::UndefinedMapping => 15,
-            Refusal::ReservedKey => 17,
-            Refusal::WideIndex => 18,
-        }
+        self as u8
     }
 }

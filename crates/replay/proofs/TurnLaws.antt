@@ -2,7 +2,8 @@
 -- nothing.
 use mathlib.Core.Path.{◌≡◌, refl, sym, ap, subst, ◌∙◌}
 use mathlib.Core.Bool.{Bool, true, false, cond}
-use mathlib.Core.Option.{Option, none, some, some-injective}
+use Rattle.std.specs.Prelude.{Option, None, Some}
+use Rattle.std.proofs.lemmas.Option.{same_Some}
 use Prim.Native.Nat.{ℕ}
 use lib.Dec.{ltb}
 use lib.ListN.{length}
@@ -21,32 +22,32 @@ use Rattle.judge.specs.Judging.{replayed}
 use Rattle.replay.specs.Turns.{longest_buffer, Lendable, Told, proper, turn, ReplaysNext}
 
 module _ (input output : ℕ) (before : Bytes) (w : Window) (after : Bytes) where
-  pub no_record : ReadsNext input output before w after none → ReplaysNext input output before w after none
-  no_record r = record { next = none; reads = r; told = refl }
+  pub no_record : ReadsNext input output before w after None → ReplaysNext input output before w after None
+  no_record r = record { next = None; reads = r; told = refl }
 
-  module _ (r : Record) (rest : Window) (reads : ReadsNext input output before w after (some (r, rest))) where
-    pub not_proper : proper r.header ≡ false → ReplaysNext input output before w after none
-    not_proper e = record { next = some (r, rest); reads = reads; told = sym (ap (λ (b : Bool). cond b (some (rest, r.header.call, replayed r.header.room r)) none) e) }
+  module _ (r : Record) (rest : Window) (reads : ReadsNext input output before w after (Some (r, rest))) where
+    pub not_proper : proper r.header ≡ false → ReplaysNext input output before w after None
+    not_proper e = record { next = Some (r, rest); reads = reads; told = sym (ap (λ (b : Bool). cond b (Some (rest, r.header.call, replayed r.header.room r)) None) e) }
 
     pub lendable : proper r.header ≡ true → Lendable r.header input output
     lendable e =
         let is = read_kind (IsRecord input output) record_text (λ r. true) before w after r rest reads in
         record { input_fits = is.input.fits; output_fits = is.output.fits; room_fits = leb-true r.header.room longest_buffer (and_right (ltb r.header.call calls) _ e) }
 
-    pub one_turn : proper r.header ≡ true → (told : Option Numbers) → told ≡ replayed r.header.room r → ReplaysNext input output before w after (some (rest, r.header.call, told))
+    pub one_turn : proper r.header ≡ true → (told : Option Numbers) → told ≡ replayed r.header.room r → ReplaysNext input output before w after (Some (rest, r.header.call, told))
     one_turn e told h =
         let t : Told = (rest, r.header.call, replayed r.header.room r) in
-        let same : ◌≡◌ {A = Option Told} (some (rest, r.header.call, told)) (some t) = λ i. some (rest, r.header.call, h i) in
-        record { next = some (r, rest); reads = reads; told = same ∙ sym (ap (λ (b : Bool). cond b (some t) none) e) }
+        let same : ◌≡◌ {A = Option Told} (Some (rest, r.header.call, told)) (Some t) = λ i. Some (rest, r.header.call, h i) in
+        record { next = Some (r, rest); reads = reads; told = same ∙ sym (ap (λ (b : Bool). cond b (Some t) None) e) }
 
   -- what a turn leaves is what its record leaves
-  left : (next : Option (Record × Window)) (t : Told) → ReadsNext input output before w after next → some t ≡ turn next → Within t.0 (length after)
-  left none t reads e = not_some (sym e)
-  left (some p) t reads e = pick (proper p.0.header) e
+  left : (next : Option (Record × Window)) (t : Told) → ReadsNext input output before w after next → Some t ≡ turn next → Within t.0 (length after)
+  left None t reads e = not_some (sym e)
+  left (Some p) t reads e = pick (proper p.0.header) e
     where
-      pick : (b : Bool) → ◌≡◌ {A = Option Told} (some t) (cond b (some (p.1, p.0.header.call, replayed p.0.header.room p.0)) none) → Within t.0 (length after)
+      pick : (b : Bool) → ◌≡◌ {A = Option Told} (Some t) (cond b (Some (p.1, p.0.header.call, replayed p.0.header.room p.0)) None) → Within t.0 (length after)
       pick false e = not_some (sym e)
-      pick true e = subst (λ (v : Window). Within v (length after)) (ap (λ (u : Told). u.0) (sym (some-injective _ _ e))) (rest_within (IsRecord input output) record_text (λ r. true) before w after p.0 p.1 reads)
+      pick true e = subst (λ (v : Window). Within v (length after)) (ap (λ (u : Told). u.0) (sym (same_Some _ _ e))) (rest_within (IsRecord input output) record_text (λ r. true) before w after p.0 p.1 reads)
 
-  pub turn_within : (t : Told) → ReplaysNext input output before w after (some t) → Within t.0 (length after)
+  pub turn_within : (t : Told) → ReplaysNext input output before w after (Some t) → Within t.0 (length after)
   turn_within t r = left r.next t r.reads r.told

@@ -1,6 +1,5 @@
 -- What is told of the next record of the list: it is replayed, or the list is malformed there. Assumes nothing.
-use Rattle.std.specs.Prelude.{◌≡◌, Bool, ◌&&◌, cond, ℕ, ◌≤◌, leb, ltb}
-use Rattle.std.proofs.Math.Option.{Option, none, some}
+use Rattle.std.specs.Prelude.{◌≡◌, Bool, ◌&&◌, cond, ℕ, ◌≤◌, leb, ltb, Option, None, Some}
 use Rattle.sheets.specs.Bytes.{Bytes}
 use Rattle.recorded_list.specs.Codes.{calls}
 use Rattle.recorded_list.specs.ListText.{Record}
@@ -8,9 +7,8 @@ use Rattle.recorded_list.specs.Reading.{ReadsNext}
 use Rattle.recorded_list.specs.declared.records.Header.{Header}
 use Rattle.recorded_list.specs.declared.window.Window.{Window}
 use Rattle.judge.specs.declared.Numbers.{Numbers}
-use Rattle.judge.specs.Judging.{replayed, replayed_option}
+use Rattle.judge.specs.Judging.{replayed}
 use Rattle.replay.specs.declared.Turn.{Turn}
-use Rattle.replay.specs.declared.Turn.TheVariants.{Done, Bad}
 
 -- "the length of the buffer that is lent, at most 1,048,576"
 abbrev pub longest_buffer : ℕ
@@ -30,9 +28,9 @@ abbrev pub Told : Type 0
 Told = Window × ℕ × Option Numbers
 
 -- the answer, case by case
-abbrev pub turn_option : Turn → Option Told
-turn_option (Done rest call r) = some (rest, call, replayed_option r)
-turn_option Bad = none
+abbrev pub turn_option : Option Turn → Option Told
+turn_option (Some t) = Some (t.rest, t.call, t.told)
+turn_option None = None
 
 -- there is such a call, and no longer buffer is lent than there may be
 abbrev pub proper : Header → Bool
@@ -40,8 +38,8 @@ proper h = ltb h.call calls && leb h.room longest_buffer
 
 -- a record is replayed if it is proper; no record, or one that is not, is malformed
 abbrev pub turn : Option (Record × Window) → Option Told
-turn none = none
-turn (some p) = cond (proper p.0.header) (some (p.1, p.0.header.call, replayed p.0.header.room p.0)) none
+turn None = None
+turn (Some p) = cond (proper p.0.header) (Some (p.1, p.0.header.call, replayed p.0.header.room p.0)) None
 
 -- the next record, for parts in buffers of so many bytes
 pub record ReplaysNext (input output : ℕ) (before : Bytes) (w : Window) (after : Bytes) (o : Option Told) : Type 0 where

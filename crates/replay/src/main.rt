@@ -7,17 +7,17 @@ ghost use Rattle.outcome.specs.Answers.{outcome_of, measure_of};
 ghost use Rattle.mapping_calls.specs.Answers.{places_of, yes_no_of};
 ghost use Rattle.recorded_list.specs.Answers.{record_in};
 ghost use Rattle.recorded_list.specs.Moving.{longest_part, Within};
-ghost use Rattle.judge.specs.Judging.{filled, recorded, difference, sheet_outcome, places_numbers, yes_no_numbers, measure_numbers, numbers_outcome, replayed, replayed_option};
+ghost use Rattle.judge.specs.Judging.{filled, recorded, difference, sheet_outcome, places_numbers, yes_no_numbers, measure_numbers, numbers_outcome, replayed};
 ghost use Rattle.replay.specs.Turns.{longest_buffer, record_of, Lendable, proper, turn_option, ReplaysNext};
 
+use judge::Numbers;
 use judge::tally::COUNTS;
-use judge::{Numbers, Replayed};
-use mapping_calls::YesNo;
 use mapping_calls::physical::PhysicalPlaces;
-use outcome::{Answered, Measured};
+use outcome::{Refused, Size};
+use recorded_list::call;
 use recorded_list::records::Header;
 use recorded_list::window::{LONGEST_PART, Window};
-use recorded_list::{Next, Start, call};
+use refusal::Refusal;
 use std::io;
 use std::io::{Read, Write};
 
@@ -26,9 +26,10 @@ const LONGEST_BUFFER: usize = 1048576;
 
 // What is still to be read after a record, its call, and what is told of it.
 #[derive(Drop)]
-enum Turn {
-    Done(Window, u64, Replayed),
-    Bad,
+struct Turn {
+    rest: Window,
+    call: u64,
+    told: Option<Numbers>,
 }
 
 // A buffer for the window, or to be lent. Its length is all that is told of it: its bytes are written before they are read.
@@ -46,8 +47,8 @@ fn part_buffer() -> [u8; LONGEST_PART]
 }
 
 // The answer of a call that writes a sheet. The last one has the code that is left.
-fn ask(code: u64, argument: u64, s: &[u8], out: &mut [u8]) -> Answered
-    ensures { outcome_of result.number result.length out.new ≡ sheet_outcome code argument s.now out.old }
+fn ask(code: u64, argument: u64, s: &[u8], out: &mut [u8]) -> Result<usize, Refused>
+    ensures { outcome_of result out.new ≡ sheet_outcome code argument s.now out.old }
 {
     match code {
         call::IMPORT => import_sheet::import(s, argument != 0, out),
@@ -66,12 +67,14 @@ fn ask(code: u64, argument: u64, s: &[u8], out: &mut [u8]) -> Answered
 }
 
 // Such a call replayed on a filled buffer.
-fn replay_sheet(h: Header, input: &[u8], output: &[u8], lent: &mut [u8]) -> Replayed
-    ensures { replayed_option result ≡ difference (sheet_outcome h.call h.argument input.now (filled (length lent.old))) (recorded h output.now (length lent.old)) }
+fn replay_sheet(h: Header, input: &[u8], output: &[u8], lent: &mut [u8]) -> Option<Numbers>
+    ensures { result ≡ difference (sheet_outcome h.call h.argument input.now (filled (length lent.old))) (recorded h output.now (length lent.old)) }
 {
     judge::fill(lent, judge::FILLER);
-    let a = ask(h.call, h.argument, input, lent);
-    judge::judge(a.number as u64, a.length as u64, h, output, lent)
+    match ask(h.call, h.argument, input, lent) {
+        Ok(length) => judge::judge(0, length as u64, h, output, lent),
+        Err(refused) => judge::judge(refused.number() as u64, 0, h, output, lent),
+    }
 }
 
 fn physical_numbers(p: PhysicalPlaces) -> Numbers
@@ -84,23 +87,37 @@ fn physical_numbers(p: PhysicalPlaces) -> Numbers
     }
 }
 
-fn yes_no_numbers(y: YesNo) -> Numbers
+fn yes_no_numbers(y: Result<bool, Refusal>) -> Numbers
     ensures { result ≡ yes_no_numbers (yes_no_of y) }
 {
-    Numbers {
-        number: y.number as u64,
-        first: y.answer as u64,
-        second: 0,
+    match y {
+        Ok(yes) => Numbers {
+            number: 0,
+            first: yes as u64,
+            second: 0,
+        },
+        Err(reason) => Numbers {
+            number: reason.number() as u64,
+            first: 0,
+            second: 0,
+        },
     }
 }
 
-fn measure_numbers(m: Measured) -> Numbers
+fn measure_numbers(m: Result<Size, Refusal>) -> Numbers
     ensures { result ≡ measure_numbers (measure_of m) }
 {
-    Numbers {
-        number: m.number as u64,
-        first: m.size.len as u64,
-        second: m.size.lines as u64,
+    match m {
+        Ok(size) => Numbers {
+            number: 0,
+            first: size.len as u64,
+            second: size.lines as u64,
+        },
+        Err(reason) => Numbers {
+            number: reason.number() as u64,
+            first: 0,
+            second: 0,
+        },
     }
 }
 
@@ -110,7 +127,7 @@ fn ask_numbers(code: u64, argument: u64, s: &[u8]) -> Numbers
 {
     match code {
         call::TO_PHYSICAL_TYPE => {
-            physical_numbers(mapping_calls::physical::to_physical_type(s).places())
+            physical_numbers(PhysicalPlaces::of(mapping_calls::physical::to_physical_type(s)))
         }
         call::IS_NESTED => yes_no_numbers(mapping_calls::is_nested(s)),
         call::CONTAINS_DICTIONARY => yes_no_numbers(mapping_calls::contains_dictionary(s)),
@@ -120,8 +137,8 @@ fn ask_numbers(code: u64, argument: u64, s: &[u8]) -> Numbers
 }
 
 // A record of one of the calls replayed.
-fn replay(h: Header, input: &[u8], output: &[u8], lent: &mut [u8]) -> Replayed
-    ensures { replayed_option result ≡ replayed (length lent.old) (record_of h input.now output.now) }
+fn replay(h: Header, input: &[u8], output: &[u8], lent: &mut [u8]) -> Option<Numbers>
+    ensures { result ≡ replayed (length lent.old) (record_of h input.now output.now) }
 {
     if judge::answers_numbers(h.call) {
         return judge::judge_numbers(ask_numbers(h.call, h.argument, input), h);
@@ -137,9 +154,9 @@ fn replay_record<W: Write>(
     h: Header,
     input: &[u8],
     output: &[u8],
-) -> io::Result<Replayed>
+) -> io::Result<Option<Numbers>>
     requires { Lendable h (length input.now) (length output.now) }
-    ensures { IfOk result (λ r. replayed_option r ≡ replayed h.room (record_in input.now output.now h)) }
+    ensures { IfOk result (λ r. r ≡ replayed h.room (record_in input.now output.now h)) }
 {
     let mut lent = long_buffer();
     let i = h.input as usize;
@@ -162,7 +179,7 @@ fn is_proper(h: Header) -> bool
     h.room as usize <= LONGEST_BUFFER
 }
 
-// Reads and replays the next record of the list.
+// Reads and replays the next record of the list, if there is one that can be replayed.
 fn replay_next<R: Read, W: Write>(
     source: &mut R,
     out: &mut W,
@@ -172,19 +189,22 @@ fn replay_next<R: Read, W: Write>(
     text: &mut [u8],
     input: &mut [u8],
     output: &mut [u8],
-) -> io::Result<Turn>
+) -> io::Result<Option<Turn>>
     requires { Within before (length text.old) }
     ensures { IfOk result (λ t. ReplaysNext (length input.new) (length output.new) text.old before text.new (turn_option t)) }
 {
-    let Next::Read(h, rest) = recorded_list::next_record(source, text, before, input, output)?
-    else {
-        return Ok(Turn::Bad);
+    let Some((h, rest)) = recorded_list::next_record(source, text, before, input, output)? else {
+        return Ok(None);
     };
     if !is_proper(h) {
-        return Ok(Turn::Bad);
+        return Ok(None);
     }
     let r = replay_record(out, place, told, h, input, output)?;
-    Ok(Turn::Done(rest, h.call, r))
+    Ok(Some(Turn {
+        rest,
+        call: h.call,
+        told: r,
+    }))
 }
 
 // Replays so many records, after which nothing may follow, and prints what is told of them.
@@ -202,19 +222,17 @@ fn replay_records<R: Read, W: Write>(
     let mut counts = [0u64; COUNTS];
     let mut told = false;
     let mut w = from;
-    let mut place = 0;
-    while place < records {
+    for place in 0..records {
         match replay_next(source, out, place, told, w, text, input, output)? {
-            Turn::Bad => return judge::print::bad_list(out, place),
-            Turn::Done(next, call, r) => {
-                w = next;
-                told = told | judge::tally::tally(r, call, &mut counts);
+            None => return judge::print::bad_list(out, place),
+            Some(turn) => {
+                w = turn.rest;
+                told = told | judge::tally::tally(turn.told, turn.call, &mut counts);
             }
         }
-        place += 1;
     }
     if !recorded_list::is_read(source, text, w)? {
-        return judge::print::bad_list(out, place);
+        return judge::print::bad_list(out, records);
     }
     judge::print::counts(out, &counts)
 }
@@ -226,7 +244,7 @@ fn main(rt: HostRuntime) -> io::Result<()> {
     let mut text = long_buffer();
     let mut input = part_buffer();
     let mut output = part_buffer();
-    let Start::Read(line, from) = recorded_list::first_line(
+    let Some((line, from)) = recorded_list::first_line(
         &mut source,
         &mut text,
         LONGEST_PART,

@@ -3,7 +3,7 @@
 use mathlib.Core.Path.{◌≡◌, refl, sym, ap}
 use mathlib.Core.Bool.{Bool, true, false, cond}
 use mathlib.Core.List.{List, [], ◌∷◌}
-use mathlib.Core.Option.{Option, none, some}
+use Rattle.std.specs.Prelude.{Option, None, Some}
 use Prim.Native.Nat.{ℕ, ◌+◌}
 use native.Mathlib.Omega.{arith}
 use lib.Dec.{leb}
@@ -108,8 +108,8 @@ module _ (x y : Bool) where
   blocks_beside (p ∷ ps) = omega (arith, block_size x (p ∷ ps), block_size y (p ∷ ps))
 
   metadata_beside : (ps : Option (List Pair)) (e : Option Extension) → length (write_text (schema_metadata x ps e)) ≡ length (write_text (schema_metadata y ps e))
-  metadata_beside ps none = blocks_beside (or_none ps)
-  metadata_beside ps (some e) =
+  metadata_beside ps None = blocks_beside (or_none ps)
+  metadata_beside ps (Some e) =
       let merged = insert_over (name_key, e.0) (with_metadata e.1 (or_none ps)) in
       omega (arith, block_size x merged, block_size y merged)
 
@@ -139,25 +139,25 @@ module _ (x y : Bool) where
         (λ f. node_beside i e f 0 end end absent absent (refl, refl) (refl, refl))
     type_beside (nested n j t) i e =
         beside_after (to_format (nested n j t))
-        (λ f. beside_then (type_beside t j none)
+        (λ f. beside_then (type_beside t j None)
         (λ a b h. node_beside i e f (sorted_flag n) (a & end) (b & end) absent absent (refl, omega (arith, h, child_size a end, child_size b end)) (refl, refl)))
     type_beside (grouped g fs) i e =
         beside_after (to_format (grouped g fs))
         (λ f. beside_then (fields_beside fs)
         (λ cs ds h. node_beside i e f 0 cs ds absent absent h (refl, refl)))
-    type_beside (dictionary ix ordered t) i none =
+    type_beside (dictionary ix ordered t) i None =
         beside_after (to_format (dictionary ix ordered t))
-        (λ f. beside_then (type_beside t values_info none)
-        (λ a b h. node_beside i none f (flag ordered ORDERED) end end (present a) (present b) (refl, refl) (refl, h)))
-    type_beside (dictionary ix ordered t) i (some e) =
+        (λ f. beside_then (type_beside t values_info None)
+        (λ a b h. node_beside i None f (flag ordered ORDERED) end end (present a) (present b) (refl, refl) (refl, h)))
+    type_beside (dictionary ix ordered t) i (Some e) =
         beside_after (to_format (dictionary ix ordered t))
-        (λ f. node_beside i (some e) f 0 end end absent absent (refl, refl) (refl, refl))
-    type_beside (extension n m t) i e = type_beside t i (some (outermost e (n, m)))
+        (λ f. node_beside i (Some e) f 0 end end absent absent (refl, refl) (refl, refl))
+    type_beside (extension n m t) i e = type_beside t i (Some (outermost e (n, m)))
 
     fields_beside : (fs : Fields) → Beside SameSizes (schema_children x fs) (schema_children y fs)
     fields_beside nil = beside_given (refl, refl)
     fields_beside (add i t fs) =
-        beside_then (type_beside t i none)
+        beside_then (type_beside t i None)
         (λ a b first. beside_then (fields_beside fs)
         (λ cs ds rest. beside_given (omega (arith, rest.0), omega (arith, child_size a cs, child_size b ds, first, rest.1))))
 
@@ -167,7 +167,7 @@ module _ (x y : Bool) where
   unfolding exported
   sheet_beside b =
       beside_after (read_field_sheet b)
-      (λ f. beside_then (type_beside f.type f.info none)
+      (λ f. beside_then (type_beside f.type f.info None)
       (λ s t h. beside_given (omega (arith, h, sheet_size schema_heading (schema_lines s), sheet_size schema_heading (schema_lines t)))))
 
   pub export_equally_long : (b out : Bytes) → EquallyLong (export_outcome_in x b out) (export_outcome_in y b out)

@@ -5,7 +5,7 @@
 use mathlib.Core.Path.{◌≡◌, refl, ap}
 use mathlib.Core.Bool.{Bool, true, false}
 use mathlib.Core.List.{List, [], ◌∷◌}
-use mathlib.Core.Option.{Option, none, some}
+use Rattle.std.specs.Prelude.{Option, None, Some}
 use Prim.Native.Nat.{ℕ, suc, ◌+◌, ◌*◌, ◌≤◌}
 use native.Mathlib.Omega.{arith}
 use lib.ListN.{length}
@@ -90,8 +90,8 @@ module _ (big : Bool) where
         gives_then (scalar_format_lem c)
         (λ f format. node_bounded (of_scalar c) o 0 [] 0 earlier i e f 0 end absent (omega arith) format own (omega arith) (omega arith))
     type_bounded (nested n j t) i o e earlier h own l =
-        let below = type_lines t (some j) in
-        gives_then (type_bounded t j (some j) none 0 h.1.1 (field_bounds big j h.1.0) (omega (arith, line_least (of_nesting n) o 1 below)))
+        let below = type_lines t (Some j) in
+        gives_then (type_bounded t j (Some j) None 0 h.1.1 (field_bounds big j h.1.0) (omega (arith, line_least (of_nesting n) o 1 below)))
         (λ c child. node_bounded (of_nesting n) o 1 below 0 earlier i e (nesting_format n) (sorted_flag n) (c & end) absent
         (sorted_small n) (nesting_format_lem n) own (omega arith) (omega (arith, child, child_size c end)))
     type_bounded (grouped c fs) i o e earlier h own l =
@@ -102,30 +102,30 @@ module _ (big : Bool) where
         (λ f format. gives_then (fields_bounded fs h.1 (omega (arith, least)))
         (λ cs children. node_bounded (of_grouping c) o count below count earlier i e f 0 cs absent
         (omega arith) format own (omega (arith, ap (λ (k : ℕ). length (decimal k)) children.0)) (omega (arith, children.1))))
-    type_bounded (dictionary ix ordered t) i o none earlier h own l =
+    type_bounded (dictionary ix ordered t) i o None earlier h own l =
         let s = of_dictionary ix ordered in
-        let below = type_lines t none in
+        let below = type_lines t None in
         gives_then (name_short (ix + 2) 0)
-        (λ f name. gives_then (type_bounded t values_info none none 0 h.1 (values_bounds big) (omega (arith, line_least s o 1 below)))
-        (λ d values. node_bounded s o 1 below 0 earlier i none f (flag ordered ORDERED) end (present d)
+        (λ f name. gives_then (type_bounded t values_info None None 0 h.1 (values_bounds big) (omega (arith, line_least s o 1 below)))
+        (λ d values. node_bounded s o 1 below 0 earlier i None f (flag ordered ORDERED) end (present d)
         (ordered_small ordered) (short_format s f name) own (decimal_order 0 1 (omega arith)) (omega (arith, values))))
-    type_bounded (dictionary ix ordered t) i o (some e) earlier h own l =
+    type_bounded (dictionary ix ordered t) i o (Some e) earlier h own l =
         let s = of_dictionary ix ordered in
         gives_then (name_short (ix + 2) 0)
-        (λ f name. node_bounded s o 1 (type_lines t none) 0 earlier i (some e) f 0 end absent
+        (λ f name. node_bounded s o 1 (type_lines t None) 0 earlier i (Some e) f 0 end absent
         (omega arith) (short_format s f name) own (decimal_order 0 1 (omega arith)) (omega arith))
     type_bounded (extension n m t) i o e earlier h own l =
         let s = of_extension n m in
-        let below = type_lines t none in
+        let below = type_lines t None in
         let line = shape_size s + own_size o + 2 in
         gives_more (λ z inner. omega (arith, inner, line_size s o 1 below, decimal_least 1))
-        (type_bounded t i none (some (outermost e (n, m))) (earlier + line) h.1.1 (inner_bounds big own n m) (omega (arith, line_least s o 1 below)))
+        (type_bounded t i None (Some (outermost e (n, m))) (earlier + line) h.1.1 (inner_bounds big own n m) (omega (arith, line_least s o 1 below)))
 
     fields_bounded : (fs : Fields) → Meets (fields_rule fs) → fields_size fs ≤ sheet_limit → Gives (ChildrenBounded fs) (schema_children big fs)
     fields_bounded nil h l = gives_given (refl, omega arith)
     fields_bounded (add i t fs) h l =
         let a = add_size i t fs in
-        gives_then (type_bounded t i (some i) none 0 h.1.0 (field_bounds big i h.0) (omega (arith, a)))
+        gives_then (type_bounded t i (Some i) None 0 h.1.0 (field_bounds big i h.0) (omega (arith, a)))
         (λ c first. gives_then (fields_bounded fs h.1.1 (omega (arith, a)))
         (λ cs rest. gives_given (ap suc rest.0, omega (arith, a, child_size c cs, first, rest.1))))
 
@@ -136,7 +136,7 @@ module _ (big : Bool) where
   export_at_most b =
       gives_then (field_gives b)
       (λ f r. gives_then
-      (type_bounded f.type f.info (some f.info) none 0 r.rule.1 (field_bounds big f.info r.rule.0) (omega (arith, r.whole, r.short)))
+      (type_bounded f.type f.info (Some f.info) None 0 r.rule.1 (field_bounds big f.info r.rule.0) (omega (arith, r.whole, r.short)))
       (λ s h. gives_given (omega (arith, h, r.whole, sheet_size schema_heading (schema_lines s)))))
 
   pub export_fits : (b out : Bytes) → Fits (export_room (length b)) (export_outcome_in big b out)

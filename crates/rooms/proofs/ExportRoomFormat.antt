@@ -5,7 +5,7 @@ use mathlib.Core.Path.{◌≡◌, refl, subst}
 use mathlib.Core.Bool.{Bool, true, false, ◌&&◌, cond}
 use mathlib.Core.List.{List, [], ◌∷◌, ◌++◌}
 use mathlib.Core.List.{map as map_list}
-use mathlib.Core.Option.{none, some}
+use Rattle.std.specs.Prelude.{None, Some}
 use Prim.Native.Nat.{ℕ, zero, suc, ◌+◌, ◌*◌, ◌≤◌}
 use native.Mathlib.Omega.{arith}
 use lib.Dec.{eqb, leb}
@@ -27,10 +27,10 @@ use Rattle.rooms.proofs.RoomLaws.{Gives, gives_refused, gives_given, gives_more,
 -- The bound on the format's column and the byte after it, by the line's first five columns and the number of fields, which may need ids. It leaves 1225
 -- for the rest of the schema line: no more for `_pli128`, where it is 15 bytes by 10.
 abbrev pub FormatBounded : Shape → ℕ → Bytes → Type 0
-FormatBounded s fields f = 37 * suc (length (write_text (some f))) + 1225 ≤ 178 * shape_size s + 370 * fields
+FormatBounded s fields f = 37 * suc (length (write_text (Some f))) + 1225 ≤ 178 * shape_size s + 370 * fields
 
 -- the digits of a text of at most n bytes
-digits_within : (b : Bytes) (n : ℕ) → 1 ≤ n → length b ≤ n → length (write_text (some b)) ≤ 2 * n
+digits_within : (b : Bytes) (n : ℕ) → 1 ≤ n → length b ≤ n → length (write_text (Some b)) ≤ 2 * n
 digits_within [] n k h = omega arith
 digits_within (x ∷ b) n k h = omega (arith, hex_length b)
 
@@ -46,11 +46,11 @@ rows_short : Meets (each short_row rows)
 unfolding rows
 rows_short = meets (each short_row rows) refl
 
-row_short : (k u : ℕ) (l : List FormatRow) → Meets (each short_row l) → (r : FormatRow) → row_of k u l ≡ some r → Meets (short_row r)
+row_short : (k u : ℕ) (l : List FormatRow) → Meets (each short_row l) → (r : FormatRow) → row_of k u l ≡ Some r → Meets (short_row r)
 row_short k u [] h r e = not_some e
 row_short k u (x ∷ l) h r e = pick (eqb k x.kind && eqb u x.unit) e (row_short k u l h.1 r)
   where
-    pick : (t : Bool) → cond t (some x) (row_of k u l) ≡ some r → (row_of k u l ≡ some r → Meets (short_row r)) → Meets (short_row r)
+    pick : (t : Bool) → cond t (Some x) (row_of k u l) ≡ Some r → (row_of k u l ≡ Some r → Meets (short_row r)) → Meets (short_row r)
     pick true f next = subst (λ (y : FormatRow). Meets (short_row y)) (same_some f) h.0
     pick false f next = next f
 
@@ -95,17 +95,17 @@ nesting_format_lem (fixed_size_list size) =
     omega (arith, n, decimal_least 28, decimal_least size, decimal_least 0)
 nesting_format_lem (map sorted) = short_format (of_nesting (map sorted)) (ascii "+m") (omega arith)
 
-union_digits : (mode : UnionMode) (ids : Bytes) → length (write_text (some (union_name mode ++ ids))) ≤ 8 + 2 * length ids
+union_digits : (mode : UnionMode) (ids : Bytes) → length (write_text (Some (union_name mode ++ ids))) ≤ 8 + 2 * length ids
 union_digits true ids = omega (arith, hex_length ids)
 union_digits false ids = omega (arith, hex_length ids)
 
 pub grouping_format_lem : (g : Grouping) (count : ℕ) → count ≤ 10000 → Gives (FormatBounded (of_grouping g) count) (grouping_format g count)
 grouping_format_lem struct count h = gives_given (omega (arith, short_format (of_grouping struct) (ascii "+s") (omega arith)))
-grouping_format_lem (union mode none) zero h = gives_refused
-grouping_format_lem (union mode none) (suc count) h =
+grouping_format_lem (union mode None) zero h = gives_refused
+grouping_format_lem (union mode None) (suc count) h =
     let ids = join comma (map_list write_signed (up_from 0 (suc count))) in
-    gives_given (omega (arith, union_digits mode ids, counted_size (suc count) h, shape_least (of_grouping (union mode none))))
-grouping_format_lem (union mode (some [])) count h = gives_refused
-grouping_format_lem (union mode (some (z ∷ zs))) count h =
+    gives_given (omega (arith, union_digits mode ids, counted_size (suc count) h, shape_least (of_grouping (union mode None))))
+grouping_format_lem (union mode (Some [])) count h = gives_refused
+grouping_format_lem (union mode (Some (z ∷ zs))) count h =
     let ids = join comma (write_signed z ∷ map_list write_signed zs) in
-    gives_given (omega (arith, union_digits mode ids, shape_least (of_grouping (union mode (some (z ∷ zs)))), decimal_least 41))
+    gives_given (omega (arith, union_digits mode ids, shape_least (of_grouping (union mode (Some (z ∷ zs)))), decimal_least 41))

@@ -6,7 +6,7 @@ use mathlib.Core.Path.{◌≡◌, ap}
 use mathlib.Core.Bool.{Bool, true, false, cond}
 use mathlib.Core.List.{List, [], ◌∷◌}
 use mathlib.Core.List.{map as map_list}
-use mathlib.Core.Option.{Option, none, some}
+use Rattle.std.specs.Prelude.{Option, None, Some}
 use Prim.Native.Nat.{ℕ, suc, ◌+◌, ◌*◌, ◌≤◌}
 use native.Mathlib.Omega.{arith}
 use lib.ListN.{length}
@@ -42,16 +42,16 @@ later_pairs k (p ∷ ps) f h = omega (arith, pair_size p, later_key k p.0 f, lat
 -- the digits of a block with these pairs and the byte after them, by the column's bytes and the byte after them; most for `=`, where it is 25 by 2
 pairs_bounded : (ps : Option (List Pair)) → Meets (metadata_rule ps)
     → 37 * (9 + 2 * pairs_size (or_none ps)) ≤ 178 * suc (length (write_list pair_text ps)) + 569
-pairs_bounded none h = omega arith
-pairs_bounded (some []) h = omega arith
-pairs_bounded (some (p ∷ ps)) h =
+pairs_bounded None h = omega arith
+pairs_bounded (Some []) h = omega arith
+pairs_bounded (Some (p ∷ ps)) h =
     omega (arith, pair_size p, join_size comma (pair_text p) (map_list pair_text ps), later_pairs p.0 ps h.1.1.0 h.1.1.1)
 
 -- ── the metadata column
 
 module _ (big : Bool) where
   -- the column of a block, in either order
-  pub block_size : (ps : List Pair) → length (write_text (some (metadata_to_bytes big ps))) ≡ 8 + 2 * pairs_size ps
+  pub block_size : (ps : List Pair) → length (write_text (Some (metadata_to_bytes big ps))) ≡ 8 + 2 * pairs_size ps
   block_size ps = omega (arith, ap length (word_text big (length ps) (write_pairs big ps)), hex_length (metadata_to_bytes big ps), block_length big ps, pairs_size_lem big ps)
 
   none_size : (ps : List Pair) → length (write_text (block_of big ps)) ≤ 8 + 2 * pairs_size ps
@@ -70,12 +70,12 @@ insert_size p (q ∷ qs) = pick (before p.0 q.0) (same p.0 q.0) (insert_size p q
     pick false false h = omega arith
 
 with_size : (m : Option Bytes) (ps : List Pair) → pairs_size (with_metadata m ps) ≤ 32 + length (or_empty m) + pairs_size ps
-with_size none ps = omega arith
-with_size (some m) ps = insert_size (metadata_key, m) ps
+with_size None ps = omega arith
+with_size (Some m) ps = insert_size (metadata_key, m) ps
 
 module _ (big : Bool) where
   extended_size : (n : Bytes) (m : Option Bytes) (ps : List Pair)
-      → length (write_text (some (metadata_to_bytes big (insert_over (name_key, n) (with_metadata m ps)))))
+      → length (write_text (Some (metadata_to_bytes big (insert_over (name_key, n) (with_metadata m ps)))))
       ≤ 128 + 2 * length n + 2 * length (or_empty m) + 2 * pairs_size ps
   extended_size n m ps = omega (arith, block_size big (insert_over (name_key, n) (with_metadata m ps)), insert_size (name_key, n) (with_metadata m ps), with_size m ps)
 
@@ -83,7 +83,7 @@ module _ (big : Bool) where
 
 -- their bytes, with one byte after each; flags have one digit
 abbrev pub written_own : Bool → Info → Option Extension → ℕ
-written_own big i e = suc (length (write_text (some i.name))) + 2 + suc (length (write_text (schema_metadata big i.pairs e)))
+written_own big i e = suc (length (write_text (Some i.name))) + 2 + suc (length (write_text (schema_metadata big i.pairs e)))
 
 -- The bound on them by some bytes of the field's lines. The rest of the line leaves 1063: 1225 the format (`FormatBounded`), 282 = 2 * (178 - 37) the
 -- number of children, less 444 = 37 * (2 + 10) for the column dictionary and for the type's id.
@@ -91,7 +91,7 @@ abbrev pub OwnBounded : Bool → Info → Option Extension → ℕ → Type 0
 OwnBounded big i e bytes = 37 * written_own big i e ≤ 178 * bytes + 1063
 
 -- an extension's first five columns: `37 0 0` and its texts
-extension_columns : (n : Bytes) (m : Option Bytes) → 9 + length (write_text (some n)) + length (write_text m) ≤ shape_size (of_extension n m)
+extension_columns : (n : Bytes) (m : Option Bytes) → 9 + length (write_text (Some n)) + length (write_text m) ≤ shape_size (of_extension n m)
 extension_columns n m = omega (arith, exactly_two_digits Kind.Extension (omega arith) (omega arith), decimal_least 0)
 
 -- The first line of a type: i is the field that its schema line is for and e the extension that this bears, o are the line's own columns, `earlier` are
@@ -99,11 +99,11 @@ extension_columns n m = omega (arith, exactly_two_digits Kind.Extension (omega a
 pub record OwnBounds (big : Bool) (i : Info) (o : Option Info) (e : Option Extension) (earlier : ℕ) : Type 0 where
   pub here : OwnBounded big i e (earlier + own_size o)
   pub inside : (n : Bytes) (m : Option Bytes)
-      → OwnBounded big i (some (outermost e (n, m))) (earlier + (shape_size (of_extension n m) + own_size o + 2) + own_size none)
+      → OwnBounded big i (Some (outermost e (n, m))) (earlier + (shape_size (of_extension n m) + own_size o + 2) + own_size None)
 
 module _ (big : Bool) where
   -- a field's line
-  pub field_bounds : (i : Info) → Meets (info_rule i) → OwnBounds big i (some i) none 0
+  pub field_bounds : (i : Info) → Meets (info_rule i) → OwnBounds big i (Some i) None 0
   field_bounds i h = record {
     here = omega (arith, none_size big (or_none i.pairs), pairs_bounded i.pairs h.1, flag_size i.nullable);
     inside = λ n m.
@@ -112,23 +112,23 @@ module _ (big : Bool) where
           extended_size big n m (or_none i.pairs),
           pairs_bounded i.pairs h.1,
           extension_columns n m,
-          text_size_lem (some n),
+          text_size_lem (Some n),
           text_size_lem m,
-          text_least (some n),
+          text_least (Some n),
           text_least m,
-          text_least (some i.name),
+          text_least (Some i.name),
           flag_size i.nullable,
         );
   }
 
   -- the line of a dictionary's values
-  pub values_bounds : OwnBounds big values_info none none 0
+  pub values_bounds : OwnBounds big values_info None None 0
   values_bounds = record {
     here = omega arith;
-    inside = λ n m. omega (arith, extended_size big n m [], extension_columns n m, text_size_lem (some n), text_size_lem m);
+    inside = λ n m. omega (arith, extended_size big n m [], extension_columns n m, text_size_lem (Some n), text_size_lem m);
   }
 
   -- the line of an extension's inner type: "the outermost stays"
   pub inner_bounds : {i : Info} {o : Option Info} {e : Option Extension} {earlier : ℕ} → OwnBounds big i o e earlier → (n : Bytes) (m : Option Bytes)
-      → OwnBounds big i none (some (outermost e (n, m))) (earlier + (shape_size (of_extension n m) + own_size o + 2))
+      → OwnBounds big i None (Some (outermost e (n, m))) (earlier + (shape_size (of_extension n m) + own_size o + 2))
   inner_bounds s n m = record { here = s.inside n m; inside = λ n' m'. omega (arith, s.inside n m) }

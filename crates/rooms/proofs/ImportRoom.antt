@@ -5,7 +5,7 @@
 -- schema sheet alone. By the mutual recursion of the definitions. Assumes nothing.
 use mathlib.Core.Path.{◌≡◌, refl, ap, subst}
 use mathlib.Core.Bool.{Bool}
-use mathlib.Core.Option.{Option, none, some}
+use Rattle.std.specs.Prelude.{Option, None, Some}
 use Prim.Native.Nat.{ℕ, suc, ◌+◌, ◌*◌, ◌≤◌}
 use native.Mathlib.Omega.{arith}
 use lib.IntN.{ℤ}
@@ -36,7 +36,7 @@ use Rattle.rooms.proofs.ImportRoomMetadata.{MetadataBounded, metadata_bounded}
 
 -- a field's lines, by schema lines of n bytes
 abbrev FieldBounded : ℕ → Field → Type 0
-FieldBounded n f = 13 * type_size f.type (some f.info) ≤ 19 * n
+FieldBounded n f = 13 * type_size f.type (Some f.info) ≤ 19 * n
 
 -- the fields of all children, by the children's lines
 abbrev FieldsBounded : Schemas → Fields → Type 0
@@ -52,7 +52,7 @@ TypeBounded f cs d t =
 record BelowBounded (big : Bool) (cs : Schemas) (d : Dictionary) : Type 0 where
   first : Gives (FieldBounded (children_size cs)) (first_of (to_fields big cs))
   all : Gives (FieldsBounded cs) (all_of (to_fields big cs))
-  values : (a : Answer Field) → to_values big d ≡ some a → Gives (FieldBounded (dictionary_size d)) a
+  values : (a : Answer Field) → to_values big d ≡ Some a → Gives (FieldBounded (dictionary_size d)) a
 
 -- ── the type
 
@@ -66,12 +66,12 @@ module _ (big : Bool) where
       gives_then below.all (λ fs k. gives_given (omega (arith, grouped_size g fs, ap (λ n. length (decimal n)) k.0, k.1)))
 
   dictionary_type : (f : Bytes) (flags : ℤ) (cs : Schemas) (v : Schema) → BelowBounded big cs (present v)
-      → Gives (TypeBounded f cs (present v)) (to_dtype f flags (to_fields big cs) (some (to_field big v)))
+      → Gives (TypeBounded f cs (present v)) (to_dtype f flags (to_fields big cs) (Some (to_field big v)))
   dictionary_type f flags cs v below =
       gives_then (index_bounded (is_ordered flags) f)
       (λ ix h. gives_then (below.values (to_field big v) refl)
       (λ c k. gives_given
-      (omega (arith, dictionary_size_lem ix (is_ordered flags) c.type, bare_least c.type (some c.info), decimal_least (count_schemas cs)))))
+      (omega (arith, dictionary_size_lem ix (is_ordered flags) c.type, bare_least c.type (Some c.info), decimal_least (count_schemas cs)))))
 
   type_bounded : (f : Bytes) (flags : ℤ) (cs : Schemas) (d : Dictionary) → BelowBounded big cs d
       → Gives (TypeBounded f cs d) (to_dtype f flags (to_fields big cs) (to_values big d))
@@ -81,18 +81,18 @@ module _ (big : Bool) where
 -- ── the node
 
 format_size : (o : Option Bytes) → Gives (λ f. 2 * length f ≤ length (write_text o)) (format_text o)
-format_size none = gives_refused
-format_size (some b) = gives_when not_utf8 (is (is_utf8 b)) b (λ _. text_size_lem (some b))
+format_size None = gives_refused
+format_size (Some b) = gives_when not_utf8 (is (is_utf8 b)) b (λ _. text_size_lem (Some b))
 
-name_size : (o : Option Bytes) → Gives (λ m. length (write_text (some m)) ≤ length (write_text o)) (name_text o)
-name_size none = gives_given (omega arith)
-name_size (some b) = gives_when not_utf8 (is (is_utf8 b)) b (λ _. omega arith)
+name_size : (o : Option Bytes) → Gives (λ m. length (write_text (Some m)) ≤ length (write_text o)) (name_text o)
+name_size None = gives_given (omega arith)
+name_size (Some b) = gives_when not_utf8 (is (is_utf8 b)) b (λ _. omega arith)
 
 module _ (big : Bool) where
   module _ (n : Node) (cs : Schemas) (d : Dictionary) where
     parts_bounded : (f : Bytes) (t : ArrowDataType) (e : Option Extension) (i : Info)
         → 2 * length f ≤ length (write_text n.format) → TypeBounded f cs d t
-        → MetadataBounded n.metadata t (i.pairs, e) → length (write_text (some i.name)) ≤ length (write_text n.name)
+        → MetadataBounded n.metadata t (i.pairs, e) → length (write_text (Some i.name)) ≤ length (write_text n.name)
         → FieldBounded (schema_size (schema n cs d)) (record { info = i; type = extended e t })
     parts_bounded f t e i format type metadata name =
         omega (
@@ -100,7 +100,7 @@ module _ (big : Bool) where
           schema_size_lem n cs d,
           signed_least n.flags,
           decimal_least (count_dictionary d),
-          type_size_lem (extended e t) (some i),
+          type_size_lem (extended e t) (Some i),
           flag_size i.nullable,
           text_least n.metadata,
           text_least n.name,
@@ -136,7 +136,7 @@ module _ (big : Bool) where
     all_bounded end = gives_given (refl, omega arith)
     all_bounded (s & ss) = gives_then (schema_bounded s) (λ f h. gives_then (all_bounded ss) (λ fs k. gives_given (more_bounded s ss f fs h k)))
 
-    values_bounded : (d : Dictionary) (a : Answer Field) → to_values big d ≡ some a → Gives (FieldBounded (dictionary_size d)) a
+    values_bounded : (d : Dictionary) (a : Answer Field) → to_values big d ≡ Some a → Gives (FieldBounded (dictionary_size d)) a
     values_bounded absent a e = not_some e
     values_bounded (present s) a e = subst (Gives (FieldBounded (schema_size s))) (same_some e) (schema_bounded s)
 
@@ -147,7 +147,7 @@ module _ (big : Bool) where
   import_at_most b =
       gives_then (schema_gives b)
       (λ s e. gives_then (schema_bounded s)
-      (λ f h. gives_given (omega (arith, e, h, sheet_size field_heading (type_lines f.type (some f.info))))))
+      (λ f h. gives_given (omega (arith, e, h, sheet_size field_heading (type_lines f.type (Some f.info))))))
 
   pub import_fits : (b out : Bytes) → Fits (import_room (length b)) (import_outcome_in big b out)
   import_fits b out = answer_fits (import_room (length b)) (imported big b) out (import_at_most b)

@@ -6,7 +6,7 @@ use mathlib.Core.Path.{◌≡◌, refl, ap, subst}
 use mathlib.Core.Bool.{Bool, true, false, cond}
 use mathlib.Core.List.{List, [], ◌∷◌}
 use mathlib.Core.List.{map as map_list}
-use mathlib.Core.Option.{Option, none, some}
+use Rattle.std.specs.Prelude.{Option, None, Some}
 use Prim.Native.Nat.{ℕ, zero, suc, ◌+◌, ◌*◌, ◌^◌, ◌≤◌, ◌<◌}
 use native.Mathlib.Omega.{arith}
 use lib.Dec.{eqb, leb, ltb}
@@ -108,7 +108,7 @@ parts_size_lem (p ∷ s ∷ w ∷ x ∷ xs) = gives_refused
 
 zone_size : (r : Bytes) → length (write_text (zone r)) ≤ suc (2 * length r)
 zone_size [] = omega arith
-zone_size (b ∷ bs) = text_most (some (b ∷ bs))
+zone_size (b ∷ bs) = text_most (Some (b ∷ bs))
 
 -- ── the format
 
@@ -132,19 +132,19 @@ same_size f k e = ap (λ (b : Bytes). length b) (same_eq f k e)
 abbrev PartsOf : Bytes → Bytes × Bytes → Type 0
 PartsOf f x = length f ≡ length x.0 + suc (length x.1)
 
-cut_size : (f : Bytes) (x : Bytes × Bytes) → cut f ≡ some x → PartsOf f x
+cut_size : (f : Bytes) (x : Bytes × Bytes) → cut f ≡ Some x → PartsOf f x
 cut_size [] x e = not_some e
 cut_size (b ∷ bs) x e = pick (eqb b colon) (cut bs) (cut_size bs) e
   where
     later : Option (Bytes × Bytes) → Option (Bytes × Bytes)
-    later o = elim o [ none ↦ none | some hr ↦ some (b ∷ hr.0, hr.1) ]
+    later o = elim o [ None ↦ None | Some hr ↦ Some (b ∷ hr.0, hr.1) ]
 
-    inner : (o : Option (Bytes × Bytes)) → ((y : Bytes × Bytes) → o ≡ some y → PartsOf bs y) → later o ≡ some x → PartsOf (b ∷ bs) x
-    inner none next g = not_some g
-    inner (some y) next g = subst (PartsOf (b ∷ bs)) (same_some g) (omega (arith, next y refl))
+    inner : (o : Option (Bytes × Bytes)) → ((y : Bytes × Bytes) → o ≡ Some y → PartsOf bs y) → later o ≡ Some x → PartsOf (b ∷ bs) x
+    inner None next g = not_some g
+    inner (Some y) next g = subst (PartsOf (b ∷ bs)) (same_some g) (omega (arith, next y refl))
 
-    pick : (t : Bool) (o : Option (Bytes × Bytes)) → ((y : Bytes × Bytes) → o ≡ some y → PartsOf bs y)
-        → elim t as (λ z. Option (Bytes × Bytes)) [ true ↦ some ([], bs) | false ↦ later o ] ≡ some x → PartsOf (b ∷ bs) x
+    pick : (t : Bool) (o : Option (Bytes × Bytes)) → ((y : Bytes × Bytes) → o ≡ Some y → PartsOf bs y)
+        → elim t as (λ z. Option (Bytes × Bytes)) [ true ↦ Some ([], bs) | false ↦ later o ] ≡ Some x → PartsOf (b ∷ bs) x
     pick true o next g = subst (PartsOf (b ∷ bs)) (same_some g) (omega arith)
     pick false o next g = inner o next g
 
@@ -164,7 +164,7 @@ module _ (h r : Bytes) where
   decimal_bounded : Gives CutBounded (decimal_parts (split comma r) >>= λ s. given (of_scalar s))
   decimal_bounded = gives_then (parts_size_lem (split comma r)) (λ s k. gives_given (omega (arith, split_size comma r)))
 
-  union_bounded : (mode : Bool) → 3 ≤ length h → Gives CutBounded (read_each read_id (split comma r) >>= λ zs. given (of_grouping (union mode (some zs))))
+  union_bounded : (mode : Bool) → 3 ≤ length h → Gives CutBounded (read_each read_id (split comma r) >>= λ zs. given (of_grouping (union mode (Some zs))))
   union_bounded mode l =
       gives_then (ids_size (split comma r))
       (λ zs k. gives_given (omega (arith, two_digits Kind.Union (omega arith), flag_size mode, flag_size false, list_most write_signed zs, split_size comma r)))
@@ -193,24 +193,24 @@ table = meets (each row_bounded rows) refl
 abbrev LeafBounded : Bytes → FormatRow → Type 0
 LeafBounded f r = FormatBounded (length f) (of_scalar (leaf r.kind r.unit))
 
-row_bounded_lem : (f : Bytes) (rs : List FormatRow) → Meets (each row_bounded rs) → (r : FormatRow) → row_named f rs ≡ some r → LeafBounded f r
+row_bounded_lem : (f : Bytes) (rs : List FormatRow) → Meets (each row_bounded rs) → (r : FormatRow) → row_named f rs ≡ Some r → LeafBounded f r
 row_bounded_lem f [] h r e = not_some e
 row_bounded_lem f (q ∷ rs) h r e = pick (same f q.name) refl e (row_bounded_lem f rs h.1 r)
   where
-    pick : (t : Bool) → same f q.name ≡ t → cond t (some q) (row_named f rs) ≡ some r → (row_named f rs ≡ some r → LeafBounded f r) → LeafBounded f r
+    pick : (t : Bool) → same f q.name ≡ t → cond t (Some q) (row_named f rs) ≡ Some r → (row_named f rs ≡ Some r → LeafBounded f r) → LeafBounded f r
     pick true t g next =
         subst (LeafBounded f) (same_some g)
         (omega (arith, leb-true (13 * shape_size (scalar_shape (leaf q.kind q.unit))) (38 * length q.name + 105) h.0, same_size f q.name t))
     pick false t g next = next g
 
-named_bounded : (f : Bytes) (o : Option FormatRow) (other : Answer Format) → ((r : FormatRow) → o ≡ some r → LeafBounded f r)
+named_bounded : (f : Bytes) (o : Option FormatRow) (other : Answer Format) → ((r : FormatRow) → o ≡ Some r → LeafBounded f r)
     → Gives (FormatBounded (length f)) other → Gives (FormatBounded (length f)) (read_named o other)
-named_bounded f (some r) other h k = gives_given (h r refl)
-named_bounded f none other h k = k
+named_bounded f (Some r) other h k = gives_given (h r refl)
+named_bounded f None other h k = k
 
-other_bounded : (f : Bytes) (o : Option (Bytes × Bytes)) → ((x : Bytes × Bytes) → o ≡ some x → PartsOf f x) → Gives (FormatBounded (length f)) (read_other o)
-other_bounded f none h = gives_refused
-other_bounded f (some x) h = gives_more (λ g k. omega (arith, h x refl)) (cut_bounded x.0 x.1)
+other_bounded : (f : Bytes) (o : Option (Bytes × Bytes)) → ((x : Bytes × Bytes) → o ≡ Some x → PartsOf f x) → Gives (FormatBounded (length f)) (read_other o)
+other_bounded f None h = gives_refused
+other_bounded f (Some x) h = gives_more (λ g k. omega (arith, h x refl)) (cut_bounded x.0 x.1)
 
 pub format_bounded : (sorted : Bool) (f : Bytes) → Gives (FormatBounded (length f)) (read_format sorted f)
 format_bounded sorted f =

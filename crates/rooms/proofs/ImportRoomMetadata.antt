@@ -6,7 +6,7 @@ use mathlib.Core.Path.{◌≡◌, refl, ap, subst}
 use mathlib.Core.Bool.{Bool, true, false, ◌||◌, cond}
 use mathlib.Core.List.{List, [], ◌∷◌}
 use mathlib.Core.List.{map as map_list}
-use mathlib.Core.Option.{Option, none, some}
+use Rattle.std.specs.Prelude.{Option, None, Some}
 use Prim.Native.Nat.{ℕ, zero, suc, ◌+◌, ◌*◌, ◌^◌, ◌≤◌}
 use native.Mathlib.Omega.{arith}
 use lib.Dec.{ltb}
@@ -72,12 +72,12 @@ insert_size p (q ∷ qs) = pick (before p.0 q.0) (same p.0 q.0) (insert_size p q
 
 -- the bytes that the value of a key took in the block
 abbrev value_size : Bytes → Option Bytes → ℕ
-value_size k none = 0
-value_size k (some v) = 8 + length k + length v
+value_size k None = 0
+value_size k (Some v) = 8 + length k + length v
 
-or_size : (k : Bytes) (o : Option Bytes) (v : Bytes) → value_size k (or_else o (some v)) ≤ value_size k o + (8 + length k + length v)
-or_size k none v = omega arith
-or_size k (some x) v = omega arith
+or_size : (k : Bytes) (o : Option Bytes) (v : Bytes) → value_size k (or_else o (Some v)) ≤ value_size k o + (8 + length k + length v)
+or_size k None v = omega arith
+or_size k (Some x) v = omega arith
 
 -- the other pairs and the values of the two reserved keys come from different pairs
 different_pairs : (ps : List Pair)
@@ -86,7 +86,7 @@ different_pairs [] = omega arith
 different_pairs (p ∷ ps) = pick (same p.0 name_key) (same p.0 metadata_key) refl refl (different_pairs ps)
   where
     value : Bool → Option Bytes
-    value t = cond t (some p.1) none
+    value t = cond t (Some p.1) None
 
     pick : (a b : Bool) → same p.0 name_key ≡ a → same p.0 metadata_key ≡ b
         → pairs_size (ordinary ps) + value_size name_key (value_of name_key ps) + value_size metadata_key (value_of metadata_key ps) ≤ pairs_size ps
@@ -114,22 +114,22 @@ column_size [] = omega arith
 column_size (q ∷ qs) = omega (arith, list_most pair_text (q ∷ qs), texts_size (q ∷ qs))
 
 option_size : (k : Bytes) (m : Option Bytes) → length (write_text m) ≤ suc (2 * value_size k m)
-option_size k none = omega arith
-option_size k (some v) = omega (arith, text_most (some v))
+option_size k None = omega arith
+option_size k (Some v) = omega (arith, text_most (Some v))
 
 -- the pairs' column, and the extension's line before the type's, bounded by the metadata's column
 abbrev pub MetadataBounded : Option Bytes → ArrowDataType → Option (List Pair) × Option Extension → Type 0
 MetadataBounded o t p = length (write_list pair_text p.0) + bare_size (extended p.1 t) ≤ length (write_text o) + bare_size t
 
 told_bounded : (b : Bytes) (t : ArrowDataType) (qs : List Pair) (n m : Option Bytes)
-    → 4 + (pairs_size qs + value_size name_key n + value_size metadata_key m) ≤ length b → MetadataBounded (some b) t (some_pairs qs, extension_of n m)
-told_bounded b t qs none m h = omega (arith, column_size qs, text_size_lem (some b))
-told_bounded b t qs (some n) m h =
+    → 4 + (pairs_size qs + value_size name_key n + value_size metadata_key m) ≤ length b → MetadataBounded (Some b) t (some_pairs qs, extension_of n m)
+told_bounded b t qs None m h = omega (arith, column_size qs, text_size_lem (Some b))
+told_bounded b t qs (Some n) m h =
     omega (
       arith,
       column_size qs,
-      text_size_lem (some b),
-      text_most (some n),
+      text_size_lem (Some b),
+      text_most (Some n),
       option_size metadata_key m,
       extension_size n m t,
       two_digits Kind.Extension (omega arith),
@@ -138,7 +138,7 @@ told_bounded b t qs (some n) m h =
 
 module _ (big : Bool) where
   pub metadata_bounded : (o : Option Bytes) (t : ArrowDataType) → Gives (MetadataBounded o t) (metadata_from_bytes big o)
-  metadata_bounded none t = gives_given (omega arith)
-  metadata_bounded (some b) t =
+  metadata_bounded None t = gives_given (omega arith)
+  metadata_bounded (Some b) t =
       gives_then (block_read big b)
       (λ ps h. gives_given (told_bounded b t (ordinary ps) (value_of name_key ps) (value_of metadata_key ps) (omega (arith, different_pairs ps))))

@@ -4,7 +4,7 @@
 use mathlib.Core.Path.{◌≡◌, refl, ap, subst}
 use mathlib.Core.Bool.{Bool, true, false, cond}
 use mathlib.Core.List.{List, [], ◌∷◌}
-use mathlib.Core.Option.{Option, none, some}
+use Rattle.std.specs.Prelude.{Option, None, Some}
 use Prim.Native.Nat.{ℕ, zero, suc, ◌+◌, ◌-◌, ◌≤◌, ◌<◌}
 use native.Mathlib.Omega.{arith}
 use lib.Dec.{eqb, leb, ltb}
@@ -57,13 +57,13 @@ field_order : (t u : ArrowDataType) (i : Option Info) → NoLonger t u → type_
 field_order t u i h = omega (arith, type_size_lem t i, type_size_lem u i)
 
 nested_order : (n : Nesting) (i : Info) (t u : ArrowDataType) → NoLonger t u → NoLonger (nested n i t) (nested n i u)
-nested_order n i t u h = omega (arith, nested_size n i t, nested_size n i u, field_order t u (some i) h)
+nested_order n i t u h = omega (arith, nested_size n i t, nested_size n i u, field_order t u (Some i) h)
 
 grouped_order : (g : Grouping) (fs us : Fields) → FieldsNoLonger fs us → NoLonger (grouped g fs) (grouped g us)
 grouped_order g fs us h = omega (arith, grouped_size g fs, grouped_size g us, ap (λ n. length (decimal n)) h.0, h.1)
 
 add_order : (i : Info) (t u : ArrowDataType) (fs us : Fields) → NoLonger t u → FieldsNoLonger fs us → FieldsNoLonger (add i t fs) (add i u us)
-add_order i t u fs us h k = (ap suc k.0, omega (arith, add_size i t fs, add_size i u us, field_order t u (some i) h, k.1))
+add_order i t u fs us h k = (ap suc k.0, omega (arith, add_size i t fs, add_size i u us, field_order t u (Some i) h, k.1))
 
 dictionary_order : (ix : ℕ) (ordered : Bool) (t u : ArrowDataType) → NoLonger t u → NoLonger (dictionary ix ordered t) (dictionary ix ordered u)
 dictionary_order ix ordered t u h = omega (arith, dictionary_size_lem ix ordered t, dictionary_size_lem ix ordered u)
@@ -86,11 +86,11 @@ table : Meets (each no_later leaf_rows)
 unfolding leaf_rows
 table = meets (each no_later leaf_rows) refl
 
-row_under : (k : ℕ) (rs : List LeafRow) → Meets (each no_later rs) → (r : LeafRow) → row_at k rs ≡ some r → r.under ≤ k
+row_under : (k : ℕ) (rs : List LeafRow) → Meets (each no_later rs) → (r : LeafRow) → row_at k rs ≡ Some r → r.under ≤ k
 row_under k [] h r e = not_some e
 row_under k (q ∷ rs) h r e = pick (eqb k q.kind) refl e (row_under k rs h.1 r)
   where
-    pick : (t : Bool) → eqb k q.kind ≡ t → cond t (some q) (row_at k rs) ≡ some r → (row_at k rs ≡ some r → r.under ≤ k) → r.under ≤ k
+    pick : (t : Bool) → eqb k q.kind ≡ t → cond t (Some q) (row_at k rs) ≡ Some r → (row_at k rs ≡ Some r → r.under ≤ k) → r.under ≤ k
     pick true t g next =
         subst (λ (x : LeafRow). x.under ≤ k) (same_some g) (omega (arith, eqb-true k q.kind t, leb-true q.under q.kind h.0))
     pick false t g next = next g
@@ -155,7 +155,7 @@ mutual
 -- ── `inner_dtype`, `get_child`
 
 below_nested : (n : Nesting) (i : Info) (t : ArrowDataType) → NoLonger (nested n i t) t
-below_nested n i t = omega (arith, nested_size n i t, bare_least t (some i))
+below_nested n i t = omega (arith, nested_size n i t, bare_least t (Some i))
 
 inner_shorter : (t : ArrowDataType) → Gives (NoLonger t) (inner_dtype t)
 inner_shorter (scalar s) = gives_refused
@@ -166,7 +166,7 @@ inner_shorter (extension n m t) = gives_refused
 
 at_shorter : (fs : Fields) (k : ℕ) → Gives (λ u. bare_size u ≤ fields_size fs) (type_at fs k)
 at_shorter nil k = gives_refused
-at_shorter (add i t fs) zero = gives_given (omega (arith, add_size i t fs, bare_least t (some i)))
+at_shorter (add i t fs) zero = gives_given (omega (arith, add_size i t fs, bare_least t (Some i)))
 at_shorter (add i t fs) (suc k) = gives_more (λ u h. omega (arith, add_size i t fs)) (at_shorter fs k)
 
 child_shorter : (k : ℕ) (t : ArrowDataType) → Gives (NoLonger t) (get_child k t)
@@ -184,14 +184,14 @@ module _ (change : ArrowDataType → Answer ArrowDataType) (shorter : (t : Arrow
   mapped_at_most = gives_then (field_gives b) (λ f r. gives_then (shorter f.type) (λ t h. gives_given (fits f t r h)))
     where
       fits : (f : Field) (t : ArrowDataType) → FieldRead b f → NoLonger f.type t → length (write_field_sheet (with_dtype f t)) ≤ length b
-      fits f t r h = omega (arith, r.whole, sheet_size field_heading (type_lines t (some f.info)), field_order f.type t (some f.info) h)
+      fits f t r h = omega (arith, r.whole, sheet_size field_heading (type_lines t (Some f.info)), field_order f.type t (Some f.info) h)
 
   -- the type alone, on a bare line
   picked_at_most : AtMost (length b) (picked change b)
   picked_at_most = gives_then (field_gives b) (λ f r. gives_then (shorter f.type) (λ t h. gives_given (fits f t r h)))
     where
       fits : (f : Field) (t : ArrowDataType) → FieldRead b f → NoLonger f.type t → length (write_bare_sheet t) ≤ length b
-      fits f t r h = omega (arith, r.whole, sheet_size field_heading (type_lines t none), bare_least f.type (some f.info))
+      fits f t r h = omega (arith, r.whole, sheet_size field_heading (type_lines t None), bare_least f.type (Some f.info))
 
 -- ── the conversions
 
@@ -200,7 +200,7 @@ abbrev LineFits : ArrowDataType → Type 0
 LineFits t = bare_size t ≤ 21
 
 converted_at_most : (a : Answer ArrowDataType) → Gives LineFits a → AtMost converted_room (converted a)
-converted_at_most a h = gives_then h (λ t l. gives_given (omega (arith, sheet_size field_heading (type_lines t none))))
+converted_at_most a h = gives_then h (λ t l. gives_given (omega (arith, sheet_size field_heading (type_lines t None))))
 
 leaf_fits : (k u : ℕ) → k < 100 → u < 10 → LineFits (scalar (leaf k u))
 leaf_fits k u h l = omega (arith, leaf_size k u, two_digits k h, one_digit u l)

@@ -2,7 +2,7 @@
 -- has 18 or more, by induction on the field. Assumes nothing.
 use mathlib.Core.Path.{◌≡◌}
 use mathlib.Core.List.{[]}
-use mathlib.Core.Option.{Option, none, some}
+use Rattle.std.specs.Prelude.{Option, None, Some}
 use Prim.Native.Nat.{ℕ, ◌*◌, ◌≤◌}
 use native.Mathlib.Omega.{arith}
 use lib.ListN.{length, length-append}
@@ -21,15 +21,15 @@ use Rattle.rooms.proofs.Sizes.{line_least, type_size, fields_size, add_size, Fie
 mutual
   type_lines_lem : (t : ArrowDataType) (i : Option Info) → 18 * length (type_lines t i) ≤ type_size t i
   type_lines_lem (scalar s) i = omega (arith, line_least (of_scalar s) i 0 [])
-  type_lines_lem (nested n j t) i = omega (arith, line_least (of_nesting n) i 1 (type_lines t (some j)), type_lines_lem t (some j))
+  type_lines_lem (nested n j t) i = omega (arith, line_least (of_nesting n) i 1 (type_lines t (Some j)), type_lines_lem t (Some j))
   type_lines_lem (grouped g fs) i = omega (arith, line_least (of_grouping g) i (count_fields fs) (fields_lines fs), fields_lines_lem fs)
-  type_lines_lem (dictionary ix ordered t) i = omega (arith, line_least (of_dictionary ix ordered) i 1 (type_lines t none), type_lines_lem t none)
-  type_lines_lem (extension n m t) i = omega (arith, line_least (of_extension n m) i 1 (type_lines t none), type_lines_lem t none)
+  type_lines_lem (dictionary ix ordered t) i = omega (arith, line_least (of_dictionary ix ordered) i 1 (type_lines t None), type_lines_lem t None)
+  type_lines_lem (extension n m t) i = omega (arith, line_least (of_extension n m) i 1 (type_lines t None), type_lines_lem t None)
 
   fields_lines_lem : (fs : Fields) → 18 * length (fields_lines fs) ≤ fields_size fs
   fields_lines_lem nil = omega arith
   fields_lines_lem (add i t fs) =
-      omega (arith, length-append (type_lines t (some i)) (fields_lines fs), add_size i t fs, type_lines_lem t (some i), fields_lines_lem fs)
+      omega (arith, length-append (type_lines t (Some i)) (fields_lines fs), add_size i t fs, type_lines_lem t (Some i), fields_lines_lem fs)
 
 -- ── the page and the call
 
@@ -38,7 +38,7 @@ unfolding paged
 page_at_most b = gives_then read (λ f h. gives_given h)
   where
     read : Gives (λ f. length (page f) ≤ page_room (length b)) (read_field_sheet b)
-    read = record { gave = λ f e. let r = (field_gives b).gave f e in omega (arith, r.whole, page_length b f e, page_count f, type_lines_lem f.type (some f.info)) }
+    read = record { gave = λ f e. let r = (field_gives b).gave f e in omega (arith, r.whole, page_length b f e, page_count f, type_lines_lem f.type (Some f.info)) }
 
 pub page_fits : (b out : Bytes) → Fits (page_room (length b)) (page_outcome b out)
 page_fits b out = answer_fits (page_room (length b)) (paged b) out (page_at_most b)

@@ -4,7 +4,7 @@
 use mathlib.Core.Path.{◌≡◌, refl, ap}
 use mathlib.Core.Bool.{Bool, true, false}
 use mathlib.Core.List.{List, [], ◌∷◌}
-use mathlib.Core.Option.{Option, none, some}
+use Rattle.std.specs.Prelude.{Option, None, Some}
 use Prim.Native.Nat.{ℕ, ◌+◌, ◌*◌, ◌≤◌}
 use native.Mathlib.Omega.{arith}
 use lib.ListN.{length}
@@ -23,32 +23,32 @@ use Rattle.rooms.proofs.Sizes.{parts_size, sheet_size, decimal_order, shape_size
 -- ── the columns
 
 pairs_plain : (ps : Option (List Pair)) → length (write_list pair_text (plain_pairs ps)) ≡ length (write_list pair_text ps)
-pairs_plain none = refl
-pairs_plain (some []) = refl
-pairs_plain (some (p ∷ ps)) = refl
+pairs_plain None = refl
+pairs_plain (Some []) = refl
+pairs_plain (Some (p ∷ ps)) = refl
 
 -- the plain form of what a line says of its field
 abbrev plain_own : Option Info → Option Info
-plain_own none = none
-plain_own (some i) = some (plain_info i)
+plain_own None = None
+plain_own (Some i) = Some (plain_info i)
 
 own_plain : (i : Option Info) → own_size (plain_own i) ≡ own_size i
-own_plain none = refl
-own_plain (some i) = omega (arith, pairs_plain i.pairs)
+own_plain None = refl
+own_plain (Some i) = omega (arith, pairs_plain i.pairs)
 
 scalar_plain : (s : Scalar) → shape_size (of_scalar (plain_scalar s)) ≡ shape_size (of_scalar s)
 scalar_plain (leaf k u) = refl
-scalar_plain (timestamp u none) = refl
-scalar_plain (timestamp u (some [])) = refl
-scalar_plain (timestamp u (some (b ∷ bs))) = refl
+scalar_plain (timestamp u None) = refl
+scalar_plain (timestamp u (Some [])) = refl
+scalar_plain (timestamp u (Some (b ∷ bs))) = refl
 scalar_plain (fixed_size_binary n) = refl
 scalar_plain (decimal_type w p s) = refl
 
 -- only ids that are None add bytes
 grouping_plain : (g : Grouping) (count : ℕ) → count ≤ 10000 → shape_size (of_grouping (plain_grouping g count)) ≤ shape_size (of_grouping g) + 5 * count
 grouping_plain struct count h = omega arith
-grouping_plain (union mode none) count h = omega (arith, counted_size count h)
-grouping_plain (union mode (some ids)) count h = omega arith
+grouping_plain (union mode None) count h = omega (arith, counted_size count h)
+grouping_plain (union mode (Some ids)) count h = omega arith
 
 -- ── the lines
 
@@ -61,7 +61,7 @@ line_plain s t o n m below plain_below fields h k l =
 
 -- a type that stands directly in an extension has a bare line
 abbrev bare_in : Bool → Option Info → Option Info
-bare_in true i = none
+bare_in true i = None
 bare_in false i = i
 
 mutual
@@ -72,9 +72,9 @@ mutual
   type_plain (nested n j t) inside i l =
       let o = bare_in inside i in
       let s = of_nesting n in
-      let below = type_lines t (some j) in
-      let child = type_plain t false (some j) (omega (arith, line_least s o 1 below)) in
-      line_plain s s o 1 1 below (type_lines (plain_type t false) (some (plain_info j))) 0 (omega arith) (omega arith) (omega (arith, child))
+      let below = type_lines t (Some j) in
+      let child = type_plain t false (Some j) (omega (arith, line_least s o 1 below)) in
+      line_plain s s o 1 1 below (type_lines (plain_type t false) (Some (plain_info j))) 0 (omega arith) (omega arith) (omega (arith, child))
   type_plain (grouped g fs) inside i l =
       let o = bare_in inside i in
       let count = count_fields fs in
@@ -85,20 +85,20 @@ mutual
       (grouping_plain g count few) (omega (arith, ap (λ (k : ℕ). length (decimal k)) (count_plain fs))) (fields_plain fs (omega (arith, least)))
   type_plain (dictionary ix ordered t) false i l =
       let s = of_dictionary ix ordered in
-      let below = type_lines t none in
-      let values = type_plain t false none (omega (arith, line_least s i 1 below)) in
-      line_plain s s i 1 1 below (type_lines (plain_type t false) none) 0 (omega arith) (omega arith) (omega (arith, values))
+      let below = type_lines t None in
+      let values = type_plain t false None (omega (arith, line_least s i 1 below)) in
+      line_plain s s i 1 1 below (type_lines (plain_type t false) None) 0 (omega arith) (omega arith) (omega (arith, values))
   type_plain (dictionary ix ordered t) true i l =
-      line_plain (of_dictionary ix ordered) (of_scalar (leaf (ix + 2) 0)) none 1 0 (type_lines t none) [] 0
+      line_plain (of_dictionary ix ordered) (of_scalar (leaf (ix + 2) 0)) None 1 0 (type_lines t None) [] 0
       (omega (arith, index_size ix ordered)) (decimal_order 0 1 (omega arith)) (omega arith)
   type_plain (extension n m t) false i l =
       let s = of_extension n m in
-      let below = type_lines t none in
-      let inner = type_plain t true none (omega (arith, line_least s i 1 below)) in
-      line_plain s s i 1 1 below (type_lines (plain_type t true) none) 0 (omega arith) (omega arith) (omega (arith, inner))
+      let below = type_lines t None in
+      let inner = type_plain t true None (omega (arith, line_least s i 1 below)) in
+      line_plain s s i 1 1 below (type_lines (plain_type t true) None) 0 (omega arith) (omega arith) (omega (arith, inner))
   type_plain (extension n m t) true i l =
-      let least = line_least (of_extension n m) none 1 (type_lines t none) in
-      omega (arith, least, type_plain t true none (omega (arith, least)))
+      let least = line_least (of_extension n m) None 1 (type_lines t None) in
+      omega (arith, least, type_plain t true None (omega (arith, least)))
 
   fields_plain : (fs : Fields) → fields_size fs ≤ sheet_limit → 18 * fields_size (plain_fields fs) + 90 * count_fields fs ≤ 23 * fields_size fs
   fields_plain nil l = omega arith
@@ -108,7 +108,7 @@ mutual
         arith,
         a,
         add_size (plain_info i) (plain_type t false) (plain_fields fs),
-        type_plain t false (some i) (omega (arith, a)),
+        type_plain t false (Some i) (omega (arith, a)),
         fields_plain fs (omega (arith, a)),
       )
 
@@ -123,8 +123,8 @@ plain_at_most b = gives_then (field_gives b) (λ f r. gives_given (fits f r))
         omega (
           arith,
           r.whole,
-          sheet_size field_heading (type_lines (plain_type f.type false) (some (plain_info f.info))),
-          type_plain f.type false (some f.info) (omega (arith, r.whole, r.short)),
+          sheet_size field_heading (type_lines (plain_type f.type false) (Some (plain_info f.info))),
+          type_plain f.type false (Some f.info) (omega (arith, r.whole, r.short)),
         )
 
 pub plain_fits : (b out : Bytes) → Fits (plain_room (length b)) (plain_outcome b out)

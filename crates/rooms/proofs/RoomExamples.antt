@@ -6,7 +6,7 @@ use mathlib.Core.Path.{◌≡◌, refl, ap}
 use mathlib.Core.Bool.{true, false}
 use mathlib.Core.List.{[], ◌∷◌, ◌++◌}
 use mathlib.Core.List.{map as map_list}
-use mathlib.Core.Option.{none, some}
+use Rattle.std.specs.Prelude.{None, Some}
 use Prim.Native.Nat.{ℕ, zero, suc, ◌+◌, ◌*◌, ◌≤◌}
 use native.Mathlib.Omega.{arith}
 use lib.IntN.{pos}
@@ -37,7 +37,7 @@ use Rattle.rooms.proofs.Sizes.{sheet_size, flag_size, shape_size, line_size, fie
 
 -- a field with an empty name
 abbrev unnamed : Info
-unnamed = record { name = []; nullable = false; pairs = none }
+unnamed = record { name = []; nullable = false; pairs = None }
 
 -- k fields of one type, and k schemas
 abbrev field_row : Info → ArrowDataType → ℕ → Fields
@@ -64,8 +64,8 @@ grouped_length g i t k =
     let row = field_row i t k in
     omega (
       arith,
-      sheet_size field_heading (type_lines (grouped g row) (some unnamed)),
-      line_size (of_grouping g) (some unnamed) (count_fields row) (fields_lines row),
+      sheet_size field_heading (type_lines (grouped g row) (Some unnamed)),
+      line_size (of_grouping g) (Some unnamed) (count_fields row) (fields_lines row),
       ap (λ (n : ℕ). length (decimal n)) (count_fields_lem i t k),
       flag_size false,
     )
@@ -87,7 +87,7 @@ schema_length n s k =
 
 -- UInt64 without a name
 abbrev uint64_schema : Schema
-uint64_schema = schema (record { format = some (ascii "L"); name = none; flags = pos 0; metadata = none }) end absent
+uint64_schema = schema (record { format = Some (ascii "L"); name = None; flags = pos 0; metadata = None }) end absent
 
 abbrev uint64 : ArrowDataType
 uint64 = scalar (leaf Kind.UInt64 0)
@@ -109,7 +109,7 @@ imported_to (suc k) = omega (arith, imported_to k)
 
 -- in a struct
 abbrev struct_node : Node
-struct_node = record { format = some (ascii "+s"); name = none; flags = pos 0; metadata = none }
+struct_node = record { format = Some (ascii "+s"); name = None; flags = pos 0; metadata = None }
 
 abbrev struct_schema : ℕ → Schema
 struct_schema k = schema struct_node (schema_row uint64_schema k) absent
@@ -146,13 +146,13 @@ ids_lack n (suc count) = (signed_lacks 0 refl (pos n), ids_lack (suc n) count)
 -- ── export: `37 0 0 - - - 0 = 1` and `6 0 0 ~ ~ ~ ~ ~ 0`, 37 bytes, become a schema line of 168 bytes; an id of four digits with its comma is 10 more
 
 abbrev paired : Info
-paired = record { name = []; nullable = false; pairs = some (([], []) ∷ []) }
+paired = record { name = []; nullable = false; pairs = Some (([], []) ∷ []) }
 
 abbrev extended : ArrowDataType
-extended = extension [] (some []) (scalar (leaf Kind.Int128 0))
+extended = extension [] (Some []) (scalar (leaf Kind.Int128 0))
 
 abbrev extended_schema : Schema
-extended_schema = schema (exported_node false paired (some ([], some [])) (ascii "_pli128") 0) end absent
+extended_schema = schema (exported_node false paired (Some ([], Some [])) (ascii "_pli128") 0) end absent
 
 pub exported_from : (k : ℕ) → fields_size (field_row paired extended k) ≡ 37 * k
 unfolding decimal
@@ -171,10 +171,10 @@ exported_to (suc k) = omega (arith, exported_to k)
 
 -- in a union without ids
 abbrev union_field : ℕ → Field
-union_field k = record { info = unnamed; type = grouped (union true none) (field_row paired extended k) }
+union_field k = record { info = unnamed; type = grouped (union true None) (field_row paired extended k) }
 
 abbrev union_node : ℕ → Node
-union_node k = exported_node false unnamed none (ascii "+us:" ++ ids k) 0
+union_node k = exported_node false unnamed None (ascii "+us:" ++ ids k) 0
 
 abbrev union_schema : ℕ → Schema
 union_schema k = schema (union_node k) (schema_row extended_schema k) absent
@@ -188,7 +188,7 @@ export_union k =
 
 union_from : (k : ℕ) → length (write_field_sheet (union_field k)) ≡ 66 + length (decimal k) + 37 * k
 unfolding decimal
-union_from k = omega (arith, grouped_length (union true none) paired extended k, exported_from k)
+union_from k = omega (arith, grouped_length (union true None) paired extended k, exported_from k)
 
 union_to : (k : ℕ) → length (write_schema_sheet (union_schema k)) ≡ 65 + length (decimal k) + 2 * length (ids k) + 168 * k
 unfolding decimal
@@ -215,21 +215,21 @@ plain_row (suc k) = rw (plain_row k)
 
 -- in a union without ids, and with the ids that are counted
 abbrev null_union : ℕ → Field
-null_union k = record { info = unnamed; type = grouped (union true none) (field_row unnamed null_type k) }
+null_union k = record { info = unnamed; type = grouped (union true None) (field_row unnamed null_type k) }
 
 abbrev plain_union : ℕ → Field
-plain_union k = record { info = unnamed; type = grouped (union true (some (up_from 0 k))) (field_row unnamed null_type k) }
+plain_union k = record { info = unnamed; type = grouped (union true (Some (up_from 0 k))) (field_row unnamed null_type k) }
 
 pub plain_union_lem : (k : ℕ) → plain (null_union k) ≡ plain_union k
 plain_union_lem k = rw (count_fields_lem unnamed null_type k, plain_row k)
 
 null_from : (k : ℕ) → length (write_field_sheet (null_union k)) ≡ 66 + length (decimal k) + 18 * k
 unfolding decimal
-null_from k = omega (arith, grouped_length (union true none) unnamed null_type k, plain_size k)
+null_from k = omega (arith, grouped_length (union true None) unnamed null_type k, plain_size k)
 
-null_to : (k : ℕ) → length (write_field_sheet (plain_union k)) ≡ 65 + length (decimal k) + length (write_list write_signed (some (up_from 0 k))) + 18 * k
+null_to : (k : ℕ) → length (write_field_sheet (plain_union k)) ≡ 65 + length (decimal k) + length (write_list write_signed (Some (up_from 0 k))) + 18 * k
 unfolding decimal
-null_to k = omega (arith, grouped_length (union true (some (up_from 0 k))) unnamed null_type k, plain_size k)
+null_to k = omega (arith, grouped_length (union true (Some (up_from 0 k))) unnamed null_type k, plain_size k)
 
 -- 3,636 of them: a field sheet of 65,518 bytes, whose plain form's has 82,586; the room is no less
 pub plain_long : (length (write_field_sheet (null_union 3636)) ≡ 65518) × ((length (write_field_sheet (plain_union 3636)) ≡ 82586) × (82586 ≤ plain_room 65518))

@@ -2,7 +2,7 @@
 -- what an answer gives, step by step as the answer is worked out. By cases of the outcome and of the answer. Assumes nothing.
 use mathlib.Core.Path.{◌≡◌, refl, ap, subst}
 use mathlib.Core.Bool.{Bool, true, false, cond}
-use mathlib.Core.Option.{Option, none, some}
+use Rattle.std.specs.Prelude.{Option, None, Some}
 use Prim.Native.Nat.{ℕ, ◌≤◌}
 use native.Mathlib.Omega.{arith}
 use lib.ListN.{length}
@@ -43,9 +43,9 @@ gives_then {A} {B} {Q} {P} {m} {f} h k = go m h
 pub gives_when : {A : Type 0} {P : A → Type 0} (r : Refusal) (rule : Rule) (a : A) → (Meets rule → P a) → Gives P (when r rule a)
 gives_when {P = P} r rule a h = record { gave = λ x e. let m = met_when r rule a x e in subst P m.1 (h m.0) }
 
-pub gives_found : {A : Type 0} {P : A → Type 0} (r : Refusal) (o : Option A) → ((a : A) → o ≡ some a → P a) → Gives P (found r o)
-gives_found r none h = gives_refused
-gives_found r (some a) h = gives_given (h a refl)
+pub gives_found : {A : Type 0} {P : A → Type 0} (r : Refusal) (o : Option A) → ((a : A) → o ≡ Some a → P a) → Gives P (found r o)
+gives_found r None h = gives_refused
+gives_found r (Some a) h = gives_given (h a refl)
 
 pub gives_cond : {A : Type 0} {P : A → Type 0} (t : Bool) {a b : Answer A} → (t ≡ true → Gives P a) → (t ≡ false → Gives P b) → Gives P (cond t a b)
 gives_cond true h k = h refl

@@ -6,7 +6,7 @@ use mathlib.Core.Path.{◌≡◌, refl, ap}
 use mathlib.Core.Bool.{Bool, true, false}
 use mathlib.Core.List.{List, [], ◌∷◌, ◌++◌}
 use mathlib.Core.List.{map as map_list}
-use mathlib.Core.Option.{Option, none, some}
+use Rattle.std.specs.Prelude.{Option, None, Some}
 use Prim.Native.Nat.{ℕ, zero, suc, ◌+◌, ◌*◌, ◌-◌, ◌^◌, ◌≤◌, ◌<◌}
 use native.Mathlib.Omega.{arith}
 use native.Mathlib.Nat.{mul-le-mul_right, pow-suc}
@@ -125,28 +125,28 @@ decimal_next n =
 -- ── texts: two digits for each byte, and one byte for an empty text or none
 
 pub text_least : (t : Option Bytes) → 1 ≤ length (write_text t)
-text_least none = omega arith
-text_least (some []) = omega arith
-text_least (some (b ∷ bs)) = omega arith
+text_least None = omega arith
+text_least (Some []) = omega arith
+text_least (Some (b ∷ bs)) = omega arith
 
 pub text_size_lem : (t : Option Bytes) → 2 * length (or_empty t) ≤ length (write_text t)
-text_size_lem none = omega arith
-text_size_lem (some []) = omega arith
-text_size_lem (some (b ∷ bs)) = omega (arith, hex_length bs)
+text_size_lem None = omega arith
+text_size_lem (Some []) = omega arith
+text_size_lem (Some (b ∷ bs)) = omega (arith, hex_length bs)
 
 pub text_most : (t : Option Bytes) → length (write_text t) ≤ suc (2 * length (or_empty t))
-text_most none = omega arith
-text_most (some []) = omega arith
-text_most (some (b ∷ bs)) = omega (arith, hex_length bs)
+text_most None = omega arith
+text_most (Some []) = omega arith
+text_most (Some (b ∷ bs)) = omega (arith, hex_length bs)
 
 -- ── lists and pairs
 
 list_least : {A : Type 0} (write : A → Bytes) → ((a : A) → 1 ≤ length (write a)) → (l : Option (List A)) → 1 ≤ length (write_list write l)
-list_least write h none = omega arith
-list_least write h (some []) = omega arith
-list_least write h (some (a ∷ l)) = omega (arith, join_size comma (write a) (map_list write l), h a)
+list_least write h None = omega arith
+list_least write h (Some []) = omega arith
+list_least write h (Some (a ∷ l)) = omega (arith, join_size comma (write a) (map_list write l), h a)
 
-pub list_most : {A : Type 0} (write : A → Bytes) (l : List A) → length (write_list write (some l)) ≤ suc (parts_size (map_list write l))
+pub list_most : {A : Type 0} (write : A → Bytes) (l : List A) → length (write_list write (Some l)) ≤ suc (parts_size (map_list write l))
 list_most write [] = omega arith
 list_most write (a ∷ l) = omega (arith, join_size comma (write a) (map_list write l))
 
@@ -186,15 +186,15 @@ texts_least (of_nesting (map sorted)) = omega arith
 texts_least (of_grouping struct) = omega arith
 texts_least (of_grouping (union sparse ids)) = omega (arith, list_least write_signed signed_least ids)
 texts_least (of_dictionary ix ordered) = omega arith
-texts_least (of_extension n m) = omega (arith, text_least (some n), text_least m)
+texts_least (of_extension n m) = omega (arith, text_least (Some n), text_least m)
 
 pub shape_least : (s : Shape) → 10 ≤ shape_size s
 shape_least s = omega (arith, decimal_least (columns s).kind, decimal_least (columns s).p, decimal_least (columns s).q, texts_least s)
 
 own_least : (i : Option Info) → 6 ≤ own_size i
-own_least none = omega arith
-own_least (some i) =
-    omega (arith, text_least (some i.name), flag_size i.nullable, list_least pair_text (λ p. omega (arith, pair_size p)) i.pairs)
+own_least None = omega arith
+own_least (Some i) =
+    omega (arith, text_least (Some i.name), flag_size i.nullable, list_least pair_text (λ p. omega (arith, pair_size p)) i.pairs)
 
 -- ── the lines of a field
 
@@ -218,58 +218,58 @@ abbrev pub type_size : ArrowDataType → Option Info → ℕ
 type_size t i = parts_size (type_lines t i)
 
 abbrev pub bare_size : ArrowDataType → ℕ
-bare_size t = type_size t none
+bare_size t = type_size t None
 
 abbrev pub fields_size : Fields → ℕ
 fields_size fs = parts_size (fields_lines fs)
 
-pub add_size : (i : Info) (t : ArrowDataType) (fs : Fields) → fields_size (add i t fs) ≡ type_size t (some i) + fields_size fs
-add_size i t fs = append_size (type_lines t (some i)) (fields_lines fs)
+pub add_size : (i : Info) (t : ArrowDataType) (fs : Fields) → fields_size (add i t fs) ≡ type_size t (Some i) + fields_size fs
+add_size i t fs = append_size (type_lines t (Some i)) (fields_lines fs)
 
 type_least : (t : ArrowDataType) (i : Option Info) → 18 ≤ type_size t i
 type_least (scalar s) i = omega (arith, line_least (of_scalar s) i 0 [])
-type_least (nested n j t) i = omega (arith, line_least (of_nesting n) i 1 (type_lines t (some j)))
+type_least (nested n j t) i = omega (arith, line_least (of_nesting n) i 1 (type_lines t (Some j)))
 type_least (grouped g fs) i = omega (arith, line_least (of_grouping g) i (count_fields fs) (fields_lines fs))
-type_least (dictionary ix ordered t) i = omega (arith, line_least (of_dictionary ix ordered) i 1 (type_lines t none))
-type_least (extension n m t) i = omega (arith, line_least (of_extension n m) i 1 (type_lines t none))
+type_least (dictionary ix ordered t) i = omega (arith, line_least (of_dictionary ix ordered) i 1 (type_lines t None))
+type_least (extension n m t) i = omega (arith, line_least (of_extension n m) i 1 (type_lines t None))
 
 pub fields_least : (fs : Fields) → 18 * count_fields fs ≤ fields_size fs
 fields_least nil = omega arith
-fields_least (add i t fs) = omega (arith, add_size i t fs, type_least t (some i), fields_least fs)
+fields_least (add i t fs) = omega (arith, add_size i t fs, type_least t (Some i), fields_least fs)
 
 -- only the first line shows anything of the field, and a bare line shows it in six bytes
 pub type_size_lem : (t : ArrowDataType) (i : Option Info) → type_size t i + 6 ≡ bare_size t + own_size i
-type_size_lem (scalar s) i = omega (arith, line_size (of_scalar s) i 0 [], line_size (of_scalar s) none 0 [])
-type_size_lem (nested n j t) i = let below = type_lines t (some j) in omega (arith, line_size (of_nesting n) i 1 below, line_size (of_nesting n) none 1 below)
+type_size_lem (scalar s) i = omega (arith, line_size (of_scalar s) i 0 [], line_size (of_scalar s) None 0 [])
+type_size_lem (nested n j t) i = let below = type_lines t (Some j) in omega (arith, line_size (of_nesting n) i 1 below, line_size (of_nesting n) None 1 below)
 type_size_lem (grouped g fs) i =
     let count = count_fields fs in
-    omega (arith, line_size (of_grouping g) i count (fields_lines fs), line_size (of_grouping g) none count (fields_lines fs))
+    omega (arith, line_size (of_grouping g) i count (fields_lines fs), line_size (of_grouping g) None count (fields_lines fs))
 type_size_lem (dictionary ix ordered t) i =
     let s = of_dictionary ix ordered in
-    omega (arith, line_size s i 1 (type_lines t none), line_size s none 1 (type_lines t none))
+    omega (arith, line_size s i 1 (type_lines t None), line_size s None 1 (type_lines t None))
 type_size_lem (extension n m t) i =
     let s = of_extension n m in
-    omega (arith, line_size s i 1 (type_lines t none), line_size s none 1 (type_lines t none))
+    omega (arith, line_size s i 1 (type_lines t None), line_size s None 1 (type_lines t None))
 
 pub bare_least : (t : ArrowDataType) (i : Option Info) → bare_size t ≤ type_size t i
 bare_least t i = omega (arith, type_size_lem t i, own_least i)
 
 -- the bare lines: the first, and those below it
 pub scalar_size : (s : Scalar) → bare_size (scalar s) ≡ shape_size (of_scalar s) + 8
-scalar_size s = omega (arith, line_size (of_scalar s) none 0 [], flag_size false)
+scalar_size s = omega (arith, line_size (of_scalar s) None 0 [], flag_size false)
 
-pub nested_size : (n : Nesting) (j : Info) (t : ArrowDataType) → bare_size (nested n j t) ≡ shape_size (of_nesting n) + 8 + type_size t (some j)
-nested_size n j t = omega (arith, line_size (of_nesting n) none 1 (type_lines t (some j)), flag_size true)
+pub nested_size : (n : Nesting) (j : Info) (t : ArrowDataType) → bare_size (nested n j t) ≡ shape_size (of_nesting n) + 8 + type_size t (Some j)
+nested_size n j t = omega (arith, line_size (of_nesting n) None 1 (type_lines t (Some j)), flag_size true)
 
 pub grouped_size : (g : Grouping) (fs : Fields)
     → bare_size (grouped g fs) ≡ shape_size (of_grouping g) + 6 + suc (length (decimal (count_fields fs))) + fields_size fs
-grouped_size g fs = omega (arith, line_size (of_grouping g) none (count_fields fs) (fields_lines fs))
+grouped_size g fs = omega (arith, line_size (of_grouping g) None (count_fields fs) (fields_lines fs))
 
 pub dictionary_size_lem : (ix : ℕ) (ordered : Bool) (t : ArrowDataType) → bare_size (dictionary ix ordered t) ≡ shape_size (of_dictionary ix ordered) + 8 + bare_size t
-dictionary_size_lem ix ordered t = omega (arith, line_size (of_dictionary ix ordered) none 1 (type_lines t none), flag_size true)
+dictionary_size_lem ix ordered t = omega (arith, line_size (of_dictionary ix ordered) None 1 (type_lines t None), flag_size true)
 
 pub extension_size : (n : Bytes) (m : Option Bytes) (t : ArrowDataType) → bare_size (extension n m t) ≡ shape_size (of_extension n m) + 8 + bare_size t
-extension_size n m t = omega (arith, line_size (of_extension n m) none 1 (type_lines t none), flag_size true)
+extension_size n m t = omega (arith, line_size (of_extension n m) None 1 (type_lines t None), flag_size true)
 
 -- the line of a dictionary's index type: the index moves to the kind's column, where it has at most one digit more and two were
 pub index_size : (ix : ℕ) (ordered : Bool) → shape_size (of_scalar (leaf (ix + 2) 0)) ≤ shape_size (of_dictionary ix ordered)
@@ -282,7 +282,7 @@ ids_size : (n count : ℕ) → n + count ≤ 10000 → parts_size (map_list writ
 ids_size n zero h = omega arith
 ids_size n (suc count) h = omega (arith, decimal_length 4 n (omega arith) (omega arith), ids_size (suc n) count (omega arith))
 
-pub counted_size : (count : ℕ) → count ≤ 10000 → length (write_list write_signed (some (up_from 0 count))) ≤ 5 * count + 1
+pub counted_size : (count : ℕ) → count ≤ 10000 → length (write_list write_signed (Some (up_from 0 count))) ≤ 5 * count + 1
 counted_size count h = omega (arith, list_most write_signed (up_from 0 count), ids_size 0 count (omega arith))
 
 -- ── the lines of a schema
@@ -323,7 +323,7 @@ schema_gives b = record { gave = λ s e. omega (arith, ap (λ (x : Bytes). lengt
 -- a field sheet: its length, which is bounded, and what holds of its field
 
 pub record FieldRead (b : Bytes) (f : Field) : Type 0 where
-  pub whole : length b ≡ suc (length field_heading) + type_size f.type (some f.info)
+  pub whole : length b ≡ suc (length field_heading) + type_size f.type (Some f.info)
   pub short : length b ≤ sheet_limit
   pub rule : Meets (field_rule f)
 
@@ -335,7 +335,7 @@ field_gives b = record { gave = read }
 
     read : (f : Field) → read_field_sheet b ≡ given f → FieldRead b f
     read f e = record {
-      whole = omega (arith, same f e, sheet_size field_heading (type_lines f.type (some f.info)));
+      whole = omega (arith, same f e, sheet_size field_heading (type_lines f.type (Some f.info)));
       short = omega (arith, same f e, leb-true (length (write_field_sheet f)) sheet_limit (field_sheet_short b f e));
       rule = (field_read b f e).0;
     }

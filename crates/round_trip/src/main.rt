@@ -2,7 +2,7 @@
 // demand 3 says; or which step refused, with its number, or which step differs: `round_trip [little|big]`, which is the order of the metadata's lengths.
 #![tactic(auto)]
 
-use endian_word::Asked;
+use outcome::Refused;
 use round_trips::RoundTrip;
 use std::io;
 use std::io::Write;
@@ -15,21 +15,21 @@ fn answer_buffer() -> [u8; ROOM] {
     [0; ROOM]
 }
 
-fn print_refused(rt: &HostRuntime, step: &[u8], number: u8) -> io::Result<()> {
+fn print_refused(rt: &HostRuntime, step: &[u8], refused: Refused) -> io::Result<()> {
     let mut out = rt.stdout();
     out.write_all(step)?;
     out.write_all(b" ")?;
-    print_answer::print_refused(&mut out, &mut rt.stderr(), number)?;
+    print_answer::print_refused(&mut out, &mut rt.stderr(), refused.number())?;
     Ok(())
 }
 
 fn print_trip(rt: &HostRuntime, trip: RoundTrip) -> io::Result<()> {
     match trip {
         RoundTrip::AllSame => rt.stdout().write_all(b"the same\n"),
-        RoundTrip::ExportRefused(number) => print_refused(rt, b"export", number),
-        RoundTrip::ImportRefused(number) => print_refused(rt, b"import", number),
-        RoundTrip::PlainRefused(number) => print_refused(rt, b"plain form", number),
-        RoundTrip::AgainRefused(number) => print_refused(rt, b"second export", number),
+        RoundTrip::ExportRefused(refused) => print_refused(rt, b"export", refused),
+        RoundTrip::ImportRefused(refused) => print_refused(rt, b"import", refused),
+        RoundTrip::PlainRefused(refused) => print_refused(rt, b"plain form", refused),
+        RoundTrip::AgainRefused(refused) => print_refused(rt, b"second export", refused),
         RoundTrip::ImportDiffers => rt
             .stdout()
             .write_all(b"import differs from the plain form\n"),
@@ -40,7 +40,7 @@ fn print_trip(rt: &HostRuntime, trip: RoundTrip) -> io::Result<()> {
 }
 
 fn main(rt: HostRuntime) -> io::Result<()> {
-    let Asked::Order(big) = endian_word::asked_order(&rt, &mut rt.stderr(), b"round_trip")? else {
+    let Some(big) = endian_word::asked_order(&rt, &mut rt.stderr(), b"round_trip")? else {
         return Ok(());
     };
     // One byte more than a sheet may have, so that a longer input is known as such, however long it is.

@@ -3,7 +3,8 @@
 use mathlib.Core.Path.{◌≡◌, refl, sym, ◌∙◌, ap, subst}
 use mathlib.Core.Logic.{◌≢◌}
 use mathlib.Core.Bool.{Bool, true, false}
-use Prim.Native.Nat.{ℕ, ◌≤◌, min}
+use Rattle.std.specs.Prelude.{Result, Ok, Err}
+use Prim.Native.Nat.{ℕ, min}
 use native.Mathlib.Omega.{arith}
 use lib.Dec.{leb}
 use lib.ListN.{length, take, drop, replicate, length-append, length-drop, length-replicate}
@@ -16,8 +17,9 @@ use Rattle.sheets.specs.Demand3.{written}
 use Rattle.sheets.specs.RoundTrip.{Steps, Buffers, step_buffers, cleared, round_trip_number, trip_steps, trip_answer, round_trip_outcome_as, same_exports_number, pair_steps, pair_answer, same_exports_outcome}
 use Rattle.sheets.proofs.OutcomeLaws.{refusal_empty, Cases, turned_back, too_long, answered, cases}
 use Rattle.sheets.proofs.RoundTripLaws.{after_refusal, after_answer}
-use Rattle.outcome.specs.declared.Answered.{Answered}
-use Rattle.outcome.specs.Answers.{outcome_of}
+use Rattle.outcome.specs.declared.Refused.{Refused}
+use Rattle.outcome.proofs.AnswerLaws.{refused_some}
+use Rattle.outcome.specs.Answers.{refused_number, numbers_outcome, outcome_of}
 use Rattle.round_trips.specs.declared.TwoSteps.{TwoSteps}
 use Rattle.round_trips.specs.declared.RoundTrip.{RoundTrip}
 use Rattle.round_trips.specs.declared.SameExports.{SameExports}
@@ -51,7 +53,7 @@ outcome_length e out = go (cases e out)
     go (too_long x q l o) = ap (λ (y : Outcome). length y.buffer) o ∙ length-replicate (length out) 0
     go (answered x q l o) = ap (λ (y : Outcome). length y.buffer) o ∙ length-append x (drop (length x) out) ∙ omega (arith, length-drop (length x) out)
 
-module _ (e : Answer Bytes) (number size : ℕ) (out out' : Bytes) (told : outcome_of number size out' ≡ outcome e out) where
+module _ (e : Answer Bytes) (number size : ℕ) (out out' : Bytes) (told : numbers_outcome number size out' ≡ outcome e out) where
   -- cleared after the step
   cleared_later : (later : Bytes) → Zeros out' later → Zeros out later
   cleared_later later z = z ∙ ap (λ (n : ℕ). replicate n 0) (ap (λ (y : Outcome). length y.buffer) told ∙ outcome_length e out)
@@ -60,24 +62,35 @@ module _ (e : Answer Bytes) (number size : ℕ) (out out' : Bytes) (told : outco
   cleared_self : number ≢ 0 → Zeros out out'
   cleared_self h = ap (λ (y : Outcome). y.buffer) told ∙ (refusal_empty e out (λ q. h (ap (λ (y : Outcome). y.number) told ∙ q))).1
 
-number_of_lem : {n l : ℕ} {out : Bytes} {y : Outcome} → outcome_of n l out ≡ y → y.number ≡ n
+number_of_lem : {n l : ℕ} {out : Bytes} {y : Outcome} → numbers_outcome n l out ≡ y → y.number ≡ n
 number_of_lem h = ap (λ (y : Outcome). y.number) (sym h)
 
-module _ (e f : Answer Bytes) (a b a' : Bytes) (x : Answered) (one : outcome_of x.number x.length a' ≡ outcome e a) where
-  pub first_out : x.number ≢ 0 → (b' : Bytes) → Zeros b b' → Told (outcome e a) (outcome f b) a b a' b' (TwoSteps.FirstRefused x.number)
-  first_out h b' z = (number_of_lem one, h, cleared_self e x.number x.length a a' one h, z)
+-- a step's outcome, where its result is known
+known : {x y : Result ℕ Refused} {out : Bytes} {o : Outcome} → x ≡ y → outcome_of x out ≡ o → outcome_of y out ≡ o
+known {out = out} {o = o} i h = subst (λ (r : Result ℕ Refused). outcome_of r out ≡ o) i h
 
-  module _ (zero : x.number ≡ 0) (b' : Bytes) (y : Answered) (two : outcome_of y.number y.length b' ≡ outcome f b) where
-    pub second_out : y.number ≢ 0 → (a'' : Bytes) → Zeros a' a'' → Told (outcome e a) (outcome f b) a b a'' b' (TwoSteps.SecondRefused y.number)
-    second_out h a'' z = (number_of_lem one ∙ zero, number_of_lem two, h, cleared_later e x.number x.length a a' one a'' z, cleared_self f y.number y.length b b' two h)
+module _ (e f : Answer Bytes) (a b a' : Bytes) (x : Result ℕ Refused) (one : outcome_of x a' ≡ outcome e a) where
+  pub first_out : (r : Refused) → x ≡ Err r → (b' : Bytes) → Zeros b b' → Told (outcome e a) (outcome f b) a b a' b' (TwoSteps.FirstRefused r)
+  first_out r i b' z =
+      let o : outcome_of (Err r) a' ≡ outcome e a = known i one in (number_of_lem o, refused_some r, cleared_self e (refused_number r) 0 a a' o (refused_some r), z)
 
-    pub both_out : y.number ≡ 0 → Told (outcome e a) (outcome f b) a b a' b' (TwoSteps.Written x.length y.length)
-    both_out h = (ap (λ (n : ℕ). outcome_of n x.length a') (sym zero) ∙ one, ap (λ (n : ℕ). outcome_of n y.length b') (sym h) ∙ two)
+  module _ (l : ℕ) (i : x ≡ Ok l) (b' : Bytes) (y : Result ℕ Refused) (two : outcome_of y b' ≡ outcome f b) where
+    wrote : outcome_of (Ok l) a' ≡ outcome e a
+    wrote = known i one
+
+    pub second_out : (r : Refused) → y ≡ Err r → (a'' : Bytes) → Zeros a' a'' → Told (outcome e a) (outcome f b) a b a'' b' (TwoSteps.SecondRefused r)
+    second_out r j a'' z =
+        let o : outcome_of (Err r) b' ≡ outcome f b = known j two in
+        (number_of_lem wrote, number_of_lem o, refused_some r, cleared_later e 0 l a a' wrote a'' z, cleared_self f (refused_number r) 0 b b' o (refused_some r))
+
+    pub both_out : (m : ℕ) → y ≡ Ok m → Told (outcome e a) (outcome f b) a b a' b' (TwoSteps.Written l m)
+    both_out m j = (wrote, known j two)
 
 -- what the first step wrote is handed to the second
-pub handed : (f : Bytes → Answer Bytes) (n : ℕ) (a' b b' : Bytes) (x y : Answered) (o : Outcome) → outcome_of x.number x.length a' ≡ o → n ≡ min x.length (length a')
-    → outcome_of y.number y.length b' ≡ outcome (f (take n a')) b → outcome_of y.number y.length b' ≡ outcome (f (written o)) b
-handed f n a' b b' x y o one within two = two ∙ ap (λ (q : Bytes). outcome (f q) b) (part_same n x.length a' within ∙ ap written one)
+pub handed : (f : Bytes → Answer Bytes) (n : ℕ) (a' b b' : Bytes) (x y : Result ℕ Refused) (o : Outcome) → outcome_of x a' ≡ o → (l : ℕ) → x ≡ Ok l → n ≡ min l (length a')
+    → outcome_of y b' ≡ outcome (f (take n a')) b → outcome_of y b' ≡ outcome (f (written o)) b
+handed f n a' b b' x y o one l i within two =
+    let wrote : outcome_of (Ok l) a' ≡ o = known i one in two ∙ ap (λ (q : Bytes). outcome (f q) b) (part_same n l a' within ∙ ap written wrote)
 
 -- ── the call, from its answer
 
@@ -117,15 +130,15 @@ module _ (strict big : Bool) (s a b c d a' b' : Bytes) where
   abbrev Back : TwoSteps → Type 0
   Back r = Told (export_outcome_as strict big s a) (import_outcome_in big (written (export_outcome_as strict big s a)) b) a b a' b' r
 
-  pub export_out : (r : TwoSteps) → Back r → (n : ℕ) → r ≡ TwoSteps.FirstRefused n → (c' d' : Bytes) → Zeros c c' → Zeros d d' → Done (RoundTrip.ExportRefused n) (four a' b' c' d')
+  pub export_out : (r : TwoSteps) → Back r → (n : Refused) → r ≡ TwoSteps.FirstRefused n → (c' d' : Bytes) → Zeros c c' → Zeros d d' → Done (RoundTrip.ExportRefused n) (four a' b' c' d')
   export_out r h n e c' d' z y =
       let t : Back (TwoSteps.FirstRefused n) = subst Back e h in
-      trip_refused strict big s lent (four a' b' c' d') (RoundTrip.ExportRefused n) (rw (t.0, ne_eqb n 0 t.1)) t.1 (λ i. record { first = t.2 i; second = t.3 i; third = z i; fourth = y i })
+      trip_refused strict big s lent (four a' b' c' d') (RoundTrip.ExportRefused n) (rw (t.0, ne_eqb (refused_number n) 0 t.1)) t.1 (λ i. record { first = t.2 i; second = t.3 i; third = z i; fourth = y i })
 
-  pub import_out : (r : TwoSteps) → Back r → (n : ℕ) → r ≡ TwoSteps.SecondRefused n → (c' d' : Bytes) → Zeros c c' → Zeros d d' → Done (RoundTrip.ImportRefused n) (four a' b' c' d')
+  pub import_out : (r : TwoSteps) → Back r → (n : Refused) → r ≡ TwoSteps.SecondRefused n → (c' d' : Bytes) → Zeros c c' → Zeros d d' → Done (RoundTrip.ImportRefused n) (four a' b' c' d')
   import_out r h n e c' d' z y =
       let t : Back (TwoSteps.SecondRefused n) = subst Back e h in
-      trip_refused strict big s lent (four a' b' c' d') (RoundTrip.ImportRefused n) (rw (t.0, t.1, ne_eqb n 0 t.2)) t.2 (λ i. record { first = t.3 i; second = t.4 i; third = z i; fourth = y i })
+      trip_refused strict big s lent (four a' b' c' d') (RoundTrip.ImportRefused n) (rw (t.0, t.1, ne_eqb (refused_number n) 0 t.2)) t.2 (λ i. record { first = t.3 i; second = t.4 i; third = z i; fourth = y i })
 
   module _ (r : TwoSteps) (h : Back r) (l m : ℕ) (e : r ≡ TwoSteps.Written l m) (c' d' : Bytes) where
     t : Back (TwoSteps.Written l m)
@@ -144,16 +157,16 @@ module _ (strict big : Bool) (s a b c d a' b' : Bytes) where
       both_clear : Zeros a a'' × Zeros b b''
       both_clear = (cleared_later (exported_as strict big s) 0 l a a' t.0 a'' z, cleared_later (imported big (written (export_outcome_as strict big s a))) 0 m b b' t.1 b'' y)
 
-      pub plain_out : (q : TwoSteps) → Again q → (n : ℕ) → q ≡ TwoSteps.FirstRefused n → Done (RoundTrip.PlainRefused n) (four a'' b'' c' d')
+      pub plain_out : (q : TwoSteps) → Again q → (n : Refused) → q ≡ TwoSteps.FirstRefused n → Done (RoundTrip.PlainRefused n) (four a'' b'' c' d')
       plain_out q k n f =
           let u : Again (TwoSteps.FirstRefused n) = subst Again f k in
-          trip_refused strict big s lent (four a'' b'' c' d') (RoundTrip.PlainRefused n) (rw (zero_1, zero_2, u.0, ne_eqb n 0 u.1)) u.1
+          trip_refused strict big s lent (four a'' b'' c' d') (RoundTrip.PlainRefused n) (rw (zero_1, zero_2, u.0, ne_eqb (refused_number n) 0 u.1)) u.1
           (λ i. record { first = both_clear.0 i; second = both_clear.1 i; third = u.2 i; fourth = u.3 i })
 
-      pub again_out : (q : TwoSteps) → Again q → (n : ℕ) → q ≡ TwoSteps.SecondRefused n → Done (RoundTrip.AgainRefused n) (four a'' b'' c' d')
+      pub again_out : (q : TwoSteps) → Again q → (n : Refused) → q ≡ TwoSteps.SecondRefused n → Done (RoundTrip.AgainRefused n) (four a'' b'' c' d')
       again_out q k n f =
           let u : Again (TwoSteps.SecondRefused n) = subst Again f k in
-          trip_refused strict big s lent (four a'' b'' c' d') (RoundTrip.AgainRefused n) (rw (zero_1, zero_2, u.0, u.1, ne_eqb n 0 u.2)) u.2
+          trip_refused strict big s lent (four a'' b'' c' d') (RoundTrip.AgainRefused n) (rw (zero_1, zero_2, u.0, u.1, ne_eqb (refused_number n) 0 u.2)) u.2
           (λ i. record { first = both_clear.0 i; second = both_clear.1 i; third = u.3 i; fourth = u.4 i })
 
     module _ (v : TwoSteps) (k : Again v) (p q : ℕ) (f : v ≡ TwoSteps.Written p q) where
@@ -161,7 +174,7 @@ module _ (strict big : Bool) (s a b c d a' b' : Bytes) where
       u = subst Again f k
 
       abbrev left : Steps
-      left = record { first = outcome_of 0 l a'; second = outcome_of 0 m b'; third = outcome_of 0 p c'; fourth = outcome_of 0 q d' }
+      left = record { first = numbers_outcome 0 l a'; second = numbers_outcome 0 m b'; third = numbers_outcome 0 p c'; fourth = numbers_outcome 0 q d' }
 
       are : trip_steps strict big s lent ≡ left
       are = λ i. record { first = sym t.0 i; second = sym t.1 i; third = sym u.0 i; fourth = sym u.1 i }
@@ -187,15 +200,15 @@ module _ (big : Bool) (s t a b c d a' b' : Bytes) where
   abbrev Exports : TwoSteps → Type 0
   Exports r = Told (export_outcome_in big s a) (export_outcome_in big t b) a b a' b' r
 
-  pub one_export_out : (r : TwoSteps) → Exports r → (n : ℕ) → r ≡ TwoSteps.FirstRefused n → (c' d' : Bytes) → Zeros c c' → Zeros d d' → Compares (SameExports.OneExportRefused n) (four a' b' c' d')
+  pub one_export_out : (r : TwoSteps) → Exports r → (n : Refused) → r ≡ TwoSteps.FirstRefused n → (c' d' : Bytes) → Zeros c c' → Zeros d d' → Compares (SameExports.OneExportRefused n) (four a' b' c' d')
   one_export_out r h n e c' d' z y =
       let v : Exports (TwoSteps.FirstRefused n) = subst Exports e h in
-      pair_refused big s t handed_in (four a' b' c' d') (SameExports.OneExportRefused n) (rw (v.0, ne_eqb n 0 v.1)) v.1 (λ i. record { first = v.2 i; second = v.3 i; third = z i; fourth = y i })
+      pair_refused big s t handed_in (four a' b' c' d') (SameExports.OneExportRefused n) (rw (v.0, ne_eqb (refused_number n) 0 v.1)) v.1 (λ i. record { first = v.2 i; second = v.3 i; third = z i; fourth = y i })
 
-  pub other_export_out : (r : TwoSteps) → Exports r → (n : ℕ) → r ≡ TwoSteps.SecondRefused n → (c' d' : Bytes) → Zeros c c' → Zeros d d' → Compares (SameExports.OtherExportRefused n) (four a' b' c' d')
+  pub other_export_out : (r : TwoSteps) → Exports r → (n : Refused) → r ≡ TwoSteps.SecondRefused n → (c' d' : Bytes) → Zeros c c' → Zeros d d' → Compares (SameExports.OtherExportRefused n) (four a' b' c' d')
   other_export_out r h n e c' d' z y =
       let v : Exports (TwoSteps.SecondRefused n) = subst Exports e h in
-      pair_refused big s t handed_in (four a' b' c' d') (SameExports.OtherExportRefused n) (rw (v.0, v.1, ne_eqb n 0 v.2)) v.2 (λ i. record { first = v.3 i; second = v.4 i; third = z i; fourth = y i })
+      pair_refused big s t handed_in (four a' b' c' d') (SameExports.OtherExportRefused n) (rw (v.0, v.1, ne_eqb (refused_number n) 0 v.2)) v.2 (λ i. record { first = v.3 i; second = v.4 i; third = z i; fourth = y i })
 
   module _ (r : TwoSteps) (h : Exports r) (l m : ℕ) (e : r ≡ TwoSteps.Written l m) (c' d' : Bytes) where
     v : Exports (TwoSteps.Written l m)
@@ -214,20 +227,20 @@ module _ (big : Bool) (s t a b c d a' b' : Bytes) where
       exports_clear : Zeros a a'' × Zeros b b''
       exports_clear = (cleared_later (exported big s) 0 l a a' v.0 a'' z, cleared_later (exported big t) 0 m b b' v.1 b'' y)
 
-      pub one_plain_out : (q : TwoSteps) → Plains q → (n : ℕ) → q ≡ TwoSteps.FirstRefused n → Compares (SameExports.OnePlainRefused n) (four a'' b'' c' d')
+      pub one_plain_out : (q : TwoSteps) → Plains q → (n : Refused) → q ≡ TwoSteps.FirstRefused n → Compares (SameExports.OnePlainRefused n) (four a'' b'' c' d')
       one_plain_out q k n f =
           let u : Plains (TwoSteps.FirstRefused n) = subst Plains f k in
-          pair_refused big s t handed_in (four a'' b'' c' d') (SameExports.OnePlainRefused n) (rw (first_zero, second_zero, u.0, ne_eqb n 0 u.1)) u.1
+          pair_refused big s t handed_in (four a'' b'' c' d') (SameExports.OnePlainRefused n) (rw (first_zero, second_zero, u.0, ne_eqb (refused_number n) 0 u.1)) u.1
           (λ i. record { first = exports_clear.0 i; second = exports_clear.1 i; third = u.2 i; fourth = u.3 i })
 
-      pub other_plain_out : (q : TwoSteps) → Plains q → (n : ℕ) → q ≡ TwoSteps.SecondRefused n → Compares (SameExports.OtherPlainRefused n) (four a'' b'' c' d')
+      pub other_plain_out : (q : TwoSteps) → Plains q → (n : Refused) → q ≡ TwoSteps.SecondRefused n → Compares (SameExports.OtherPlainRefused n) (four a'' b'' c' d')
       other_plain_out q k n f =
           let u : Plains (TwoSteps.SecondRefused n) = subst Plains f k in
-          pair_refused big s t handed_in (four a'' b'' c' d') (SameExports.OtherPlainRefused n) (rw (first_zero, second_zero, u.0, u.1, ne_eqb n 0 u.2)) u.2
+          pair_refused big s t handed_in (four a'' b'' c' d') (SameExports.OtherPlainRefused n) (rw (first_zero, second_zero, u.0, u.1, ne_eqb (refused_number n) 0 u.2)) u.2
           (λ i. record { first = exports_clear.0 i; second = exports_clear.1 i; third = u.3 i; fourth = u.4 i })
 
     pub compared_out : (w : TwoSteps) → Plains w → (p q : ℕ) → w ≡ TwoSteps.Written p q → (x y : Bool) → x ≡ same (take l a') (take m b') → y ≡ same (take p c') (take q d') → Compares (SameExports.Compared x y) (four a' b' c' d')
     compared_out w k p q g x y i j =
         let u : Plains (TwoSteps.Written p q) = subst Plains g k in
-        pair_answered big s t handed_in (record { first = outcome_of 0 l a'; second = outcome_of 0 m b'; third = outcome_of 0 p c'; fourth = outcome_of 0 q d' }) (SameExports.Compared x y)
+        pair_answered big s t handed_in (record { first = numbers_outcome 0 l a'; second = numbers_outcome 0 m b'; third = numbers_outcome 0 p c'; fourth = numbers_outcome 0 q d' }) (SameExports.Compared x y)
         (λ o. record { first = sym v.0 o; second = sym v.1 o; third = sym u.0 o; fourth = sym u.1 o }) (rw (i, j)) refl

@@ -10,15 +10,17 @@ ghost use Rattle.sheets.specs.RoundTrip.{round_trip_outcome_as, same_exports_out
 ghost use Rattle.outcome.specs.Answers.{outcome_of};
 ghost use Rattle.round_trips.specs.Trips.{Told, four, trip_of, pair_of};
 
+use outcome::Refused;
+
 #[derive(Drop)]
 pub enum RoundTrip {
     // Import gave the plain form, and the export of the plain form is the export of the field.
     AllSame,
-    // A step was refused, the first that was, with its number.
-    ExportRefused(u8),
-    ImportRefused(u8),
-    PlainRefused(u8),
-    AgainRefused(u8),
+    // A step was refused, the first that was, with why.
+    ExportRefused(Refused),
+    ImportRefused(Refused),
+    PlainRefused(Refused),
+    AgainRefused(Refused),
     // What import gave is not the plain form.
     ImportDiffers,
     // The export of the plain form is not the export of the field.
@@ -29,19 +31,19 @@ pub enum RoundTrip {
 pub enum SameExports {
     // Whether the exports are equal, and whether the plain forms are.
     Compared(bool, bool),
-    // A step was refused, the first that was, with its number.
-    OneExportRefused(u8),
-    OtherExportRefused(u8),
-    OnePlainRefused(u8),
-    OtherPlainRefused(u8),
+    // A step was refused, the first that was, with why.
+    OneExportRefused(Refused),
+    OtherExportRefused(Refused),
+    OnePlainRefused(Refused),
+    OtherPlainRefused(Refused),
 }
 
-// Two steps: the lengths that they wrote, or the number of the first that was refused, and both buffers zeros.
+// Two steps: the lengths that they wrote, or why the first that was refused was, and both buffers zeros.
 #[derive(Drop)]
 enum TwoSteps {
     Written(usize, usize),
-    FirstRefused(u8),
-    SecondRefused(u8),
+    FirstRefused(Refused),
+    SecondRefused(Refused),
 }
 
 // Whether the first n bytes of a are the first m bytes of b.
@@ -71,18 +73,22 @@ fn out_and_back(
 ) -> TwoSteps
     ensures { Told (export_outcome_as strict big sheet.now first.old) (import_outcome_in big (written (export_outcome_as strict big sheet.now first.old)) second.old) first.old second.old first.new second.new result }
 {
-    let x = field_calls::export_as(sheet, strict, big, first);
-    if x.number != 0 {
-        buffer::clear(second);
-        return TwoSteps::FirstRefused(x.number);
-    }
-    let n = buffer::within(x.length, first.len());
-    let y = import_sheet::import(&first[..n], big, second);
-    if y.number != 0 {
-        buffer::clear(first);
-        return TwoSteps::SecondRefused(y.number);
-    }
-    TwoSteps::Written(x.length, y.length)
+    let x = match field_calls::export_as(sheet, strict, big, first) {
+        Err(refused) => {
+            buffer::clear(second);
+            return TwoSteps::FirstRefused(refused);
+        }
+        Ok(length) => length,
+    };
+    let n = buffer::within(x, first.len());
+    let y = match import_sheet::import(&first[..n], big, second) {
+        Err(refused) => {
+            buffer::clear(first);
+            return TwoSteps::SecondRefused(refused);
+        }
+        Ok(length) => length,
+    };
+    TwoSteps::Written(x, y)
 }
 
 // The plain form of the sheet, and the export of what that wrote.
@@ -95,18 +101,22 @@ fn plain_and_out(
 ) -> TwoSteps
     ensures { Told (plain_outcome sheet.now third.old) (export_outcome_as strict big (written (plain_outcome sheet.now third.old)) fourth.old) third.old fourth.old third.new fourth.new result }
 {
-    let p = field_calls::plain_form(sheet, third);
-    if p.number != 0 {
-        buffer::clear(fourth);
-        return TwoSteps::FirstRefused(p.number);
-    }
-    let n = buffer::within(p.length, third.len());
-    let z = field_calls::export_as(&third[..n], strict, big, fourth);
-    if z.number != 0 {
-        buffer::clear(third);
-        return TwoSteps::SecondRefused(z.number);
-    }
-    TwoSteps::Written(p.length, z.length)
+    let p = match field_calls::plain_form(sheet, third) {
+        Err(refused) => {
+            buffer::clear(fourth);
+            return TwoSteps::FirstRefused(refused);
+        }
+        Ok(length) => length,
+    };
+    let n = buffer::within(p, third.len());
+    let z = match field_calls::export_as(&third[..n], strict, big, fourth) {
+        Err(refused) => {
+            buffer::clear(third);
+            return TwoSteps::SecondRefused(refused);
+        }
+        Ok(length) => length,
+    };
+    TwoSteps::Written(p, z)
 }
 
 // The export of the sheet, the import of that, the plain form of the sheet, and the export of that, each in its buffer.
@@ -122,22 +132,22 @@ pub fn round_trip(
     ensures { trip_of result (four first.new second.new third.new fourth.new) ≡ round_trip_outcome_as strict big sheet.now (four first.old second.old third.old fourth.old) }
 {
     match out_and_back(sheet, strict, big, first, second) {
-        TwoSteps::FirstRefused(number) => {
+        TwoSteps::FirstRefused(refused) => {
             clear_both(third, fourth);
-            RoundTrip::ExportRefused(number)
+            RoundTrip::ExportRefused(refused)
         }
-        TwoSteps::SecondRefused(number) => {
+        TwoSteps::SecondRefused(refused) => {
             clear_both(third, fourth);
-            RoundTrip::ImportRefused(number)
+            RoundTrip::ImportRefused(refused)
         }
         TwoSteps::Written(x, y) => match plain_and_out(sheet, strict, big, third, fourth) {
-            TwoSteps::FirstRefused(number) => {
+            TwoSteps::FirstRefused(refused) => {
                 clear_both(first, second);
-                RoundTrip::PlainRefused(number)
+                RoundTrip::PlainRefused(refused)
             }
-            TwoSteps::SecondRefused(number) => {
+            TwoSteps::SecondRefused(refused) => {
                 clear_both(first, second);
-                RoundTrip::AgainRefused(number)
+                RoundTrip::AgainRefused(refused)
             }
             TwoSteps::Written(p, z) => {
                 if !same_within(second, y, third, p) {
@@ -156,34 +166,42 @@ pub fn round_trip(
 fn exports(one: &[u8], other: &[u8], big: bool, first: &mut [u8], second: &mut [u8]) -> TwoSteps
     ensures { Told (export_outcome_in big one.now first.old) (export_outcome_in big other.now second.old) first.old second.old first.new second.new result }
 {
-    let x = field_calls::export(one, big, first);
-    if x.number != 0 {
-        buffer::clear(second);
-        return TwoSteps::FirstRefused(x.number);
-    }
-    let y = field_calls::export(other, big, second);
-    if y.number != 0 {
-        buffer::clear(first);
-        return TwoSteps::SecondRefused(y.number);
-    }
-    TwoSteps::Written(x.length, y.length)
+    let x = match field_calls::export(one, big, first) {
+        Err(refused) => {
+            buffer::clear(second);
+            return TwoSteps::FirstRefused(refused);
+        }
+        Ok(length) => length,
+    };
+    let y = match field_calls::export(other, big, second) {
+        Err(refused) => {
+            buffer::clear(first);
+            return TwoSteps::SecondRefused(refused);
+        }
+        Ok(length) => length,
+    };
+    TwoSteps::Written(x, y)
 }
 
 // The plain forms of two sheets.
 fn plains(one: &[u8], other: &[u8], third: &mut [u8], fourth: &mut [u8]) -> TwoSteps
     ensures { Told (plain_outcome one.now third.old) (plain_outcome other.now fourth.old) third.old fourth.old third.new fourth.new result }
 {
-    let p = field_calls::plain_form(one, third);
-    if p.number != 0 {
-        buffer::clear(fourth);
-        return TwoSteps::FirstRefused(p.number);
-    }
-    let z = field_calls::plain_form(other, fourth);
-    if z.number != 0 {
-        buffer::clear(third);
-        return TwoSteps::SecondRefused(z.number);
-    }
-    TwoSteps::Written(p.length, z.length)
+    let p = match field_calls::plain_form(one, third) {
+        Err(refused) => {
+            buffer::clear(fourth);
+            return TwoSteps::FirstRefused(refused);
+        }
+        Ok(length) => length,
+    };
+    let z = match field_calls::plain_form(other, fourth) {
+        Err(refused) => {
+            buffer::clear(third);
+            return TwoSteps::SecondRefused(refused);
+        }
+        Ok(length) => length,
+    };
+    TwoSteps::Written(p, z)
 }
 
 // The exports of two field sheets and their plain forms, each in its buffer, compared.
@@ -199,22 +217,22 @@ pub fn same_exports(
     ensures { pair_of result (four first.new second.new third.new fourth.new) ≡ same_exports_outcome big one.now other.now (four first.old second.old third.old fourth.old) }
 {
     match exports(one, other, big, first, second) {
-        TwoSteps::FirstRefused(number) => {
+        TwoSteps::FirstRefused(refused) => {
             clear_both(third, fourth);
-            SameExports::OneExportRefused(number)
+            SameExports::OneExportRefused(refused)
         }
-        TwoSteps::SecondRefused(number) => {
+        TwoSteps::SecondRefused(refused) => {
             clear_both(third, fourth);
-            SameExports::OtherExportRefused(number)
+            SameExports::OtherExportRefused(refused)
         }
         TwoSteps::Written(x, y) => match plains(one, other, third, fourth) {
-            TwoSteps::FirstRefused(number) => {
+            TwoSteps::FirstRefused(refused) => {
                 clear_both(first, second);
-                SameExports::OnePlainRefused(number)
+                SameExports::OnePlainRefused(refused)
             }
-            TwoSteps::SecondRefused(number) => {
+            TwoSteps::SecondRefused(refused) => {
                 clear_both(first, second);
-                SameExports::OtherPlainRefused(number)
+                SameExports::OtherPlainRefused(refused)
             }
             TwoSteps::Written(p, z) => {
                 let same_exports = same_within(first, x, second, y);

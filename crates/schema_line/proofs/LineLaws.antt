@@ -4,7 +4,7 @@ use mathlib.Core.Path.{◌≡◌, refl, sym, ap, subst, ◌∙◌}
 use mathlib.Core.Bool.{true, true≢false}
 use mathlib.Core.List.{List, [], ◌∷◌, ◌++◌}
 use mathlib.Core.Logic.{◌⊎◌, inl, inr}
-use mathlib.Core.Option.{Option, some}
+use Rattle.std.specs.Prelude.{Option, Some}
 use Prim.Native.Nat.{ℕ, ◌+◌, ◌^◌}
 use native.Mathlib.Omega.{arith}
 use lib.Dec.{ltb}
@@ -131,10 +131,10 @@ module _ (s : Bytes) (at : ℕ) where
   read_only = chain_only (first_line (split 10 (drop at s))) _ (first_only (split 10 (drop at s))) (λ b. chain_only (schema_line.read b) _ (schema_line_only b) (λ x. when_only (line_rule x) (shown_at at x)))
 
   pub read_refused : ((l : SchemaLine) → read_line s at ≡ given l → ⊥) → read_line s at ≡ refused bad_lines
-  read_refused none = pick (read_line s at) refl
+  read_refused None = pick (read_line s at) refl
     where
       pick : (a : Answer SchemaLine) → read_line s at ≡ a → a ≡ refused bad_lines
-      pick (given l) e = absurd (none l e)
+      pick (given l) e = absurd (None l e)
       pick (refused r) e = ap refused (read_only r e)
 
 -- ── column by column

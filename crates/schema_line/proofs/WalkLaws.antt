@@ -1,7 +1,7 @@
 -- A line read column by column, as `read_line` does: a law for each column that can be missing, and one for the line whose columns are all there.
 -- Assumes nothing.
 use mathlib.Core.Path.{◌≡◌, refl, sym}
-use mathlib.Core.Option.{none, some}
+use Rattle.std.specs.Prelude.{None, Some}
 use Prim.Native.Nat.{ℕ, ◌+◌, ◌^◌, ◌≤◌, ◌<◌}
 use native.Mathlib.Omega.{arith}
 use lib.IntN.{ℤ}
@@ -23,24 +23,24 @@ use Rattle.schema_line.proofs.LineLaws.{c_string_of, text_of, Ends, shown, walk,
 use Rattle.schema_line.proofs.KnownLaws.{walk_refused}
 
 module _ (s : Bytes) (at : ℕ) where
-  pub no_format : column_of is_cstring 32 s at ≡ none → read_line s at ≡ refused bad_lines
+  pub no_format : column_of is_cstring 32 s at ≡ None → read_line s at ≡ refused bad_lines
   unfolding walk
   no_format miss = walk_refused s at (rw miss)
 
-  module _ {f : ℕ} (ef : column_of is_cstring 32 s at ≡ some f) where
-    format_is : Finds is_cstring s at 32 (some f)
-    format_is = finds is_cstring s at 32 refl (some f) (sym ef)
+  module _ {f : ℕ} (ef : column_of is_cstring 32 s at ≡ Some f) where
+    format_is : Finds is_cstring s at 32 (Some f)
+    format_is = finds is_cstring s at 32 refl (Some f) (sym ef)
 
     pub format_ends : f < length s
     format_ends = format_is.0.high
 
-    pub no_name : column_of is_cstring 32 s (f + 1) ≡ none → read_line s at ≡ refused bad_lines
+    pub no_name : column_of is_cstring 32 s (f + 1) ≡ None → read_line s at ≡ refused bad_lines
     unfolding walk
     no_name miss = walk_refused s at (rw (ef, miss))
 
-    module _ {n : ℕ} (en : column_of is_cstring 32 s (f + 1) ≡ some n) where
-      name_is_lem : Finds is_cstring s (f + 1) 32 (some n)
-      name_is_lem = finds is_cstring s (f + 1) 32 refl (some n) (sym en)
+    module _ {n : ℕ} (en : column_of is_cstring 32 s (f + 1) ≡ Some n) where
+      name_is_lem : Finds is_cstring s (f + 1) 32 (Some n)
+      name_is_lem = finds is_cstring s (f + 1) 32 refl (Some n) (sym en)
 
       pub name_ends : n < length s
       name_ends = name_is_lem.0.high
@@ -59,13 +59,13 @@ module _ (s : Bytes) (at : ℕ) where
         pub flags_small : mag z < 2 ^ 63
         flags_small = flags_is.2
 
-        pub no_metadata : column_of is_text 32 s (g + 1) ≡ none → read_line s at ≡ refused bad_lines
+        pub no_metadata : column_of is_text 32 s (g + 1) ≡ None → read_line s at ≡ refused bad_lines
         unfolding walk
         no_metadata miss = walk_refused s at (rw (ef, en, eg, miss))
 
-        module _ {m : ℕ} (em : column_of is_text 32 s (g + 1) ≡ some m) where
-          metadata_is : Finds is_text s (g + 1) 32 (some m)
-          metadata_is = finds is_text s (g + 1) 32 refl (some m) (sym em)
+        module _ {m : ℕ} (em : column_of is_text 32 s (g + 1) ≡ Some m) where
+          metadata_is : Finds is_text s (g + 1) 32 (Some m)
+          metadata_is = finds is_text s (g + 1) 32 refl (Some m) (sym em)
 
           pub metadata_ends : m < length s
           metadata_ends = metadata_is.0.high

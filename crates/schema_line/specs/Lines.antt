@@ -1,6 +1,5 @@
 -- A line of a schema sheet at a place of the sheet: what it says, and what `SchemaLine` shows of it. Assumes nothing.
-use Rattle.std.specs.Prelude.{◌≡◌, List, [], ◌∷◌, ◌++◌, ℕ, ◌+◌, ◌^◌, ◌≤◌, ◌<◌, ltb, length, drop}
-use Rattle.std.proofs.Math.Option.{Option}
+use Rattle.std.specs.Prelude.{◌≡◌, List, [], ◌∷◌, ◌++◌, ℕ, ◌+◌, ◌^◌, ◌≤◌, ◌<◌, ltb, length, drop, Option, Some, None}
 use Rattle.sheets.specs.Refusal.{bad_lines}
 use Rattle.sheets.specs.Rule.{Rule, is, ◌and◌, Meets}
 use Rattle.sheets.specs.Bytes.{Bytes, line_end, lacks, split}
@@ -10,8 +9,6 @@ use Rattle.sheets.specs.Text.{write_text, read_text}
 use Rattle.sheets.specs.Schema.{Line, node_of, children_of, dictionary_of, schema_line, node_rule}
 use Rattle.columns.specs.Columns.{part, part_of}
 use Rattle.schema_line.specs.declared.SchemaLine.{SchemaLine}
-use Rattle.schema_line.specs.declared.read.LineRead.{LineRead}
-use Rattle.schema_line.specs.declared.read.LineRead.TheVariants.{Line as Good, Bad}
 
 -- ── the line that stands at a place
 
@@ -50,11 +47,6 @@ read_line s at = do
   b ← first_line (split line_end (drop at s))
   x ← schema_line.read b
   when bad_lines (line_rule x) (shown_at at x)
-
--- what `LineRead` says
-abbrev pub line_answer : LineRead → Answer SchemaLine
-line_answer (Good l) = given l
-line_answer Bad = refused bad_lines
 
 -- ── what is known of a line that stands
 

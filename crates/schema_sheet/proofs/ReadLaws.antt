@@ -1,12 +1,13 @@
 -- Reading a tree by its line and its row of subtrees, and a row by one tree after the other (`TreeWalks`), for the line that `read_line` shows and the
 -- answers of `read_tree` and `read_row`; and two rows that adjoin are one (`reads_both`). Assumes nothing.
+use Rattle.std.specs.Prelude.{Ok, Err}
 use mathlib.Core.Path.{◌≡◌, refl, sym, subst, ◌∙◌}
 use mathlib.Core.Logic.{inl, inr}
 use mathlib.Core.List.{List, [], ◌∷◌, ◌++◌, append_assoc}
 use Prim.Native.Nat.{ℕ, ◌+◌, ◌-◌, ◌^◌, ◌≤◌, ◌<◌}
 use native.Mathlib.Omega.{arith}
 use lib.ListN.{length, take, drop, take-append-drop, length-append, length-take, length-drop}
-use Rattle.sheets.specs.Refusal.{bad_lines, too_deep}
+use Rattle.sheets.specs.Refusal.{Refusal, bad_lines, too_deep}
 use Rattle.sheets.specs.Bytes.{Bytes}
 use Rattle.sheets.specs.Answer.{refused, given}
 use Rattle.sheets.specs.Schema.{Schema, schema, schema_levels}
@@ -15,7 +16,7 @@ use Rattle.sheets.specs.LineTrees.{tallest}
 use Rattle.sheets.specs.TreeWalks.{TreeTo, TreeDeep, RowTo, RowDeep, RowEnds, RowBad}
 use Rattle.sheets.proofs.LineTrees.{tallest_append}
 use Rattle.sheets.proofs.FormLaws.{schemas_lawful, standing_row}
-use Rattle.sheets.proofs.TreeWalks.{counted, told_deep, told_bad, below_to, below_deep, below_ends, below_bad, below_none}
+use Rattle.sheets.proofs.TreeWalks.{counted, below_to, below_deep, below_ends, below_bad, below_none}
 use Rattle.sheets.proofs.TreeWalks as Walks
 use Rattle.schema_line.specs.declared.SchemaLine.{SchemaLine}
 use Rattle.schema_line.specs.Lines.{read_line, LineAt}
@@ -23,9 +24,9 @@ use Rattle.schema_line.proofs.LineLaws.{line_walks}
 use Rattle.schema_line.proofs.KnownLaws.{line_refused}
 use Rattle.leaf_line.specs.Short.{short_line}
 use Rattle.leaf_line.specs.Leaf.{LeafAt}
-use Rattle.schema_sheet.specs.Trees.{tree_answer, ReadsTree, ReadsRow}
-use Rattle.schema_sheet.specs.declared.trees.TreeRead.{TreeRead}
-use Rattle.schema_sheet.specs.declared.trees.TreeRead.TheVariants as Read
+use Rattle.refusal.specs.declared.Refusal.{Refusal as Code}
+use Rattle.refusal.specs.Refusals.{Refusing, answer_of}
+use Rattle.schema_sheet.specs.Trees.{ReadsTree, ReadsRow}
 
 -- ── a tree
 
@@ -54,13 +55,13 @@ module _ {s : Bytes} {at : ℕ} (l : SchemaLine) (k : LineAt s at l) where
   pub tree_many : length s - l.end < l.children → (levels : ℕ) → ReadsTree s at levels (refused bad_lines)
   tree_many h levels = inr (refl, below_none schemas_lawful (line_walks k) (omega (arith, line_count)))
 
-  pub tree_read : (levels : ℕ) → 0 < levels → (n : ℕ) → n ≡ l.dictionary + l.children → (r : TreeRead) → ReadsRow s l.end n (levels - 1) (tree_answer r) → ReadsTree s at levels (tree_answer r)
-  tree_read levels some n many (Read.To next) g = (
+  pub tree_read : (levels : ℕ) → 0 < levels → (n : ℕ) → n ≡ l.dictionary + l.children → (r : Refusing ℕ) → ReadsRow s l.end n (levels - 1) (answer_of r) → ReadsTree s at levels (answer_of r)
+  tree_read levels some n many (Ok next) g = (
     below_ends schemas_lawful (line_walks k) next (subst (λ (c : ℕ). RowEnds schemas s l.end tt c next) (omega (arith, line_count)) g.0),
     row_to levels some n (omega arith) next g.1,
   )
-  tree_read levels some n many Read.Deep g = inl (refl, row_deep levels some n (omega arith) (told_deep g))
-  tree_read levels some n many Read.Bad g = inr (refl, below_bad schemas_lawful (line_walks k) (subst (RowBad schemas s l.end tt) (omega (arith, line_count)) (told_bad g)))
+  tree_read levels some n many (Err q) (inl g) = inl (g.0, row_deep levels some n (omega arith) g.1)
+  tree_read levels some n many (Err q) (inr g) = inr (g.0, below_bad schemas_lawful (line_walks k) (subst (RowBad schemas s l.end tt) (omega (arith, line_count)) g.1))
 
 -- ── a row
 
@@ -71,18 +72,13 @@ Reading s at count levels here due = Walks.Reading schemas_lawful s at tt tt cou
 pub reading_none : (s : Bytes) (at count levels : ℕ) → at ≤ length s → Reading s at count levels at count
 reading_none s at count levels h = Walks.reading_none schemas_lawful s at tt tt count levels h (inl refl)
 
-module _ {s : Bytes} {at count levels here due : ℕ} (g : Reading s at count levels here due) (some : 0 < due) (r : TreeRead) (h : ReadsTree s here levels (tree_answer r)) where
-  told : (q : TreeRead) → r ≡ q → ReadsTree s here levels (tree_answer q)
-  told q e = subst (λ (x : TreeRead). ReadsTree s here levels (tree_answer x)) e h
+module _ {s : Bytes} {at count levels here due : ℕ} (g : Reading s at count levels here due) (some : 0 < due) where
+  pub reading_refused : {r : Refusal} → ReadsTree s here levels (refused r) → ReadsRow s at count levels (refused r)
+  reading_refused (inl h) = inl (h.0, Walks.reading_deep schemas_lawful g some h.1)
+  reading_refused (inr h) = inr (h.0, Walks.reading_bad schemas_lawful g some h.1)
 
-  pub reading_deep : r ≡ Read.Deep → ReadsRow s at count levels (refused too_deep)
-  reading_deep e = inl (refl, Walks.reading_deep schemas_lawful g some (told_deep (told Read.Deep e)))
-
-  pub reading_bad : r ≡ Read.Bad → ReadsRow s at count levels (refused bad_lines)
-  reading_bad e = inr (refl, Walks.reading_bad schemas_lawful g some (told_bad (told Read.Bad e)))
-
-  pub reading_more : (next : ℕ) → r ≡ Read.To next → Reading s at count levels next (due - 1)
-  reading_more next e = let t = told (Read.To next) e in Walks.reading_more schemas_lawful g some next t.0 t.1
+  pub reading_more : {next : ℕ} → ReadsTree s here levels (given next) → Reading s at count levels next (due - 1)
+  reading_more {next} t = Walks.reading_more schemas_lawful g some next t.0 t.1
 
 pub reading_all : {s : Bytes} {at count levels here due : ℕ} → Reading s at count levels here due → due ≤ 0 → ReadsRow s at count levels (given here)
 reading_all g none = (Walks.reading_ends schemas_lawful g none, Walks.reading_to schemas_lawful g none)
@@ -98,17 +94,14 @@ row_one s at levels next past (ends, to) =
 
 -- trees that stand are read
 pub reads_standing : (s : Bytes) (at count levels : ℕ) (us ts : List Schema) → Standing (drop at s) (us ++ ts) → length us ≡ count → tallest schema_levels us ≤ levels
-    → (r : TreeRead) → ReadsRow s at count levels (tree_answer r) → (next : ℕ) × (r ≡ Read.To next)
-reads_standing s at count levels us ts d n low (Read.To next) h = (next, refl)
-reads_standing s at count levels us ts d n low Read.Deep h = absurd (omega (arith, low, told_deep h us ts d n))
-reads_standing s at count levels us ts d n low Read.Bad h = absurd (told_bad h (length ts) (counted (omega (arith, length-append us ts)) (standing_row d)))
+    → (r : Refusing ℕ) → ReadsRow s at count levels (answer_of r) → (next : ℕ) × (r ≡ Ok next)
+reads_standing s at count levels us ts d n low (Ok next) h = (next, refl)
+reads_standing s at count levels us ts d n low (Err q) (inl h) = absurd (omega (arith, low, h.1 us ts d n))
+reads_standing s at count levels us ts d n low (Err q) (inr h) = absurd (h.1 (length ts) (counted (omega (arith, length-append us ts)) (standing_row d)))
 
--- what is read is neither too deep nor bad
-pub read_low : (r : TreeRead) → (next : ℕ) × (r ≡ Read.To next) → r ≡ Read.Deep → ⊥
-read_low r (next, e) d = let z : ◌≡◌ {A = ℕ} 0 1 = cc in omega arith
-
-pub read_good : (r : TreeRead) → (next : ℕ) × (r ≡ Read.To next) → r ≡ Read.Bad → ⊥
-read_good r (next, e) d = let z : ◌≡◌ {A = ℕ} 0 1 = cc in omega arith
+-- what is read is not refused
+pub read_good : {r : Refusing ℕ} {q : Code} → (next : ℕ) × (r ≡ Ok next) → r ≡ Err q → ⊥
+read_good (next, e) d = let z : ◌≡◌ {A = ℕ} 0 1 = cc in omega arith
 
 -- two rows that adjoin are one
 module _ (s : Bytes) (at a mid b next levels : ℕ) (first : ReadsRow s at a levels (given mid)) (second : ReadsRow s mid b levels (given next)) where
@@ -135,4 +128,4 @@ module _ (s : Bytes) (at a mid b next levels : ℕ) (first : ReadsRow s at a lev
 -- a leaf's line is a tree
 pub leaf_read : {s : Bytes} {at kind e flags : ℕ} → LeafAt s at kind e flags → (levels : ℕ) → 0 < levels → ReadsTree s at levels (given (e + 9))
 leaf_read {s} {at} {kind} {e} {flags} k levels some =
-    tree_read (short_line 2 at e flags 0) k.line levels some 0 refl (Read.To (e + 9)) (reading_all (reading_none s (e + 9) 0 (levels - 1) k.high) (omega arith))
+    tree_read (short_line 2 at e flags 0) k.line levels some 0 refl (Ok (e + 9)) (reading_all (reading_none s (e + 9) 0 (levels - 1) k.high) (omega arith))

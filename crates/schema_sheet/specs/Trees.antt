@@ -5,14 +5,6 @@ use Rattle.sheets.specs.Bytes.{Bytes}
 use Rattle.sheets.specs.Answer.{Answer, refused, given}
 use Rattle.sheets.specs.SchemaTrees.{schemas, Row}
 use Rattle.sheets.specs.TreeWalks.{TreeTo, TreeDeep, TreeEnds, TreeBad, RowTo, RowDeep, RowEnds, RowBad}
-use Rattle.schema_sheet.specs.declared.trees.TreeRead.{TreeRead}
-use Rattle.schema_sheet.specs.declared.trees.TreeRead.TheVariants.{To, Deep, Bad}
-
--- what `TreeRead` says
-abbrev pub tree_answer : TreeRead → Answer ℕ
-tree_answer (To next) = given next
-tree_answer Deep = refused too_deep
-tree_answer Bad = refused bad_lines
 
 -- whether one tree stands here, and nothing after it
 abbrev pub Forms : Bytes → ℕ → Bool → Type 0

@@ -5,7 +5,7 @@
 use mathlib.Core.Path.{◌≡◌, refl, sym, ap, subst}
 use mathlib.Core.Bool.{Bool, true, false, ◌||◌, cond}
 use mathlib.Core.List.{List, [], ◌∷◌}
-use mathlib.Core.Option.{Option, none, some}
+use Rattle.std.specs.Prelude.{Option, None, Some}
 use Prim.Native.Nat.{ℕ, zero, suc, ◌^◌, ◌≤◌}
 use native.Mathlib.Omega.{arith}
 use lib.Dec.{eqb, leb, ltb}
@@ -102,12 +102,12 @@ cut_bad h r =
     (only_refused producer_numbers unsupported_format refl)))))))))
 
 other_bad : (o : Option (Bytes × Bytes)) → Producers (read_other o)
-other_bad none = only_refused producer_numbers unsupported_format refl
-other_bad (some hr) = cut_bad hr.0 hr.1
+other_bad None = only_refused producer_numbers unsupported_format refl
+other_bad (Some hr) = cut_bad hr.0 hr.1
 
 named_bad : (o : Option FormatRow) (other : Answer Format) → Producers other → Producers (read_named o other)
-named_bad none other h = h
-named_bad (some r) other h = gives _
+named_bad None other h = h
+named_bad (Some r) other h = gives _
 
 format_bad : (sorted : Bool) (f : Bytes) → Producers (read_format sorted f)
 format_bad sorted f =
@@ -136,18 +136,18 @@ module _ (big : Bool) where
   pairs_bad (suc n) bs = then (take_text big bs) _ (text_bad bs) (λ k. then (take_text big k.1) _ (text_bad k.1) (λ v. then (take_pairs big n v.1) _ (pairs_bad n v.1) (λ ps. gives _)))
 
   metadata_bad : (m : Option Bytes) → Producers (metadata_from_bytes big m)
-  metadata_bad none = gives _
-  metadata_bad (some b) = then (read_block big b) _ (then (cut_at 4 b) _ (bytes_bad 4 b) (λ y. pairs_bad (count_of (value32 big y.0)) y.1)) (λ ps. gives _)
+  metadata_bad None = gives _
+  metadata_bad (Some b) = then (read_block big b) _ (then (cut_at 4 b) _ (bytes_bad 4 b) (λ y. pairs_bad (count_of (value32 big y.0)) y.1)) (λ ps. gives _)
 
 -- its texts
 
 format_text_bad : (f : Option Bytes) → Producers (format_text f)
-format_text_bad none = only_refused producer_numbers null_format refl
-format_text_bad (some b) = only_when producer_numbers not_utf8 refl (is (is_utf8 b)) b
+format_text_bad None = only_refused producer_numbers null_format refl
+format_text_bad (Some b) = only_when producer_numbers not_utf8 refl (is (is_utf8 b)) b
 
 name_text_bad : (n : Option Bytes) → Producers (name_text n)
-name_text_bad none = gives []
-name_text_bad (some b) = only_when producer_numbers not_utf8 refl (is (is_utf8 b)) b
+name_text_bad None = gives []
+name_text_bad (Some b) = only_when producer_numbers not_utf8 refl (is (is_utf8 b)) b
 
 -- its tree
 
@@ -156,8 +156,8 @@ EachBad [] = Unit {0}
 EachBad (f ∷ fs) = Producers f × EachBad fs
 
 abbrev ValuesBad : Option (Answer Field) → Type 0
-ValuesBad none = Unit {0}
-ValuesBad (some a) = Producers a
+ValuesBad None = Unit {0}
+ValuesBad (Some a) = Producers a
 
 first_bad : (fs : List (Answer Field)) → EachBad fs → Producers (first_of fs)
 first_bad [] h = only_refused producer_numbers no_child refl
@@ -173,8 +173,8 @@ type_bad (of_nesting n) fs h = then (first_of fs) _ (first_bad fs h) (λ f. give
 type_bad (of_grouping g) fs h = then (all_of fs) _ (all_bad fs h) (λ all. gives _)
 
 dtype_bad : (f : Bytes) (flags : ℤ) (fs : List (Answer Field)) (values : Option (Answer Field)) → EachBad fs → ValuesBad values → Producers (to_dtype f flags fs values)
-dtype_bad f flags fs none h k = then (read_format (is_sorted flags) f) _ (format_bad (is_sorted flags) f) (λ g. type_bad g fs h)
-dtype_bad f flags fs (some values) h k = then (to_integer_type f) _ (index_numbers producer_numbers refl f) (λ ix. then values _ k (λ v. gives _))
+dtype_bad f flags fs None h k = then (read_format (is_sorted flags) f) _ (format_bad (is_sorted flags) f) (λ g. type_bad g fs h)
+dtype_bad f flags fs (Some values) h k = then (to_integer_type f) _ (index_numbers producer_numbers refl f) (λ ix. then values _ k (λ v. gives _))
 
 module _ (big : Bool) where
   node_bad : (n : Node) (fs : List (Answer Field)) (values : Option (Answer Field)) → EachBad fs → ValuesBad values → Producers (to_field_node big n fs values)

@@ -3,7 +3,7 @@
 use mathlib.Core.Path.{refl}
 use mathlib.Core.Bool.{Bool, true, false}
 use mathlib.Core.List.{List, [], ◌∷◌}
-use mathlib.Core.Option.{Option, none, some}
+use Rattle.std.specs.Prelude.{Option, None, Some}
 use Prim.Native.Nat.{ℕ}
 use Rattle.sheets.specs.Rule.{Rule, Meets}
 use Rattle.sheets.specs.Field.{Pair, Info, ArrowDataType, scalar, nested, grouped, dictionary, extension, Fields, nil, add, Field}
@@ -58,9 +58,9 @@ free_each f h = let r = type_each own_keys narrow_index f.type h.1 in ((h.0, r.0
 -- ── the plain form
 
 keys_keep : (ps : Option (List Pair)) → Meets (no_reserved (or_none ps)) → Meets (no_reserved (or_none (plain_pairs ps)))
-keys_keep none h = h
-keys_keep (some []) h = h
-keys_keep (some (p ∷ ps)) h = h
+keys_keep None h = h
+keys_keep (Some []) h = h
+keys_keep (Some (p ∷ ps)) h = h
 
 mutual
   -- a dictionary directly under an extension becomes its index type, which has no index

@@ -4,7 +4,7 @@
 use mathlib.Core.Path.{◌≡◌, refl}
 use mathlib.Core.Bool.{Bool, true, false}
 use mathlib.Core.List.{[], ◌∷◌}
-use mathlib.Core.Option.{none, some}
+use Rattle.std.specs.Prelude.{None, Some}
 use lib.ListN.{length, replicate}
 use borrow.Author.Tests.{leb-true}
 use Rattle.sheets.specs.Number.{decimal}
@@ -36,12 +36,12 @@ plain_text = ascii "kind p q text more name nullable pairs children\n30 0 0 ~ ~ 
 abbrev pub the_field : Field
 the_field =
     record {
-      info = record { name = ascii "s"; nullable = true; pairs = some [] };
+      info = record { name = ascii "s"; nullable = true; pairs = Some [] };
       type =
           grouped struct
-          (add (record { name = ascii "a"; nullable = false; pairs = some ((ascii "k", ascii "v") ∷ []) })
-          (extension (ascii "e") none (extension (ascii "f") (some []) (dictionary IntegerType.Int32 true (scalar (leaf Kind.Utf8 0)))))
-          (add (record { name = ascii "b"; nullable = false; pairs = none }) (scalar (timestamp nanosecond (some []))) nil));
+          (add (record { name = ascii "a"; nullable = false; pairs = Some ((ascii "k", ascii "v") ∷ []) })
+          (extension (ascii "e") None (extension (ascii "f") (Some []) (dictionary IntegerType.Int32 true (scalar (leaf Kind.Utf8 0)))))
+          (add (record { name = ascii "b"; nullable = false; pairs = None }) (scalar (timestamp nanosecond (Some []))) nil));
     }
 
 -- a buffer of 999 bytes that held sevens

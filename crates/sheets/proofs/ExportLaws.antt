@@ -3,7 +3,7 @@
 use mathlib.Core.Path.{◌≡◌, refl, subst}
 use mathlib.Core.Bool.{Bool, true, false}
 use mathlib.Core.List.{List, [], ◌∷◌, ◌++◌}
-use mathlib.Core.Option.{Option, none, some}
+use Rattle.std.specs.Prelude.{Option, None, Some}
 use Prim.Native.Nat.{ℕ, suc, ◌+◌, ◌^◌, ◌≤◌}
 use native.Mathlib.Omega.{arith}
 use lib.ListN.{length}
@@ -47,8 +47,8 @@ module _ (big : Bool) where
   plain_bytes (p ∷ ps) h = block_bytes (p ∷ ps) h
 
   metadata_bytes : (i : Info) (e : Option Extension) → Meets (info_rule i) → Meets (extension_rule e) → Meets (bytes_rule (schema_metadata big i.pairs e))
-  metadata_bytes i none h x = plain_bytes (or_none i.pairs) (pairs_text_lem (or_none i.pairs) (pairs_ordered i.pairs h.1))
-  metadata_bytes i (some e) h x =
+  metadata_bytes i None h x = plain_bytes (or_none i.pairs) (pairs_text_lem (or_none i.pairs) (pairs_ordered i.pairs h.1))
+  metadata_bytes i (Some e) h x =
       block_bytes (insert_over (name_key, e.0) (with_metadata e.1 (or_none i.pairs))) (all_text e (or_none i.pairs) x (pairs_text_lem (or_none i.pairs) (pairs_ordered i.pairs h.1)))
 
 -- ── the flags fit
@@ -118,44 +118,44 @@ module _ (big : Bool) where
         let q = first_gave (scalar_format c) (λ f. schema_node big i e f 0 end absent) s g in
         node_good big i e q.0 0 end absent s 0 (utf8_scalar c q.0 h q.1) hi x (omega arith) (no_children 0) (no_dictionary 0) q.2
     type_good (nested n j t) i e s h hi x g =
-        let q = first_gave (schema_new_of big t j none) (λ c. schema_node big i e (nesting_format n) (sorted_flag n) (c & end) absent) s g in
+        let q = first_gave (schema_new_of big t j None) (λ c. schema_node big i e (nesting_format n) (sorted_flag n) (c & end) absent) s g in
         node_good big i e (nesting_format n) (sorted_flag n) (q.0 & end) absent s (type_levels t false) (utf8_nesting n) hi x (sorted_small n)
-        (one_child_lem (type_good t j none q.0 h.1.1 h.1.0 refl q.1)) (no_dictionary (type_levels t false)) q.2
+        (one_child_lem (type_good t j None q.0 h.1.1 h.1.0 refl q.1)) (no_dictionary (type_levels t false)) q.2
     type_good (grouped c fs) i e s h hi x g =
         let q = first_gave (grouping_format c (count_fields fs)) (λ f. schema_children big fs >>= λ cs. schema_node big i e f 0 cs absent) s g in
         let p = first_gave (schema_children big fs) (λ cs. schema_node big i e q.0 0 cs absent) s q.2 in
         node_good big i e q.0 0 p.0 absent s (fields_levels fs) (utf8_grouping c (count_fields fs) q.0 q.1) hi x (omega arith)
         (fields_good fs p.0 h.1 p.1) (no_dictionary (fields_levels fs)) p.2
-    type_good (dictionary ix ordered t) i none s h hi x g =
-        let q = first_gave (index_format ix) (λ f. schema_new_of big t values_info none >>= λ d. schema_node big i none f (flag ordered 1) end (present d)) s g in
-        let p = first_gave (schema_new_of big t values_info none) (λ d. schema_node big i none q.0 (flag ordered 1) end (present d)) s q.2 in
-        node_good big i none q.0 (flag ordered 1) end (present p.0) s (type_levels t false) (utf8_scalar (leaf (ix + 2) 0) q.0 (index_leaf ix h.0) q.1) hi x (omega (arith, flag_small ordered 1))
-        (no_children (type_levels t false)) (a_dictionary (type_good t values_info none p.0 h.1 values_rule refl p.1)) p.2
-    type_good (dictionary ix ordered t) i (some e) s h hi x g =
-        let q = first_gave (index_format ix) (λ f. schema_node big i (some e) f 0 end absent) s g in
+    type_good (dictionary ix ordered t) i None s h hi x g =
+        let q = first_gave (index_format ix) (λ f. schema_new_of big t values_info None >>= λ d. schema_node big i None f (flag ordered 1) end (present d)) s g in
+        let p = first_gave (schema_new_of big t values_info None) (λ d. schema_node big i None q.0 (flag ordered 1) end (present d)) s q.2 in
+        node_good big i None q.0 (flag ordered 1) end (present p.0) s (type_levels t false) (utf8_scalar (leaf (ix + 2) 0) q.0 (index_leaf ix h.0) q.1) hi x (omega (arith, flag_small ordered 1))
+        (no_children (type_levels t false)) (a_dictionary (type_good t values_info None p.0 h.1 values_rule refl p.1)) p.2
+    type_good (dictionary ix ordered t) i (Some e) s h hi x g =
+        let q = first_gave (index_format ix) (λ f. schema_node big i (Some e) f 0 end absent) s g in
         deeper (omega arith)
-        (node_good big i (some e) q.0 0 end absent s 0 (utf8_scalar (leaf (ix + 2) 0) q.0 (index_leaf ix h.0) q.1) hi x (omega arith) (no_children 0) (no_dictionary 0) q.2)
-    type_good (extension n m t) i none s h hi x g = type_good t i (some (n, m)) s h.1.1 hi (h.0, h.1.0) g
-    type_good (extension n m t) i (some e) s h hi x g = deeper (omega arith) (type_good t i (some e) s h.1.1 hi x g)
+        (node_good big i (Some e) q.0 0 end absent s 0 (utf8_scalar (leaf (ix + 2) 0) q.0 (index_leaf ix h.0) q.1) hi x (omega arith) (no_children 0) (no_dictionary 0) q.2)
+    type_good (extension n m t) i None s h hi x g = type_good t i (Some (n, m)) s h.1.1 hi (h.0, h.1.0) g
+    type_good (extension n m t) i (Some e) s h hi x g = deeper (omega arith) (type_good t i (Some e) s h.1.1 hi x g)
 
     fields_good : (fs : Fields) (cs : Schemas) → Meets (fields_rule fs) → schema_children big fs ≡ given cs → GoodAll (fields_levels fs) cs
     fields_good nil cs h g =
         let e : end ≡ cs = cc in
         subst (GoodAll 0) e (no_children 0)
     fields_good (add i t fs) cs h g =
-        let q = first_gave (schema_new_of big t i none) (λ c. schema_children big fs >>= λ r. given (c & r)) cs g in
+        let q = first_gave (schema_new_of big t i None) (λ c. schema_children big fs >>= λ r. given (c & r)) cs g in
         let p = first_gave (schema_children big fs) (λ r. given (q.0 & r)) cs q.2 in
         let e : q.0 & p.0 ≡ cs = cc in
-        let a = type_good t i none q.0 h.1.0 h.0 refl q.1 in
+        let a = type_good t i None q.0 h.1.0 h.0 refl q.1 in
         let b = fields_good fs p.0 h.1.1 p.1 in
         subst (GoodAll (fields_levels (add i t fs))) e
         (record { rule = (a.rule, b.rule); bytes = (a.bytes, b.bytes); flags = (a.flags, b.flags); depth = omega (arith, a.depth, b.depth) })
 
   pub export_good : (f : Field) (s : Schema) → Meets (field_rule f) → schema_new big f ≡ given s → Meets (schema_rule s) × Meets (schema_bytes s) × (schema_levels s ≤ field_levels f)
   export_good f s h g =
-      let a = type_good f.type f.info none s h.1 h.0 refl g in
+      let a = type_good f.type f.info None s h.1 h.0 refl g in
       (a.rule, a.bytes, a.depth)
 
   -- document 02, #102: "Every line that export writes has flags from 0 to 7"
   pub export_flags : (f : Field) (s : Schema) → Meets (field_rule f) → schema_new big f ≡ given s → Meets (each_node few_flags s)
-  export_flags f s h g = (type_good f.type f.info none s h.1 h.0 refl g).flags
+  export_flags f s h g = (type_good f.type f.info None s h.1 h.0 refl g).flags

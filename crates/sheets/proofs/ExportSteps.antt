@@ -3,7 +3,7 @@
 use mathlib.Core.Path.{◌≡◌, refl, sym, ◌∙◌, ap, subst}
 use mathlib.Core.Bool.{Bool, true, false}
 use mathlib.Core.List.{List, [], ◌++◌, append-nil}
-use mathlib.Core.Option.{Option, none, some}
+use Rattle.std.specs.Prelude.{Option, None, Some}
 use Prim.Native.Nat.{ℕ, suc}
 use native.Mathlib.Omega.{arith}
 use lib.ListN.{length, length-append}
@@ -56,9 +56,9 @@ module _ (big : Bool) where
   over_child_lem i e f x (given c) = own_written_lem i e f x (c & end) absent (schema_lines c) (append-nil (schema_lines c ++ []) ∙ append-nil (schema_lines c))
 
   over_values_lem : (i : Info) (f : Bytes) (x : ℕ) (a : Answer Schema)
-      → ((a >>= λ s. given (schema_lines s)) >>= λ b. schema_own big i none f x 0 1 >>= λ o. given (o ++ b)) ≡ ((a >>= λ d. schema_node big i none f x end (present d)) >>= λ s. given (schema_lines s))
+      → ((a >>= λ s. given (schema_lines s)) >>= λ b. schema_own big i None f x 0 1 >>= λ o. given (o ++ b)) ≡ ((a >>= λ d. schema_node big i None f x end (present d)) >>= λ s. given (schema_lines s))
   over_values_lem i f x (refused r) = refl
-  over_values_lem i f x (given d) = own_written_lem i none f x end (present d) (schema_lines d) refl
+  over_values_lem i f x (given d) = own_written_lem i None f x end (present d) (schema_lines d) refl
 
   over_children : (i : Info) (e : Option Extension) (f : Bytes) (n : ℕ) (cs : Schemas) → count_schemas cs ≡ n
       → (schema_node big i e f 0 cs absent >>= λ s. given (schema_lines s)) ≡ (schema_own big i e f 0 n 0 >>= λ o. given (o ++ children_lines cs))
@@ -70,49 +70,49 @@ module _ (big : Bool) where
     pub type_exported : (t : ArrowDataType) (i : Option Info) (u : Option Bearer) → type_walk (schema_step big) t i u ≡ schema_written big t (info_of u i) (extension_of u)
     type_exported (scalar s) i u = alone (info_of u i) (extension_of u) (λ τ. given []) [] (scalar_format s)
     type_exported (nested n j t) i u =
-        ap (λ (m : Answer (List Bytes)). m >>= λ b. schema_own big (info_of u i) (extension_of u) (nesting_format n) (sorted_flag n) 1 0 >>= λ o. given (o ++ b)) (type_exported t (some j) none)
-        ∙ over_child_lem (info_of u i) (extension_of u) (nesting_format n) (sorted_flag n) (schema_new_of big t j none)
+        ap (λ (m : Answer (List Bytes)). m >>= λ b. schema_own big (info_of u i) (extension_of u) (nesting_format n) (sorted_flag n) 1 0 >>= λ o. given (o ++ b)) (type_exported t (Some j) None)
+        ∙ over_child_lem (info_of u i) (extension_of u) (nesting_format n) (sorted_flag n) (schema_new_of big t j None)
     type_exported (grouped g fs) i u = format (grouping_format g (count_fields fs)) (λ h k same. fields_exported fs h k same)
       where
-        format : (a : Answer Bytes) → ((h : Schemas → Answer (List Bytes)) (k : List Bytes → Answer (List Bytes)) → ((cs : Schemas) → count_schemas cs ≡ count_fields fs → h cs ≡ k (children_lines cs)) → (fields_walk (schema_step big) fs none >>= k) ≡ (schema_children big fs >>= h))
-            → line_written (a >>= λ f. given (writes (schema_own big (info_of u i) (extension_of u) f 0 (count_fields fs) 0) (visit none))) (λ τ. fields_walk (schema_step big) fs τ) (fields_lines fs)
+        format : (a : Answer Bytes) → ((h : Schemas → Answer (List Bytes)) (k : List Bytes → Answer (List Bytes)) → ((cs : Schemas) → count_schemas cs ≡ count_fields fs → h cs ≡ k (children_lines cs)) → (fields_walk (schema_step big) fs None >>= k) ≡ (schema_children big fs >>= h))
+            → line_written (a >>= λ f. given (writes (schema_own big (info_of u i) (extension_of u) f 0 (count_fields fs) 0) (visit None))) (λ τ. fields_walk (schema_step big) fs τ) (fields_lines fs)
             ≡ ((a >>= λ f. schema_children big fs >>= λ cs. schema_node big (info_of u i) (extension_of u) f 0 cs absent) >>= λ s. given (schema_lines s))
         format (refused r) next = refl
         format (given f) next =
             next (λ cs. schema_node big (info_of u i) (extension_of u) f 0 cs absent >>= λ s. given (schema_lines s)) (λ b. schema_own big (info_of u i) (extension_of u) f 0 (count_fields fs) 0 >>= λ o. given (o ++ b))
             (λ cs e. over_children (info_of u i) (extension_of u) f (count_fields fs) cs e)
             ∙ sym (chained (schema_children big fs) (λ cs. schema_node big (info_of u i) (extension_of u) f 0 cs absent) (λ s. given (schema_lines s)))
-    type_exported (dictionary ix ordered t) i none = format (index_format ix) (type_exported t none none)
+    type_exported (dictionary ix ordered t) i None = format (index_format ix) (type_exported t None None)
       where
-        format : (a : Answer Bytes) → type_walk (schema_step big) t none none ≡ schema_written big t values_info none
-            → line_written (a >>= λ f. given (writes (schema_own big (or_values i) none f (flag ordered ORDERED) 0 1) (visit none))) (λ τ. type_walk (schema_step big) t none τ) (type_lines t none)
-            ≡ ((a >>= λ f. schema_new_of big t values_info none >>= λ d. schema_node big (or_values i) none f (flag ordered ORDERED) end (present d)) >>= λ s. given (schema_lines s))
+        format : (a : Answer Bytes) → type_walk (schema_step big) t None None ≡ schema_written big t values_info None
+            → line_written (a >>= λ f. given (writes (schema_own big (or_values i) None f (flag ordered ORDERED) 0 1) (visit None))) (λ τ. type_walk (schema_step big) t None τ) (type_lines t None)
+            ≡ ((a >>= λ f. schema_new_of big t values_info None >>= λ d. schema_node big (or_values i) None f (flag ordered ORDERED) end (present d)) >>= λ s. given (schema_lines s))
         format (refused r) next = refl
         format (given f) next =
-            ap (λ (m : Answer (List Bytes)). m >>= λ b. schema_own big (or_values i) none f (flag ordered ORDERED) 0 1 >>= λ o. given (o ++ b)) next
-            ∙ over_values_lem (or_values i) f (flag ordered ORDERED) (schema_new_of big t values_info none)
-    type_exported (dictionary ix ordered t) i (some w) = alone w.info (some w.extension) (λ τ. type_walk (schema_step big) t none τ) (type_lines t none) (index_format ix)
-    type_exported (extension n m t) i u = nothing_own (type_walk (schema_step big) t none (some (record { info = info_of u i; extension = outermost (extension_of u) (n, m) })))
-        ∙ type_exported t none (some (record { info = info_of u i; extension = outermost (extension_of u) (n, m) }))
+            ap (λ (m : Answer (List Bytes)). m >>= λ b. schema_own big (or_values i) None f (flag ordered ORDERED) 0 1 >>= λ o. given (o ++ b)) next
+            ∙ over_values_lem (or_values i) f (flag ordered ORDERED) (schema_new_of big t values_info None)
+    type_exported (dictionary ix ordered t) i (Some w) = alone w.info (Some w.extension) (λ τ. type_walk (schema_step big) t None τ) (type_lines t None) (index_format ix)
+    type_exported (extension n m t) i u = nothing_own (type_walk (schema_step big) t None (Some (record { info = info_of u i; extension = outermost (extension_of u) (n, m) })))
+        ∙ type_exported t None (Some (record { info = info_of u i; extension = outermost (extension_of u) (n, m) }))
 
     fields_exported : (fs : Fields) (h : Schemas → Answer (List Bytes)) (k : List Bytes → Answer (List Bytes)) → ((cs : Schemas) → count_schemas cs ≡ count_fields fs → h cs ≡ k (children_lines cs))
-        → (fields_walk (schema_step big) fs none >>= k) ≡ (schema_children big fs >>= h)
+        → (fields_walk (schema_step big) fs None >>= k) ≡ (schema_children big fs >>= h)
     fields_exported nil h k same = sym (same end refl)
     fields_exported (add i t fs) h k same =
-        ap (λ (m : Answer (List Bytes)). (m >>= λ a. fields_walk (schema_step big) fs none >>= λ b. given (a ++ b)) >>= k) (type_exported t (some i) none)
-        ∙ first (schema_new_of big t i none) (λ h k same. fields_exported fs h k same)
+        ap (λ (m : Answer (List Bytes)). (m >>= λ a. fields_walk (schema_step big) fs None >>= λ b. given (a ++ b)) >>= k) (type_exported t (Some i) None)
+        ∙ first (schema_new_of big t i None) (λ h k same. fields_exported fs h k same)
       where
-        first : (a : Answer Schema) → ((h : Schemas → Answer (List Bytes)) (k : List Bytes → Answer (List Bytes)) → ((cs : Schemas) → count_schemas cs ≡ count_fields fs → h cs ≡ k (children_lines cs)) → (fields_walk (schema_step big) fs none >>= k) ≡ (schema_children big fs >>= h))
-            → (((a >>= λ s. given (schema_lines s)) >>= λ x. fields_walk (schema_step big) fs none >>= λ b. given (x ++ b)) >>= k) ≡ ((a >>= λ c. schema_children big fs >>= λ cs. given (c & cs)) >>= h)
+        first : (a : Answer Schema) → ((h : Schemas → Answer (List Bytes)) (k : List Bytes → Answer (List Bytes)) → ((cs : Schemas) → count_schemas cs ≡ count_fields fs → h cs ≡ k (children_lines cs)) → (fields_walk (schema_step big) fs None >>= k) ≡ (schema_children big fs >>= h))
+            → (((a >>= λ s. given (schema_lines s)) >>= λ x. fields_walk (schema_step big) fs None >>= λ b. given (x ++ b)) >>= k) ≡ ((a >>= λ c. schema_children big fs >>= λ cs. given (c & cs)) >>= h)
         first (refused r) next = refl
         first (given c) next =
-            chained (fields_walk (schema_step big) fs none) (λ b. given (schema_lines c ++ b)) k
+            chained (fields_walk (schema_step big) fs None) (λ b. given (schema_lines c ++ b)) k
             ∙ next (λ cs. h (c & cs)) (λ b. k (schema_lines c ++ b)) (λ cs e. same (c & cs) (ap suc e))
             ∙ sym (chained (schema_children big fs) (λ cs. given (c & cs)) h)
 
   -- the lines of a type's fields
-  pub children_exported : (fs : Fields) → fields_walk (schema_step big) fs none ≡ children_written big fs
-  children_exported fs = sym (right (fields_walk (schema_step big) fs none)) ∙ fields_exported fs (λ cs. given (children_lines cs)) (λ b. given b) (λ cs e. refl)
+  pub children_exported : (fs : Fields) → fields_walk (schema_step big) fs None ≡ children_written big fs
+  children_exported fs = sym (right (fields_walk (schema_step big) fs None)) ∙ fields_exported fs (λ cs. given (children_lines cs)) (λ b. given b) (λ cs e. refl)
     where
       right : (a : Answer (List Bytes)) → (a >>= λ b. given b) ≡ a
       right (refused r) = refl
@@ -120,15 +120,15 @@ module _ (big : Bool) where
 
   -- with the heading: the sheet of a field
   abbrev field_walk : Field → Answer Bytes
-  field_walk f = type_walk (schema_step big) f.type (some f.info) none >>= λ ls. given (write_sheet schema_heading ls)
+  field_walk f = type_walk (schema_step big) f.type (Some f.info) None >>= λ ls. given (write_sheet schema_heading ls)
 
   field_exported : (f : Field) → (schema_new big f >>= λ s. given (write_sheet schema_heading (schema_lines s))) ≡ field_walk f
   field_exported f =
       sym (chained (schema_new big f) (λ s. given (schema_lines s)) (λ ls. given (write_sheet schema_heading ls)))
-      ∙ ap (λ (a : Answer (List Bytes)). a >>= λ ls. given (write_sheet schema_heading ls)) (sym (type_exported f.type (some f.info) none))
+      ∙ ap (λ (a : Answer (List Bytes)). a >>= λ ls. given (write_sheet schema_heading ls)) (sym (type_exported f.type (Some f.info) None))
 
   -- export of a sheet
-  pub sheet_exported : (b : Bytes) → exported big b ≡ sheet_walk (schema_step big) none schema_heading b
+  pub sheet_exported : (b : Bytes) → exported big b ≡ sheet_walk (schema_step big) None schema_heading b
   unfolding exported
   sheet_exported b = chain_same (read_field_sheet b) (read_field_sheet b) (λ f. schema_new big f >>= λ s. given (write_sheet schema_heading (schema_lines s))) field_walk refl field_exported
 
@@ -151,76 +151,76 @@ module _ (big : Bool) where
 
   -- the lines of a type in extensions, where both parts of the state came from the first line of the field
   around : (t : ArrowDataType) (j : Option Info) (w : Bearer)
-      → type_walked (schema_step big) t j (some w) ≡ inside t (schema_step_of big (type_shape (to_storage t)) (type_count (to_storage t)) w.info (some w.extension))
-  around (scalar s) j w = walked_opened (schema_step big) (scalar s) j (some w)
-  around (nested n k t) j w = walked_opened (schema_step big) (nested n k t) j (some w)
-  around (grouped g fs) j w = walked_opened (schema_step big) (grouped g fs) j (some w)
-  around (dictionary ix ordered t) j w = walked_opened (schema_step big) (dictionary ix ordered t) j (some w)
-  around (extension n m t) j w = passed_own (type_walked (schema_step big) t none (some w)) ∙ ap later (around t none w) ∙ one_more t (schema_step_of big (type_shape (to_storage t)) (type_count (to_storage t)) w.info (some w.extension))
+      → type_walked (schema_step big) t j (Some w) ≡ inside t (schema_step_of big (type_shape (to_storage t)) (type_count (to_storage t)) w.info (Some w.extension))
+  around (scalar s) j w = walked_opened (schema_step big) (scalar s) j (Some w)
+  around (nested n k t) j w = walked_opened (schema_step big) (nested n k t) j (Some w)
+  around (grouped g fs) j w = walked_opened (schema_step big) (grouped g fs) j (Some w)
+  around (dictionary ix ordered t) j w = walked_opened (schema_step big) (dictionary ix ordered t) j (Some w)
+  around (extension n m t) j w = passed_own (type_walked (schema_step big) t None (Some w)) ∙ ap later (around t None w) ∙ one_more t (schema_step_of big (type_shape (to_storage t)) (type_count (to_storage t)) w.info (Some w.extension))
 
   -- A field's walk, the extensions around its type passed: the line of the type in all of them, with the columns and the extension of the field's first
   -- line, then the row below it.
   pub export_opened : (t : ArrowDataType) (i : Option Info)
-      → type_walked (schema_step big) t i none ≡ inside t (schema_step_of big (type_shape (to_storage t)) (type_count (to_storage t)) (or_values i) (extension_in (type_shape t)))
-  export_opened (scalar s) i = walked_opened (schema_step big) (scalar s) i none
-  export_opened (nested n j t) i = walked_opened (schema_step big) (nested n j t) i none
-  export_opened (grouped g fs) i = walked_opened (schema_step big) (grouped g fs) i none
-  export_opened (dictionary ix ordered t) i = walked_opened (schema_step big) (dictionary ix ordered t) i none
+      → type_walked (schema_step big) t i None ≡ inside t (schema_step_of big (type_shape (to_storage t)) (type_count (to_storage t)) (or_values i) (extension_in (type_shape t)))
+  export_opened (scalar s) i = walked_opened (schema_step big) (scalar s) i None
+  export_opened (nested n j t) i = walked_opened (schema_step big) (nested n j t) i None
+  export_opened (grouped g fs) i = walked_opened (schema_step big) (grouped g fs) i None
+  export_opened (dictionary ix ordered t) i = walked_opened (schema_step big) (dictionary ix ordered t) i None
   export_opened (extension n m t) i =
       let w : Bearer = record { info = or_values i; extension = (n, m) } in
-      passed_own (type_walked (schema_step big) t none (some w)) ∙ ap later (around t none w) ∙ one_more t (schema_step_of big (type_shape (to_storage t)) (type_count (to_storage t)) (or_values i) (some (n, m)))
+      passed_own (type_walked (schema_step big) t None (Some w)) ∙ ap later (around t None w) ∙ one_more t (schema_step_of big (type_shape (to_storage t)) (type_count (to_storage t)) (or_values i) (Some (n, m)))
 
   -- ── the lines that are visited (document 02, #105)
 
   -- whether the line stands directly in an extension
   abbrev borne : Option Bearer → Bool
-  borne none = false
-  borne (some w) = true
+  borne None = false
+  borne (Some w) = true
 
   mutual
     -- where the walk answers, they are those of the definition
     visited : (t : ArrowDataType) (i : Option Info) (u : Option Bearer) (ls : List Bytes) → type_walk (schema_step big) t i u ≡ given ls → type_visits (schema_step big) t i u ≡ length (export_visits t i (borne u))
     visited (scalar s) i u ls e = scalar_visits (schema_step big) s i u ls e
     visited (nested n j t) i u ls e =
-        let below = first_gave (type_walk (schema_step big) t (some j) none) (λ b. schema_own big (info_of u i) (extension_of u) (nesting_format n) (sorted_flag n) 1 0 >>= λ o. given (o ++ b)) ls e in
-        ap suc (visited t (some j) none below.0 below.1)
+        let below = first_gave (type_walk (schema_step big) t (Some j) None) (λ b. schema_own big (info_of u i) (extension_of u) (nesting_format n) (sorted_flag n) 1 0 >>= λ o. given (o ++ b)) ls e in
+        ap suc (visited t (Some j) None below.0 below.1)
     visited (grouped g fs) i u ls e = format (grouping_format g (count_fields fs)) (λ ks k. all_visited fs ks k) e
       where
-        format : (a : Answer Bytes) → ((ks : List Bytes) → fields_walk (schema_step big) fs none ≡ given ks → fields_visits (schema_step big) fs none ≡ length (visits_of_fields fs))
-            → line_written (a >>= λ f. given (writes (schema_own big (info_of u i) (extension_of u) f 0 (count_fields fs) 0) (visit none))) (λ τ. fields_walk (schema_step big) fs τ) (fields_lines fs) ≡ given ls
-            → line_visits (a >>= λ f. given (writes (schema_own big (info_of u i) (extension_of u) f 0 (count_fields fs) 0) (visit none))) (λ τ. fields_visits (schema_step big) fs τ) ≡ suc (length (visits_of_fields fs))
+        format : (a : Answer Bytes) → ((ks : List Bytes) → fields_walk (schema_step big) fs None ≡ given ks → fields_visits (schema_step big) fs None ≡ length (visits_of_fields fs))
+            → line_written (a >>= λ f. given (writes (schema_own big (info_of u i) (extension_of u) f 0 (count_fields fs) 0) (visit None))) (λ τ. fields_walk (schema_step big) fs τ) (fields_lines fs) ≡ given ls
+            → line_visits (a >>= λ f. given (writes (schema_own big (info_of u i) (extension_of u) f 0 (count_fields fs) 0) (visit None))) (λ τ. fields_visits (schema_step big) fs τ) ≡ suc (length (visits_of_fields fs))
         format (refused r) next k = not_given k
         format (given f) next k =
-            let below = first_gave (fields_walk (schema_step big) fs none) (λ b. schema_own big (info_of u i) (extension_of u) f 0 (count_fields fs) 0 >>= λ o. given (o ++ b)) ls k in
+            let below = first_gave (fields_walk (schema_step big) fs None) (λ b. schema_own big (info_of u i) (extension_of u) f 0 (count_fields fs) 0 >>= λ o. given (o ++ b)) ls k in
             ap suc (next below.0 below.1)
-    visited (dictionary ix ordered t) i none ls e = format (index_format ix) (λ ks k. visited t none none ks k) e
+    visited (dictionary ix ordered t) i None ls e = format (index_format ix) (λ ks k. visited t None None ks k) e
       where
-        format : (a : Answer Bytes) → ((ks : List Bytes) → type_walk (schema_step big) t none none ≡ given ks → type_visits (schema_step big) t none none ≡ length (export_visits t none false))
-            → line_written (a >>= λ f. given (writes (schema_own big (or_values i) none f (flag ordered ORDERED) 0 1) (visit none))) (λ τ. type_walk (schema_step big) t none τ) (type_lines t none) ≡ given ls
-            → line_visits (a >>= λ f. given (writes (schema_own big (or_values i) none f (flag ordered ORDERED) 0 1) (visit none))) (λ τ. type_visits (schema_step big) t none τ) ≡ suc (length (export_visits t none false))
+        format : (a : Answer Bytes) → ((ks : List Bytes) → type_walk (schema_step big) t None None ≡ given ks → type_visits (schema_step big) t None None ≡ length (export_visits t None false))
+            → line_written (a >>= λ f. given (writes (schema_own big (or_values i) None f (flag ordered ORDERED) 0 1) (visit None))) (λ τ. type_walk (schema_step big) t None τ) (type_lines t None) ≡ given ls
+            → line_visits (a >>= λ f. given (writes (schema_own big (or_values i) None f (flag ordered ORDERED) 0 1) (visit None))) (λ τ. type_visits (schema_step big) t None τ) ≡ suc (length (export_visits t None false))
         format (refused r) next k = not_given k
         format (given f) next k =
-            let below = first_gave (type_walk (schema_step big) t none none) (λ b. schema_own big (or_values i) none f (flag ordered ORDERED) 0 1 >>= λ o. given (o ++ b)) ls k in
+            let below = first_gave (type_walk (schema_step big) t None None) (λ b. schema_own big (or_values i) None f (flag ordered ORDERED) 0 1 >>= λ o. given (o ++ b)) ls k in
             ap suc (next below.0 below.1)
-    visited (dictionary ix ordered t) i (some w) ls e = format (index_format ix) e
+    visited (dictionary ix ordered t) i (Some w) ls e = format (index_format ix) e
       where
         format : (a : Answer Bytes)
-            → line_written (a >>= λ f. given (writes (schema_own big w.info (some w.extension) f 0 0 0) skip)) (λ τ. type_walk (schema_step big) t none τ) (type_lines t none) ≡ given ls
-            → line_visits (a >>= λ f. given (writes (schema_own big w.info (some w.extension) f 0 0 0) skip)) (λ τ. type_visits (schema_step big) t none τ) ≡ 1
+            → line_written (a >>= λ f. given (writes (schema_own big w.info (Some w.extension) f 0 0 0) skip)) (λ τ. type_walk (schema_step big) t None τ) (type_lines t None) ≡ given ls
+            → line_visits (a >>= λ f. given (writes (schema_own big w.info (Some w.extension) f 0 0 0) skip)) (λ τ. type_visits (schema_step big) t None τ) ≡ 1
         format (refused r) k = not_given k
         format (given f) k = refl
     visited (extension n m t) i u ls e =
-        let w : Option Bearer = some (record { info = info_of u i; extension = outermost (extension_of u) (n, m) }) in
-        ap suc (visited t none w ls (sym (nothing_own (type_walk (schema_step big) t none w)) ∙ e))
+        let w : Option Bearer = Some (record { info = info_of u i; extension = outermost (extension_of u) (n, m) }) in
+        ap suc (visited t None w ls (sym (nothing_own (type_walk (schema_step big) t None w)) ∙ e))
 
-    all_visited : (fs : Fields) (ls : List Bytes) → fields_walk (schema_step big) fs none ≡ given ls → fields_visits (schema_step big) fs none ≡ length (visits_of_fields fs)
+    all_visited : (fs : Fields) (ls : List Bytes) → fields_walk (schema_step big) fs None ≡ given ls → fields_visits (schema_step big) fs None ≡ length (visits_of_fields fs)
     all_visited nil ls e = refl
     all_visited (add i t fs) ls e =
-        let first = first_gave (type_walk (schema_step big) t (some i) none) (λ a. fields_walk (schema_step big) fs none >>= λ b. given (a ++ b)) ls e in
-        let rest = first_gave (fields_walk (schema_step big) fs none) (λ b. given (first.0 ++ b)) ls first.2 in
-        omega (arith, visited t (some i) none first.0 first.1, all_visited fs rest.0 rest.1, length-append (export_visits t (some i) false) (visits_of_fields fs))
+        let first = first_gave (type_walk (schema_step big) t (Some i) None) (λ a. fields_walk (schema_step big) fs None >>= λ b. given (a ++ b)) ls e in
+        let rest = first_gave (fields_walk (schema_step big) fs None) (λ b. given (first.0 ++ b)) ls first.2 in
+        omega (arith, visited t (Some i) None first.0 first.1, all_visited fs rest.0 rest.1, length-append (export_visits t (Some i) false) (visits_of_fields fs))
 
   -- of a field
-  pub lines_visited : (f : Field) (ls : List Bytes) → type_walk (schema_step big) f.type (some f.info) none ≡ given ls → type_visits (schema_step big) f.type (some f.info) none ≡ export_lines f
+  pub lines_visited : (f : Field) (ls : List Bytes) → type_walk (schema_step big) f.type (Some f.info) None ≡ given ls → type_visits (schema_step big) f.type (Some f.info) None ≡ export_lines f
   unfolding export_lines
-  lines_visited f ls e = visited f.type (some f.info) none ls e
+  lines_visited f ls e = visited f.type (Some f.info) None ls e

@@ -4,7 +4,7 @@
 use mathlib.Core.Path.{◌≡◌, refl, sym, ap, ◌∙◌}
 use mathlib.Core.Bool.{Bool, true, false, not, ◌&&◌, ◌||◌, cond}
 use mathlib.Core.List.{List, [], ◌∷◌, ◌++◌}
-use mathlib.Core.Option.{Option, none, some}
+use Rattle.std.specs.Prelude.{Option, None, Some}
 use Prim.Native.Nat.{ℕ, ◌+◌}
 use native.Mathlib.Omega.{arith}
 use lib.Dec.{eqb, ltb}
@@ -45,8 +45,8 @@ found_among b (r ∷ l) h = pick (in_cell (length b) b r.name) refl (found_among
     other false s e = refl
 
     pick : (t : Bool) → in_cell (length b) b r.name ≡ t → row_named b l ≡ row_named b (cell_of (length b) b l)
-        → cond (same b r.name) (some r) (row_named b l) ≡ row_named b (cond t (r ∷ cell_of (length b) b l) (cell_of (length b) b l))
-    pick true e next = ap (λ (o : Option FormatRow). cond (same b r.name) (some r) o) next
+        → cond (same b r.name) (Some r) (row_named b l) ≡ row_named b (cond t (r ∷ cell_of (length b) b l) (cell_of (length b) b l))
+    pick true e next = ap (λ (o : Option FormatRow). cond (same b r.name) (Some r) o) next
     pick false e next = rw (other (same b r.name) refl e) next
 
 -- a format finds its row among the names that it is compared with
@@ -74,34 +74,34 @@ leaf_rows_lem : Meets (each leaf_row rows)
 unfolding rows
 leaf_rows_lem = meets (each leaf_row rows) refl
 
-row_rule_lem : (f : Bytes) (l : List FormatRow) → Meets (each leaf_row l) → (r : FormatRow) → row_named f l ≡ some r → is_nested r.kind ≡ false
+row_rule_lem : (f : Bytes) (l : List FormatRow) → Meets (each leaf_row l) → (r : FormatRow) → row_named f l ≡ Some r → is_nested r.kind ≡ false
 row_rule_lem f [] m r e = not_some e
 row_rule_lem f (x ∷ l) m r e = pick (same f x.name) e (row_rule_lem f l m.1 r)
   where
-    pick : (t : Bool) → cond t (some x) (row_named f l) ≡ some r → (row_named f l ≡ some r → is_nested r.kind ≡ false) → is_nested r.kind ≡ false
+    pick : (t : Bool) → cond t (Some x) (row_named f l) ≡ Some r → (row_named f l ≡ Some r → is_nested r.kind ≡ false) → is_nested r.kind ≡ false
     pick true g next = ap (λ (y : FormatRow). is_nested y.kind) (sym (same_some g)) ∙ not-true (is_nested x.kind) m.0
     pick false g next = next g
 
 -- a name is looked for in one list after the other
-first_list : (f : Bytes) (l m : List FormatRow) (r : FormatRow) → row_named f l ≡ some r → row_named f (l ++ m) ≡ some r
+first_list : (f : Bytes) (l m : List FormatRow) (r : FormatRow) → row_named f l ≡ Some r → row_named f (l ++ m) ≡ Some r
 first_list f [] m r e = not_some e
 first_list f (x ∷ l) m r e = pick (same f x.name) e (first_list f l m r)
   where
-    pick : (t : Bool) → cond t (some x) (row_named f l) ≡ some r → (row_named f l ≡ some r → row_named f (l ++ m) ≡ some r) → cond t (some x) (row_named f (l ++ m)) ≡ some r
+    pick : (t : Bool) → cond t (Some x) (row_named f l) ≡ Some r → (row_named f l ≡ Some r → row_named f (l ++ m) ≡ Some r) → cond t (Some x) (row_named f (l ++ m)) ≡ Some r
     pick true g next = g
     pick false g next = next g
 
-second_list : (f : Bytes) (l m : List FormatRow) → row_named f l ≡ none → row_named f (l ++ m) ≡ row_named f m
+second_list : (f : Bytes) (l m : List FormatRow) → row_named f l ≡ None → row_named f (l ++ m) ≡ row_named f m
 second_list f [] m e = refl
 second_list f (x ∷ l) m e = pick (same f x.name) e (second_list f l m)
   where
-    pick : (t : Bool) → cond t (some x) (row_named f l) ≡ none → (row_named f l ≡ none → row_named f (l ++ m) ≡ row_named f m) → cond t (some x) (row_named f (l ++ m)) ≡ row_named f m
+    pick : (t : Bool) → cond t (Some x) (row_named f l) ≡ None → (row_named f l ≡ None → row_named f (l ++ m) ≡ row_named f m) → cond t (Some x) (row_named f (l ++ m)) ≡ row_named f m
     pick true g next = not_some (sym g)
     pick false g next = next g
 
 abbrev pub read_fixed : Bool → Option FormatRow → Answer Format → Answer Format
-read_fixed sorted none other = other
-read_fixed sorted (some r) other = given (named_format sorted r.kind r.unit)
+read_fixed sorted None other = other
+read_fixed sorted (Some r) other = given (named_format sorted r.kind r.unit)
 
 -- what a format says is what its fixed name says, and if it has none, what its parts say
 pub read_fixed_lem : (sorted : Bool) (f : Bytes) → read_fixed sorted (row_named f fixed_rows) (read_other (cut f)) ≡ read_format sorted f
@@ -114,9 +114,9 @@ read_fixed_lem sorted f = go (row_named f rows) refl
     nested :
         (a b c d : Bool)
         → read_fixed sorted
-        (cond a (some (record { name = ascii "+l"; kind = Kind.List; unit = 0 }))
-        (cond b (some (record { name = ascii "+L"; kind = Kind.LargeList; unit = 0 }))
-        (cond c (some (record { name = ascii "+m"; kind = Kind.Map; unit = 0 })) (cond d (some (record { name = ascii "+s"; kind = Kind.Struct; unit = 0 })) none)))) other
+        (cond a (Some (record { name = ascii "+l"; kind = Kind.List; unit = 0 }))
+        (cond b (Some (record { name = ascii "+L"; kind = Kind.LargeList; unit = 0 }))
+        (cond c (Some (record { name = ascii "+m"; kind = Kind.Map; unit = 0 })) (cond d (Some (record { name = ascii "+s"; kind = Kind.Struct; unit = 0 })) None)))) other
         ≡ cond a (given (of_nesting list)) (cond b (given (of_nesting large_list)) (cond c (given (of_nesting (map sorted))) (cond d (given (of_grouping struct)) other)))
     nested true b c d = refl
     nested false true c d = refl
@@ -125,8 +125,8 @@ read_fixed_lem sorted f = go (row_named f rows) refl
     nested false false false false = refl
 
     go : (o : Option FormatRow) → row_named f rows ≡ o → read_fixed sorted (row_named f (rows ++ nested_rows)) other ≡ read_format sorted f
-    go (some r) e = rw (first_list f rows nested_rows r e, e) (ap given (leaf_format_lem sorted r.kind r.unit (row_rule_lem f rows leaf_rows_lem r e)))
-    go none e = rw (second_list f rows nested_rows e, e) (nested (same f (ascii "+l")) (same f (ascii "+L")) (same f (ascii "+m")) (same f (ascii "+s")))
+    go (Some r) e = rw (first_list f rows nested_rows r e, e) (ap given (leaf_format_lem sorted r.kind r.unit (row_rule_lem f rows leaf_rows_lem r e)))
+    go None e = rw (second_list f rows nested_rows e, e) (nested (same f (ascii "+l")) (same f (ascii "+L")) (same f (ascii "+m")) (same f (ascii "+s")))
 
 -- ── what a cell holds
 

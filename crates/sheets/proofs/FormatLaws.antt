@@ -3,7 +3,7 @@ use mathlib.Core.Path.{◌≡◌, refl, ◌∙◌, ap}
 use mathlib.Core.Bool.{Bool, true, false, ◌&&◌, ◌||◌, not, cond}
 use mathlib.Core.List.{List, [], ◌∷◌, ◌++◌}
 use mathlib.Core.List.{map as map_list}
-use mathlib.Core.Option.{Option, none, some}
+use Rattle.std.specs.Prelude.{Option, None, Some}
 use Prim.Native.Nat.{ℕ, zero, suc, ◌+◌, ◌^◌, ◌<◌, ◌≤◌}
 use native.Mathlib.Omega.{arith}
 use lib.Dec.{eqb, ltb, leb}
@@ -62,8 +62,8 @@ read_id_lem z h = id_any z ∙ when_met bad_number (id_rule z) z h
 -- ── fixed names: one test over the table
 
 abbrev is_row : Option FormatRow → FormatRow → Bool
-is_row none r = false
-is_row (some x) r = eqb x.kind r.kind && eqb x.unit r.unit
+is_row None r = false
+is_row (Some x) r = eqb x.kind r.kind && eqb x.unit r.unit
 
 -- a row's name finds it, is UTF-8 and has no byte 00
 abbrev row_rule : FormatRow → Rule
@@ -73,24 +73,24 @@ table : Meets (each row_rule rows)
 unfolding rows
 table = meets (each row_rule rows) refl
 
-row_of_lem : (l : List FormatRow) → Meets (each row_rule l) → (k u : ℕ) (r : FormatRow) → row_of k u l ≡ some r → Meets (row_rule r) × (k ≡ r.kind) × (u ≡ r.unit)
+row_of_lem : (l : List FormatRow) → Meets (each row_rule l) → (k u : ℕ) (r : FormatRow) → row_of k u l ≡ Some r → Meets (row_rule r) × (k ≡ r.kind) × (u ≡ r.unit)
 row_of_lem [] h k u r e = not_some e
 row_of_lem (x ∷ l) h k u r e = pick (eqb k x.kind && eqb u x.unit) refl (row_of_lem l h.1 k u r) e
   where
-    pick : (t : Bool) → (eqb k x.kind && eqb u x.unit) ≡ t → (row_of k u l ≡ some r → Meets (row_rule r) × (k ≡ r.kind) × (u ≡ r.unit)) → cond t (some x) (row_of k u l) ≡ some r → Meets (row_rule r) × (k ≡ r.kind) × (u ≡ r.unit)
+    pick : (t : Bool) → (eqb k x.kind && eqb u x.unit) ≡ t → (row_of k u l ≡ Some r → Meets (row_rule r) × (k ≡ r.kind) × (u ≡ r.unit)) → cond t (Some x) (row_of k u l) ≡ Some r → Meets (row_rule r) × (k ≡ r.kind) × (u ≡ r.unit)
     pick true t next g =
         let same : x ≡ r = cc in
         rw (← same) (h.0, eqb-true k x.kind (and_left (eqb k x.kind) (eqb u x.unit) t), eqb-true u x.unit (and_right (eqb k x.kind) (eqb u x.unit) t))
     pick false t next g = next g
 
 named : (o : Option FormatRow) (r : FormatRow) (other : Answer Format) → is_row o r ≡ true → read_named o other ≡ given (of_scalar (leaf r.kind r.unit))
-named none r other h = never h
-named (some x) r other h =
+named None r other h = never h
+named (Some x) r other h =
     rw (eqb-true x.kind r.kind (and_left (eqb x.kind r.kind) (eqb x.unit r.unit) h), eqb-true x.unit r.unit (and_right (eqb x.kind r.kind) (eqb x.unit r.unit) h))
 
-pub found_some : {A : Type 0} (n : Refusal) (o : Option A) (a : A) → found n o ≡ given a → o ≡ some a
-found_some n none a h = not_given h
-found_some n (some x) a h = cc
+pub found_some : {A : Type 0} (n : Refusal) (o : Option A) (a : A) → found n o ≡ given a → o ≡ Some a
+found_some n None a h = not_given h
+found_some n (Some x) a h = cc
 
 -- ── ASCII is UTF-8
 
@@ -115,9 +115,9 @@ join_ascii (p ∷ q ∷ ps) h = all_append is_ascii p (44 ∷ join 44 (q ∷ ps)
 -- ── scalar types
 
 zone_plain : (z : Option Bytes) → zone (or_empty z) ≡ plain_zone z
-zone_plain none = refl
-zone_plain (some []) = refl
-zone_plain (some (b ∷ bs)) = refl
+zone_plain None = refl
+zone_plain (Some []) = refl
+zone_plain (Some (b ∷ bs)) = refl
 
 read_timestamp : (sorted : Bool) (u : TimeUnit) (z : Option Bytes) → read_format sorted (ascii "ts" ++ unit_letter u ++ ascii ":" ++ or_empty z) ≡ given (of_scalar (timestamp u (zone (or_empty z))))
 unfolding rows
@@ -178,8 +178,8 @@ utf8_scalar (timestamp u z) f h e =
     letters nanosecond = refl
 
     zone_utf8 : (y : Option Bytes) → Meets (text_rule y) → is_utf8 (or_empty y) ≡ true
-    zone_utf8 none k = refl
-    zone_utf8 (some b) k = k
+    zone_utf8 None k = refl
+    zone_utf8 (Some b) k = k
 utf8_scalar (fixed_size_binary n) f h e =
     let text : ascii "w:" ++ decimal n ≡ f = cc in
     rw (← text) (ascii_utf8 (decimal n) (decimal_ascii n))
@@ -217,14 +217,14 @@ utf8_nesting (map sorted) = refl
 -- ── grouped types
 
 read_union : (sorted sparse : Bool) (z : ℤ) (zs : List ℤ) → Meets (each id_rule (z ∷ zs))
-    → read_format sorted (union_name sparse ++ join 44 (write_signed z ∷ map_list write_signed zs)) ≡ given (of_grouping (union sparse (some (z ∷ zs))))
+    → read_format sorted (union_name sparse ++ join 44 (write_signed z ∷ map_list write_signed zs)) ≡ given (of_grouping (union sparse (Some (z ∷ zs))))
 unfolding rows
 read_union sorted true z zs h =
     rw (split_join 44 (write_signed z) (map_list write_signed zs) (each_free id_rule write_signed 44 (λ y k. signed_lacks 44 refl y) (z ∷ zs) h), read_each_lem id_rule write_signed read_id read_id_lem (z ∷ zs) h)
 read_union sorted false z zs h =
     rw (split_join 44 (write_signed z) (map_list write_signed zs) (each_free id_rule write_signed 44 (λ y k. signed_lacks 44 refl y) (z ∷ zs) h), read_each_lem id_rule write_signed read_id read_id_lem (z ∷ zs) h)
 
-read_ids_lem : (sorted sparse : Bool) (zs : List ℤ) (f : Bytes) → Meets (each id_rule zs) → write_ids (union_name sparse) zs ≡ given f → read_format sorted f ≡ given (of_grouping (union sparse (some zs)))
+read_ids_lem : (sorted sparse : Bool) (zs : List ℤ) (f : Bytes) → Meets (each id_rule zs) → write_ids (union_name sparse) zs ≡ given f → read_format sorted f ≡ given (of_grouping (union sparse (Some zs)))
 read_ids_lem sorted sparse [] f h e = not_given e
 read_ids_lem sorted sparse (z ∷ zs) f h e =
     let text : union_name sparse ++ join 44 (write_signed z ∷ map_list write_signed zs) ≡ f = cc in
@@ -254,15 +254,15 @@ unfolding rows
 read_grouping sorted struct count f h k e =
     let text : ascii "+s" ≡ f = cc in
     rw (← text)
-read_grouping sorted (union sparse none) count f h k e = read_ids_lem sorted sparse (up_from 0 count) f (up_from_lem 0 count (omega arith)) e
-read_grouping sorted (union sparse (some ids)) count f h k e = read_ids_lem sorted sparse ids f h e
+read_grouping sorted (union sparse None) count f h k e = read_ids_lem sorted sparse (up_from 0 count) f (up_from_lem 0 count (omega arith)) e
+read_grouping sorted (union sparse (Some ids)) count f h k e = read_ids_lem sorted sparse ids f h e
 
 pub utf8_grouping : (g : Grouping) (count : ℕ) (f : Bytes) → grouping_format g count ≡ given f → is_utf8 f ≡ true
 utf8_grouping struct count f e =
     let text : ascii "+s" ≡ f = cc in
     rw (← text)
-utf8_grouping (union sparse none) count f e = utf8_ids sparse (up_from 0 count) f e
-utf8_grouping (union sparse (some ids)) count f e = utf8_ids sparse ids f e
+utf8_grouping (union sparse None) count f e = utf8_ids sparse (up_from 0 count) f e
+utf8_grouping (union sparse (Some ids)) count f e = utf8_ids sparse ids f e
 
 -- ── a dictionary's index: one test over the places
 

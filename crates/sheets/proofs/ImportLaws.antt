@@ -4,7 +4,7 @@
 use mathlib.Core.Path.{◌≡◌, refl, sym, ◌∙◌, ap}
 use mathlib.Core.Bool.{Bool, true, false}
 use mathlib.Core.List.{List, [], ◌∷◌, ◌++◌, append-nil}
-use mathlib.Core.Option.{Option, none, some}
+use Rattle.std.specs.Prelude.{Option, None, Some}
 use Prim.Native.Nat.{ℕ, suc}
 use Rattle.sheets.specs.Refusal.{Refusal}
 use Rattle.sheets.specs.Bytes.{Bytes}
@@ -80,15 +80,15 @@ module _ (big : Bool) where
     own_refused r e j = by_own (refused r) e ∙ sym (after_type j n cs d (λ ls. refused r))
 
     -- the field's line is that of its type
-    pub own_plain : (i : Info) → own_of big n ≡ given (i, none) → written big bare (schema n cs d) ≡ type_written big (shown bare i) (schema n cs d)
-    own_plain i e = by_own (given (i, none)) e
+    pub own_plain : (i : Info) → own_of big n ≡ given (i, None) → written big bare (schema n cs d) ≡ type_written big (shown bare i) (schema n cs d)
+    own_plain i e = by_own (given (i, None)) e
 
     -- the extension's line, then the type's
-    pub own_extended : (i : Info) (e : Extension) → own_of big n ≡ given (i, some e)
-        → written big bare (schema n cs d) ≡ (type_written big none (schema n cs d) >>= λ ls. given (field_line.write (line_of (of_extension e.0 e.1) (shown bare i) 1) ∷ ls))
+    pub own_extended : (i : Info) (e : Extension) → own_of big n ≡ given (i, Some e)
+        → written big bare (schema n cs d) ≡ (type_written big None (schema n cs d) >>= λ ls. given (field_line.write (line_of (of_extension e.0 e.1) (shown bare i) 1) ∷ ls))
     own_extended i e h =
-        by_own (given (i, some e)) h
-        ∙ sym (after_type none n cs d (λ ls. given (field_line.write (line_of (of_extension e.0 e.1) (shown bare i) 1) ∷ ls)))
+        by_own (given (i, Some e)) h
+        ∙ sym (after_type None n cs d (λ ls. given (field_line.write (line_of (of_extension e.0 e.1) (shown bare i) 1) ∷ ls)))
 
 -- ── the type through its fields
 
@@ -104,18 +104,18 @@ module _ (big : Bool) where
   all_rows {B} (s & ss) h k same = first (to_field big s) (all_rows ss)
     where
       rest : (f : Field) (a : Answer Fields) (b : Answer (List Bytes)) → ((m : Fields → Answer B) (l : List Bytes → Answer B) → ((fs : Fields) → count_fields fs ≡ count_schemas ss → m fs ≡ l (fields_lines fs)) → (a >>= m) ≡ (b >>= l))
-          → ((a >>= λ r. given (add f.info f.type r)) >>= h) ≡ ((b >>= λ y. given (type_lines f.type (some f.info) ++ y)) >>= k)
-      rest f a b next = join a ∙ next (λ r. h (add f.info f.type r)) (λ y. k (type_lines f.type (some f.info) ++ y)) (λ fs e. same (add f.info f.type fs) (ap suc e)) ∙ sym (joined b)
+          → ((a >>= λ r. given (add f.info f.type r)) >>= h) ≡ ((b >>= λ y. given (type_lines f.type (Some f.info) ++ y)) >>= k)
+      rest f a b next = join a ∙ next (λ r. h (add f.info f.type r)) (λ y. k (type_lines f.type (Some f.info) ++ y)) (λ fs e. same (add f.info f.type fs) (ap suc e)) ∙ sym (joined b)
         where
           join : (c : Answer Fields) → ((c >>= λ r. given (add f.info f.type r)) >>= h) ≡ (c >>= λ r. h (add f.info f.type r))
           join (refused q) = refl
           join (given r) = refl
 
-          joined : (c : Answer (List Bytes)) → ((c >>= λ y. given (type_lines f.type (some f.info) ++ y)) >>= k) ≡ (c >>= λ y. k (type_lines f.type (some f.info) ++ y))
+          joined : (c : Answer (List Bytes)) → ((c >>= λ y. given (type_lines f.type (Some f.info) ++ y)) >>= k) ≡ (c >>= λ y. k (type_lines f.type (Some f.info) ++ y))
           joined (refused q) = refl
           joined (given y) = refl
 
-      first : (a : Answer Field) → ((m : Fields → Answer B) (l : List Bytes → Answer B) → ((fs : Fields) → count_fields fs ≡ count_schemas ss → m fs ≡ l (fields_lines fs)) → (all_of (to_fields big ss) >>= m) ≡ (row_written big false ss >>= l)) → ((a >>= λ f. all_of (to_fields big ss) >>= λ r. given (add f.info f.type r)) >>= h) ≡ (((a >>= λ f. given (type_lines f.type (some f.info))) >>= λ x. row_written big false ss >>= λ y. given (x ++ y)) >>= k)
+      first : (a : Answer Field) → ((m : Fields → Answer B) (l : List Bytes → Answer B) → ((fs : Fields) → count_fields fs ≡ count_schemas ss → m fs ≡ l (fields_lines fs)) → (all_of (to_fields big ss) >>= m) ≡ (row_written big false ss >>= l)) → ((a >>= λ f. all_of (to_fields big ss) >>= λ r. given (add f.info f.type r)) >>= h) ≡ (((a >>= λ f. given (type_lines f.type (Some f.info))) >>= λ x. row_written big false ss >>= λ y. given (x ++ y)) >>= k)
       first (refused q) next = refl
       first (given f) next = rest f (all_of (to_fields big ss)) (row_written big false ss) next
 
@@ -141,7 +141,7 @@ module _ (big : Bool) where
           by_nesting g end = refl
           by_nesting g (s & ss) = go (to_field big s) ∙ one_row (written big false s) (first (nesting_shape g) 1)
             where
-              go : (a : Answer Field) → ((a >>= λ c. given (nested g c.info c.type)) >>= λ t. given (type_lines t j)) ≡ ((a >>= λ c. given (type_lines c.type (some c.info))) >>= first (nesting_shape g) 1)
+              go : (a : Answer Field) → ((a >>= λ c. given (nested g c.info c.type)) >>= λ t. given (type_lines t j)) ≡ ((a >>= λ c. given (type_lines c.type (Some c.info))) >>= first (nesting_shape g) 1)
               go (refused r) = refl
               go (given c) = refl
 
@@ -166,7 +166,7 @@ module _ (big : Bool) where
         where
           values : (ix : ℕ) (b : Answer Field)
               → ((b >>= λ c. given (dictionary ix (is_ordered n.flags) c.type)) >>= λ t. given (type_lines t j))
-              ≡ ((b >>= λ c. given (type_lines c.type none)) >>= first (of_dictionary ix (is_ordered n.flags)) 1)
+              ≡ ((b >>= λ c. given (type_lines c.type None)) >>= first (of_dictionary ix (is_ordered n.flags)) 1)
           values ix (refused r) = refl
           values ix (given c) = refl
 

@@ -3,7 +3,7 @@ use mathlib.Core.Path.{◌≡◌, refl, sym, ◌∙◌, ap}
 use mathlib.Core.Logic.{◌≢◌}
 use mathlib.Core.Bool.{Bool, true, false, ◌&&◌, cond}
 use mathlib.Core.List.{List, [], ◌∷◌, ◌++◌, append_assoc}
-use mathlib.Core.Option.{Option, none, some}
+use Rattle.std.specs.Prelude.{Option, None, Some}
 use Prim.Native.Nat.{ℕ, zero, suc, ◌+◌, ◌*◌, ◌-◌, ◌/◌, ◌%◌, ◌<◌, ◌≤◌}
 use native.Mathlib.Omega.{arith}
 use lib.Dec.{eqb, ltb, leb}
@@ -136,7 +136,7 @@ unhex_read (x ∷ y ∷ r) b e =
     let s = first_gave (unhex r) (λ bs. given ((16 * p.0 + q.0) ∷ bs)) b q.2 in
     pair_read x y r p.0 q.0 s.0 b (digit_read x p.0 p.1) (digit_read y q.0 q.1) s.2 (unhex_read r s.0 s.1)
 
-text_hex : (c : ℕ) (cs b : Bytes) → unhex (c ∷ cs) ≡ given b → write_text (some b) ≡ c ∷ cs
+text_hex : (c : ℕ) (cs b : Bytes) → unhex (c ∷ cs) ≡ given b → write_text (Some b) ≡ c ∷ cs
 text_hex c cs [] e =
     let z : [] ≡ c ∷ cs = unhex_read (c ∷ cs) [] e in
     absurd (let y : ◌≡◌ {A = ℕ} 0 1 = cc in omega arith)
@@ -147,16 +147,16 @@ text_read [] x e = not_given e
 text_read (c ∷ cs) x e = pick (same (c ∷ cs) (ascii "~")) refl (same (c ∷ cs) (ascii "-")) refl e
   where
     pick : (s : Bool) → same (c ∷ cs) (ascii "~") ≡ s → (d : Bool) → same (c ∷ cs) (ascii "-") ≡ d
-        → cond s (given none) (cond d (given (some [])) (unhex (c ∷ cs) >>= λ b. given (some b))) ≡ given x → write_text x ≡ c ∷ cs
+        → cond s (given None) (cond d (given (Some [])) (unhex (c ∷ cs) >>= λ b. given (Some b))) ≡ given x → write_text x ≡ c ∷ cs
     pick true s d t g =
-        let y : none ≡ x = cc in
+        let y : None ≡ x = cc in
         ap write_text (sym y) ∙ sym (same_eq (c ∷ cs) (ascii "~") s)
     pick false s true t g =
-        let y : some [] ≡ x = cc in
+        let y : Some [] ≡ x = cc in
         ap write_text (sym y) ∙ sym (same_eq (c ∷ cs) (ascii "-") t)
     pick false s false t g =
-        let q = first_gave (unhex (c ∷ cs)) (λ b. given (some b)) x g in
-        let y : some q.0 ≡ x = cc in
+        let q = first_gave (unhex (c ∷ cs)) (λ b. given (Some b)) x g in
+        let y : Some q.0 ≡ x = cc in
         ap write_text (sym y) ∙ text_hex c cs q.0 q.1
 
 -- ── lines and columns
@@ -193,12 +193,12 @@ ended_join (p ∷ q ∷ ps) ls e =
     let same : p ∷ r.0 ≡ ls = cc in
     ap ended (sym same) ∙ ap (λ l. p ++ (10 ∷ l)) (ended_join (q ∷ ps) r.0 r.1)
 
-after_read : (p b r : Bytes) → after p b ≡ some r → b ≡ p ++ r
+after_read : (p b r : Bytes) → after p b ≡ Some r → b ≡ p ++ r
 after_read [] b r e = cc
 after_read (x ∷ p) [] r e = not_some e
 after_read (x ∷ p) (c ∷ b) r e = pick (eqb x c) refl (after_read p b r) e
   where
-    pick : (t : Bool) → eqb x c ≡ t → (after p b ≡ some r → b ≡ p ++ r) → cond t (after p b) none ≡ some r → c ∷ b ≡ (x ∷ p) ++ r
+    pick : (t : Bool) → eqb x c ≡ t → (after p b ≡ Some r → b ≡ p ++ r) → cond t (after p b) None ≡ Some r → c ∷ b ≡ (x ∷ p) ++ r
     pick true t next g = ap (λ y. y ∷ b) (sym (eqb-true x c t)) ∙ ap (λ l. x ∷ l) (next g)
     pick false t next g = not_some g
 

@@ -2,7 +2,7 @@
 use mathlib.Core.Path.{◌≡◌, refl, sym, ◌∙◌, ap}
 use mathlib.Core.Bool.{Bool, true, false, not}
 use mathlib.Core.List.{List, [], ◌∷◌, map}
-use mathlib.Core.Option.{Option, none, some}
+use Rattle.std.specs.Prelude.{Option, None, Some}
 use Prim.Native.Nat.{ℕ, zero, suc}
 use native.Mathlib.Omega.{arith}
 use lib.Dec.{eqb}
@@ -25,8 +25,8 @@ module _ {A : Type 0} (rule : A → Rule) (write : A → Bytes) (s : ℕ) (free 
 
 -- the rule at each element, where there is a list
 abbrev pub list_rule : {A : Type 0} → (A → Rule) → Option (List A) → Rule
-list_rule rule none = is true
-list_rule rule (some l) = each rule l
+list_rule rule None = is true
+list_rule rule (Some l) = each rule l
 
 module _ {A : Type 0} (rule : A → Rule) (write : A → Bytes) (read : Bytes → Answer A) (back : (a : A) → Meets (rule a) → read (write a) ≡ given a)
     (comma : (a : A) → Meets (rule a) → Meets (lacks 44 (write a))) (tilde : read no_text ≡ refused bad_lines) (dash : read (ascii "-") ≡ refused bad_lines) where
@@ -42,13 +42,13 @@ module _ {A : Type 0} (rule : A → Rule) (write : A → Bytes) (read : Bytes �
       pick false e = refl
 
   pub read_list_lem : (l : Option (List A)) → Meets (list_rule rule l) → read_list read (write_list write l) ≡ given l
-  read_list_lem none h = refl
-  read_list_lem (some []) h = refl
-  read_list_lem (some (a ∷ l)) h =
+  read_list_lem None h = refl
+  read_list_lem (Some []) h = refl
+  read_list_lem (Some (a ∷ l)) h =
       rw (not_token no_text refl tilde a l h, not_token (ascii "-") refl dash a l h, split_join 44 (write a) (map write l) (each_free rule write 44 comma (a ∷ l) h), read_each_lem rule write read back (a ∷ l) h)
 
 pub list_lacks : {A : Type 0} (rule : A → Rule) (write : A → Bytes) (s : ℕ) → not (eqb 44 s) ≡ true → Meets (lacks s no_text) → Meets (lacks s (ascii "-"))
     → ((a : A) → Meets (rule a) → Meets (lacks s (write a))) → (l : Option (List A)) → Meets (list_rule rule l) → Meets (lacks s (write_list write l))
-list_lacks rule write s c t d free none h = t
-list_lacks rule write s c t d free (some []) h = d
-list_lacks rule write s c t d free (some (a ∷ l)) h = join_lacks s 44 c (write a ∷ map write l) (each_free rule write s free (a ∷ l) h)
+list_lacks rule write s c t d free None h = t
+list_lacks rule write s c t d free (Some []) h = d
+list_lacks rule write s c t d free (Some (a ∷ l)) h = join_lacks s 44 c (write a ∷ map write l) (each_free rule write s free (a ∷ l) h)

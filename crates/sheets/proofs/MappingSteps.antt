@@ -2,7 +2,7 @@
 use mathlib.Core.Path.{◌≡◌, refl, sym, ◌∙◌, ap}
 use mathlib.Core.Bool.{Bool, true, false, cond}
 use mathlib.Core.List.{List, [], ◌∷◌, ◌++◌, append-nil}
-use mathlib.Core.Option.{Option, none, some}
+use Rattle.std.specs.Prelude.{Option, None, Some}
 use Prim.Native.Nat.{ℕ, zero, suc, ◌≤◌}
 use native.Mathlib.Omega.{arith}
 use lib.ListN.{length}
@@ -30,7 +30,7 @@ type_storage (scalar s) i b = refl
 type_storage (nested n j t) i b = refl
 type_storage (grouped g fs) i b = refl
 type_storage (dictionary ix ordered t) i b = refl
-type_storage (extension n m t) i b = rw (type_storage t none (some (info_borne b i)))
+type_storage (extension n m t) i b = rw (type_storage t None (Some (info_borne b i)))
 
 -- ── the two that change a type below its first line too
 
@@ -80,50 +80,50 @@ module _ (c : Change) where
         go : (a : Answer ArrowDataType) → step_written {S = Borne} (a >>= λ u. given (writes (given (type_lines u (info_borne b i))) skip)) (λ τ. given []) [] ≡ (a >>= λ u. given (type_lines u (info_borne b i)))
         go (refused r) = refl
         go (given u) = ap given (append-nil (type_lines u (info_borne b i)))
-    type_changed (nested n j t) i b = go (is_map n) (type_changed t (some j) none)
+    type_changed (nested n j t) i b = go (is_map n) (type_changed t (Some j) None)
       where
-        below : (a : Answer ArrowDataType) → ((a >>= λ u. given (type_lines u (some j))) >>= λ x. given (head_text (head_with (of_nesting n) (info_borne b i) 1) ∷ x)) ≡ ((a >>= λ u. given (nested n j u)) >>= λ u. given (type_lines u (info_borne b i)))
+        below : (a : Answer ArrowDataType) → ((a >>= λ u. given (type_lines u (Some j))) >>= λ x. given (head_text (head_with (of_nesting n) (info_borne b i) 1) ∷ x)) ≡ ((a >>= λ u. given (nested n j u)) >>= λ u. given (type_lines u (info_borne b i)))
         below (refused r) = refl
         below (given u) = refl
 
-        go : (m : Bool) → type_walk (change_step c) t (some j) none ≡ (changed c t >>= λ u. given (type_lines u (some j)))
-            → step_written {S = Borne} (unless m (given (writes (own_written (of_nesting n) (info_borne b i) 1) (visit none)))) (λ τ. type_walk (change_step c) t (some j) τ) (type_lines t (some j)) ≡ (unless m (changed c t >>= λ u. given (nested n j u)) >>= λ u. given (type_lines u (info_borne b i)))
+        go : (m : Bool) → type_walk (change_step c) t (Some j) None ≡ (changed c t >>= λ u. given (type_lines u (Some j)))
+            → step_written {S = Borne} (unless m (given (writes (own_written (of_nesting n) (info_borne b i) 1) (visit None)))) (λ τ. type_walk (change_step c) t (Some j) τ) (type_lines t (Some j)) ≡ (unless m (changed c t >>= λ u. given (nested n j u)) >>= λ u. given (type_lines u (info_borne b i)))
         go true next = refl
         go false next = ap (λ (a : Answer (List Bytes)). a >>= λ x. given (head_text (head_with (of_nesting n) (info_borne b i) 1) ∷ x)) next ∙ below (changed c t)
     type_changed (grouped g fs) i b = go (is_union g) (λ h k same. fields_changed fs h k same)
       where
-        go : (m : Bool) → ((h : Fields → Answer (List Bytes)) (k : List Bytes → Answer (List Bytes)) → ((us : Fields) → count_fields us ≡ count_fields fs → h us ≡ k (fields_lines us)) → (fields_walk (change_step c) fs none >>= k) ≡ (all_changed c fs >>= h))
-            → step_written {S = Borne} (unless m (given (writes (own_written (of_grouping g) (info_borne b i) (count_fields fs)) (visit none)))) (λ τ. fields_walk (change_step c) fs τ) (fields_lines fs) ≡ (unless m (all_changed c fs >>= λ us. given (grouped g us)) >>= λ u. given (type_lines u (info_borne b i)))
+        go : (m : Bool) → ((h : Fields → Answer (List Bytes)) (k : List Bytes → Answer (List Bytes)) → ((us : Fields) → count_fields us ≡ count_fields fs → h us ≡ k (fields_lines us)) → (fields_walk (change_step c) fs None >>= k) ≡ (all_changed c fs >>= h))
+            → step_written {S = Borne} (unless m (given (writes (own_written (of_grouping g) (info_borne b i) (count_fields fs)) (visit None)))) (λ τ. fields_walk (change_step c) fs τ) (fields_lines fs) ≡ (unless m (all_changed c fs >>= λ us. given (grouped g us)) >>= λ u. given (type_lines u (info_borne b i)))
         go true next = refl
         go false next =
             next (λ us. given (type_lines (grouped g us) (info_borne b i))) (λ x. given (head_text (head_with (of_grouping g) (info_borne b i) (count_fields fs)) ∷ x))
             (λ us e. ap (λ m. given (head_text (head_with (of_grouping g) (info_borne b i) m) ∷ fields_lines us)) e)
             ∙ sym (chained (all_changed c fs) (λ us. given (grouped g us)) (λ u. given (type_lines u (info_borne b i))))
-    type_changed (dictionary ix ordered t) i b = go c.values (type_changed t none none)
+    type_changed (dictionary ix ordered t) i b = go c.values (type_changed t None None)
       where
-        below : (a : Answer ArrowDataType) → ((a >>= λ u. given (type_lines u none)) >>= λ x. given (head_text (head_with (of_dictionary ix ordered) (info_borne b i) 1) ∷ x)) ≡ ((a >>= λ u. given (dictionary ix ordered u)) >>= λ u. given (type_lines u (info_borne b i)))
+        below : (a : Answer ArrowDataType) → ((a >>= λ u. given (type_lines u None)) >>= λ x. given (head_text (head_with (of_dictionary ix ordered) (info_borne b i) 1) ∷ x)) ≡ ((a >>= λ u. given (dictionary ix ordered u)) >>= λ u. given (type_lines u (info_borne b i)))
         below (refused r) = refl
         below (given u) = refl
 
-        go : (v : Bool) → type_walk (change_step c) t none none ≡ (changed c t >>= λ u. given (type_lines u none))
-            → step_written {S = Borne} (given (dictionary_step v ix ordered (info_borne b i))) (λ τ. type_walk (change_step c) t none τ) (type_lines t none) ≡ (cond v (changed c t >>= λ u. given (dictionary ix ordered u)) (given (index_type ix)) >>= λ u. given (type_lines u (info_borne b i)))
+        go : (v : Bool) → type_walk (change_step c) t None None ≡ (changed c t >>= λ u. given (type_lines u None))
+            → step_written {S = Borne} (given (dictionary_step v ix ordered (info_borne b i))) (λ τ. type_walk (change_step c) t None τ) (type_lines t None) ≡ (cond v (changed c t >>= λ u. given (dictionary ix ordered u)) (given (index_type ix)) >>= λ u. given (type_lines u (info_borne b i)))
         go true next = ap (λ (a : Answer (List Bytes)). a >>= λ x. given (head_text (head_with (of_dictionary ix ordered) (info_borne b i) 1) ∷ x)) next ∙ below (changed c t)
         go false next = refl
-    type_changed (extension n m t) i b = nothing_own (type_walk (change_step c) t none (some (info_borne b i))) ∙ type_changed t none (some (info_borne b i))
+    type_changed (extension n m t) i b = nothing_own (type_walk (change_step c) t None (Some (info_borne b i))) ∙ type_changed t None (Some (info_borne b i))
 
     fields_changed : (fs : Fields) (h : Fields → Answer (List Bytes)) (k : List Bytes → Answer (List Bytes)) → ((us : Fields) → count_fields us ≡ count_fields fs → h us ≡ k (fields_lines us))
-        → (fields_walk (change_step c) fs none >>= k) ≡ (all_changed c fs >>= h)
+        → (fields_walk (change_step c) fs None >>= k) ≡ (all_changed c fs >>= h)
     fields_changed nil h k same = sym (same nil refl)
     fields_changed (add i t fs) h k same =
-        ap (λ (m : Answer (List Bytes)). (m >>= λ a. fields_walk (change_step c) fs none >>= λ x. given (a ++ x)) >>= k) (type_changed t (some i) none)
+        ap (λ (m : Answer (List Bytes)). (m >>= λ a. fields_walk (change_step c) fs None >>= λ x. given (a ++ x)) >>= k) (type_changed t (Some i) None)
         ∙ first (changed c t) (λ h k same. fields_changed fs h k same)
       where
-        first : (a : Answer ArrowDataType) → ((h : Fields → Answer (List Bytes)) (k : List Bytes → Answer (List Bytes)) → ((us : Fields) → count_fields us ≡ count_fields fs → h us ≡ k (fields_lines us)) → (fields_walk (change_step c) fs none >>= k) ≡ (all_changed c fs >>= h))
-            → (((a >>= λ u. given (type_lines u (some i))) >>= λ y. fields_walk (change_step c) fs none >>= λ x. given (y ++ x)) >>= k) ≡ ((a >>= λ u. all_changed c fs >>= λ us. given (add i u us)) >>= h)
+        first : (a : Answer ArrowDataType) → ((h : Fields → Answer (List Bytes)) (k : List Bytes → Answer (List Bytes)) → ((us : Fields) → count_fields us ≡ count_fields fs → h us ≡ k (fields_lines us)) → (fields_walk (change_step c) fs None >>= k) ≡ (all_changed c fs >>= h))
+            → (((a >>= λ u. given (type_lines u (Some i))) >>= λ y. fields_walk (change_step c) fs None >>= λ x. given (y ++ x)) >>= k) ≡ ((a >>= λ u. all_changed c fs >>= λ us. given (add i u us)) >>= h)
         first (refused r) next = refl
         first (given u) next =
-            chained (fields_walk (change_step c) fs none) (λ x. given (type_lines u (some i) ++ x)) k
-            ∙ next (λ us. h (add i u us)) (λ x. k (type_lines u (some i) ++ x)) (λ us e. same (add i u us) (ap suc e))
+            chained (fields_walk (change_step c) fs None) (λ x. given (type_lines u (Some i) ++ x)) k
+            ∙ next (λ us. h (add i u us)) (λ x. k (type_lines u (Some i) ++ x)) (λ us e. same (add i u us) (ap suc e))
             ∙ sym (chained (all_changed c fs) (λ us. given (add i u us)) h)
 
 -- `to_storage_recursive`
@@ -136,20 +136,20 @@ type_underlying t i b = type_changed underlying_change t i b ∙ ap (λ (a : Ans
 
 -- ── `inner_dtype`
 
-pub inner_bare : (t : ArrowDataType) (i : Option Info) → type_walk inner_dtype_step t i false ≡ given (type_lines t none)
+pub inner_bare : (t : ArrowDataType) (i : Option Info) → type_walk inner_dtype_step t i false ≡ given (type_lines t None)
 inner_bare (scalar s) i = refl
 inner_bare (nested n j t) i = refl
 inner_bare (grouped g fs) i = refl
 inner_bare (dictionary ix ordered t) i = refl
 inner_bare (extension n m t) i = refl
 
-pub type_inner : (t : ArrowDataType) (i : Option Info) → type_walk inner_dtype_step t i true ≡ (inner_dtype t >>= λ u. given (type_lines u none))
+pub type_inner : (t : ArrowDataType) (i : Option Info) → type_walk inner_dtype_step t i true ≡ (inner_dtype t >>= λ u. given (type_lines u None))
 type_inner (scalar s) i = refl
 type_inner (nested n j t) i = go (is_map n)
   where
-    go : (m : Bool) → step_written {S = Bool} (unless m (given (writes (given []) (visit false)))) (λ τ. type_walk inner_dtype_step t (some j) τ) (type_lines t (some j)) ≡ (unless m (given t) >>= λ u. given (type_lines u none))
+    go : (m : Bool) → step_written {S = Bool} (unless m (given (writes (given []) (visit false)))) (λ τ. type_walk inner_dtype_step t (Some j) τ) (type_lines t (Some j)) ≡ (unless m (given t) >>= λ u. given (type_lines u None))
     go true = refl
-    go false = ap (λ (a : Answer (List Bytes)). a >>= λ x. given ([] ++ x)) (inner_bare t (some j))
+    go false = ap (λ (a : Answer (List Bytes)). a >>= λ x. given ([] ++ x)) (inner_bare t (Some j))
 type_inner (grouped g fs) i = refl
 type_inner (dictionary ix ordered t) i = refl
 type_inner (extension n m t) i = refl
@@ -186,30 +186,30 @@ child_absent (suc k) (x ∷ us) h = child_absent k us (omega arith)
 
 -- ── sheets, with the heading
 
-pub sheet_storage : (b : Bytes) → mapped (λ t. given (to_storage t)) b ≡ sheet_walk to_storage_step none field_heading b
-sheet_storage b = sheet_walked to_storage_step none field_heading b (λ f. given (type_lines (to_storage f.type) (some f.info))) (λ f. type_storage f.type (some f.info) none)
+pub sheet_storage : (b : Bytes) → mapped (λ t. given (to_storage t)) b ≡ sheet_walk to_storage_step None field_heading b
+sheet_storage b = sheet_walked to_storage_step None field_heading b (λ f. given (type_lines (to_storage f.type) (Some f.info))) (λ f. type_storage f.type (Some f.info) None)
 
 -- what a change answers, and what a choice answers
-sheet_mapped : {S : Type 0} (step : S → Head → Answer (Step S)) (σ : S) (change : ArrowDataType → Answer ArrowDataType) → ((t : ArrowDataType) (i : Info) → type_walk step t (some i) σ ≡ (change t >>= λ u. given (type_lines u (some i))))
+sheet_mapped : {S : Type 0} (step : S → Head → Answer (Step S)) (σ : S) (change : ArrowDataType → Answer ArrowDataType) → ((t : ArrowDataType) (i : Info) → type_walk step t (Some i) σ ≡ (change t >>= λ u. given (type_lines u (Some i))))
     → (b : Bytes) → mapped change b ≡ sheet_walk step σ field_heading b
 sheet_mapped step σ change h b =
-    chain_same (read_field_sheet b) (read_field_sheet b) (λ f. change f.type >>= λ t. given (write_sheet field_heading (type_lines t (some f.info)))) (λ f. (change f.type >>= λ u. given (type_lines u (some f.info))) >>= λ ls. given (write_sheet field_heading ls)) refl
-    (λ f. sym (chained (change f.type) (λ u. given (type_lines u (some f.info))) (λ ls. given (write_sheet field_heading ls))))
-    ∙ sheet_walked step σ field_heading b (λ f. change f.type >>= λ u. given (type_lines u (some f.info))) (λ f. h f.type f.info)
+    chain_same (read_field_sheet b) (read_field_sheet b) (λ f. change f.type >>= λ t. given (write_sheet field_heading (type_lines t (Some f.info)))) (λ f. (change f.type >>= λ u. given (type_lines u (Some f.info))) >>= λ ls. given (write_sheet field_heading ls)) refl
+    (λ f. sym (chained (change f.type) (λ u. given (type_lines u (Some f.info))) (λ ls. given (write_sheet field_heading ls))))
+    ∙ sheet_walked step σ field_heading b (λ f. change f.type >>= λ u. given (type_lines u (Some f.info))) (λ f. h f.type f.info)
 
-pub sheet_recursive : (b : Bytes) → mapped to_storage_recursive b ≡ sheet_walk (change_step storage_change) none field_heading b
-sheet_recursive = sheet_mapped (change_step storage_change) none to_storage_recursive (λ t i. type_recursive t (some i) none)
+pub sheet_recursive : (b : Bytes) → mapped to_storage_recursive b ≡ sheet_walk (change_step storage_change) None field_heading b
+sheet_recursive = sheet_mapped (change_step storage_change) None to_storage_recursive (λ t i. type_recursive t (Some i) None)
 
-pub sheet_underlying : (b : Bytes) → mapped underlying_physical_type b ≡ sheet_walk (change_step underlying_change) none field_heading b
-sheet_underlying = sheet_mapped (change_step underlying_change) none underlying_physical_type (λ t i. type_underlying t (some i) none)
+pub sheet_underlying : (b : Bytes) → mapped underlying_physical_type b ≡ sheet_walk (change_step underlying_change) None field_heading b
+sheet_underlying = sheet_mapped (change_step underlying_change) None underlying_physical_type (λ t i. type_underlying t (Some i) None)
 
-picked_lines : (pick : ArrowDataType → Answer ArrowDataType) (b : Bytes) → picked pick b ≡ (read_field_sheet b >>= λ f. (pick f.type >>= λ u. given (type_lines u none)) >>= λ ls. given (write_sheet field_heading ls))
+picked_lines : (pick : ArrowDataType → Answer ArrowDataType) (b : Bytes) → picked pick b ≡ (read_field_sheet b >>= λ f. (pick f.type >>= λ u. given (type_lines u None)) >>= λ ls. given (write_sheet field_heading ls))
 picked_lines pick b =
-    chain_same (read_field_sheet b) (read_field_sheet b) (λ f. pick f.type >>= λ t. given (write_sheet field_heading (type_lines t none))) (λ f. (pick f.type >>= λ u. given (type_lines u none)) >>= λ ls. given (write_sheet field_heading ls)) refl
-    (λ f. sym (chained (pick f.type) (λ u. given (type_lines u none)) (λ ls. given (write_sheet field_heading ls))))
+    chain_same (read_field_sheet b) (read_field_sheet b) (λ f. pick f.type >>= λ t. given (write_sheet field_heading (type_lines t None))) (λ f. (pick f.type >>= λ u. given (type_lines u None)) >>= λ ls. given (write_sheet field_heading ls)) refl
+    (λ f. sym (chained (pick f.type) (λ u. given (type_lines u None)) (λ ls. given (write_sheet field_heading ls))))
 
 pub sheet_inner : (b : Bytes) → picked inner_dtype b ≡ sheet_walk inner_dtype_step true field_heading b
-sheet_inner b = picked_lines inner_dtype b ∙ sheet_walked inner_dtype_step true field_heading b (λ f. inner_dtype f.type >>= λ u. given (type_lines u none)) (λ f. type_inner f.type (some f.info))
+sheet_inner b = picked_lines inner_dtype b ∙ sheet_walked inner_dtype_step true field_heading b (λ f. inner_dtype f.type >>= λ u. given (type_lines u None)) (λ f. type_inner f.type (Some f.info))
 
 pub sheet_child : (k : ℕ) (b : Bytes) → picked (get_child k) b ≡ (read_field_sheet b >>= λ f. child_of k (children_at f.type) >>= λ t. given (write_bare_sheet t))
 sheet_child k b =

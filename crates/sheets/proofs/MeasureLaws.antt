@@ -6,7 +6,7 @@ use mathlib.Core.Path.{◌≡◌, refl, sym, ap, subst}
 use mathlib.Core.Logic.{◌↔◌, ◌≢◌}
 use mathlib.Core.Bool.{Bool, true, false}
 use mathlib.Core.List.{List, ◌∷◌}
-use mathlib.Core.Option.{Option, some}
+use Rattle.std.specs.Prelude.{Option, Some}
 use Prim.Native.Nat.{ℕ, ◌≤◌, ◌<◌}
 use native.Mathlib.Omega.{arith}
 use lib.Dec.{leb}
@@ -104,7 +104,7 @@ import_some (schema n cs d) = omega arith
 
 pub export_some : (f : Field) → 1 ≤ export_lines f
 unfolding export_lines
-export_some f = go f.type (some f.info) false
+export_some f = go f.type (Some f.info) false
   where
     go : (t : ArrowDataType) (i : Option Info) (inside : Bool) → 1 ≤ length (export_visits t i inside)
     go (scalar s) i inside = omega arith
@@ -118,7 +118,7 @@ pub import_measures : (big : Bool) (b : Bytes) → Measures (import_outcome_in b
 unfolding imported
 import_measures big b =
     measures (imported big b) (lines_in import_lines (read_schema_sheet b))
-    (read_some (read_schema_sheet b) (to_field big) field_heading (λ f. type_lines f.type (some f.info)) import_lines import_some)
+    (read_some (read_schema_sheet b) (to_field big) field_heading (λ f. type_lines f.type (Some f.info)) import_lines import_some)
 
 pub export_measures : (big : Bool) (b : Bytes) → Measures (export_outcome_in big b) (measure_export_outcome big b)
 unfolding exported

@@ -3,7 +3,7 @@
 use mathlib.Core.Path.{◌≡◌, refl, sym, ◌∙◌, ap}
 use mathlib.Core.Bool.{Bool, true, false, cond}
 use mathlib.Core.List.{List, [], ◌∷◌, ◌++◌, append_assoc, append-nil}
-use mathlib.Core.Option.{Option, none, some}
+use Rattle.std.specs.Prelude.{Option, None, Some}
 use Prim.Native.Nat.{ℕ, zero, suc, ◌+◌, ◌/◌, ◌%◌, ◌^◌, ◌<◌, ◌≤◌}
 use native.Mathlib.Omega.{arith}
 use native.Mathlib.Nat.{div-add-mod, div-lt_iff_lt-mul, pow-suc}
@@ -52,7 +52,7 @@ word_value true n h = little_value_lem 4 n h
 word_value false n h = little_value_lem 4 n h
 
 -- the column of a block that begins with a word is its hexadecimal text: it is not empty
-pub word_text : (big : Bool) (n : ℕ) (r : Bytes) → write_text (some (word32 big n ++ r)) ≡ hex (word32 big n ++ r)
+pub word_text : (big : Bool) (n : ℕ) (r : Bytes) → write_text (Some (word32 big n ++ r)) ≡ hex (word32 big n ++ r)
 word_text true n r = refl
 word_text false n r = refl
 
@@ -140,7 +140,7 @@ ordinary_insert p r (q ∷ qs) = pick (before p.0 q.0) (same p.0 q.0) refl (ordi
     pick false true e next = rw (r, ← (same_eq p.0 q.0 e), r)
     pick false false e next = rw next
 
-value_none : (k : Bytes) → reserved k ≡ true → (ps : List Pair) → Meets (no_reserved ps) → value_of k ps ≡ none
+value_none : (k : Bytes) → reserved k ≡ true → (ps : List Pair) → Meets (no_reserved ps) → value_of k ps ≡ None
 value_none k r [] h = refl
 value_none k r (p ∷ ps) h = rw (value_none k r ps h.1, other (same p.0 k) refl)
   where
@@ -148,23 +148,23 @@ value_none k r (p ∷ ps) h = rw (value_none k r ps h.1, other (same p.0 k) refl
     other true e = sym r ∙ ap reserved (sym (same_eq p.0 k e)) ∙ not-true (reserved p.0) h.0
     other false e = refl
 
-pub or_none_lem : (x : Option Bytes) → or_else x none ≡ x
-or_none_lem none = refl
-or_none_lem (some x) = refl
+pub or_none_lem : (x : Option Bytes) → or_else x None ≡ x
+or_none_lem None = refl
+or_none_lem (Some x) = refl
 
-none_left : (x y : Option Bytes) → or_else x y ≡ none → x ≡ none
-none_left none y h = refl
-none_left (some x) y h = h
+none_left : (x y : Option Bytes) → or_else x y ≡ None → x ≡ None
+none_left None y h = refl
+none_left (Some x) y h = h
 
-value_same : (p : Pair) (ps : List Pair) → value_of p.0 ps ≡ none → value_of p.0 (insert_over p ps) ≡ some p.1
+value_same : (p : Pair) (ps : List Pair) → value_of p.0 ps ≡ None → value_of p.0 (insert_over p ps) ≡ Some p.1
 value_same p [] h = rw (same_refl p.0)
 value_same p (q ∷ qs) h = pick (before p.0 q.0) (same p.0 q.0) (value_same p qs rest)
   where
-    rest : value_of p.0 qs ≡ none
-    rest = none_left (value_of p.0 qs) (cond (same q.0 p.0) (some q.1) none) h
+    rest : value_of p.0 qs ≡ None
+    rest = none_left (value_of p.0 qs) (cond (same q.0 p.0) (Some q.1) None) h
 
-    pick : (b s : Bool) → value_of p.0 (insert_over p qs) ≡ some p.1
-        → value_of p.0 (cond b (p ∷ q ∷ qs) (cond s (p ∷ qs) (q ∷ insert_over p qs))) ≡ some p.1
+    pick : (b s : Bool) → value_of p.0 (insert_over p qs) ≡ Some p.1
+        → value_of p.0 (cond b (p ∷ q ∷ qs) (cond s (p ∷ qs) (q ∷ insert_over p qs))) ≡ Some p.1
     pick true s next = rw (h, same_refl p.0)
     pick false true next = rw (rest, same_refl p.0)
     pick false false next = rw next
@@ -182,13 +182,13 @@ value_other k p d (q ∷ qs) = pick (before p.0 q.0) (same p.0 q.0) refl (value_
 -- ── the whole
 
 some_plain : (ps : Option (List Pair)) → some_pairs (or_none ps) ≡ plain_pairs ps
-some_plain none = refl
-some_plain (some []) = refl
-some_plain (some (p ∷ ps)) = refl
+some_plain None = refl
+some_plain (Some []) = refl
+some_plain (Some (p ∷ ps)) = refl
 
 abbrev pub extension_rule : Option Extension → Rule
-extension_rule none = is true
-extension_rule (some e) = is (is_utf8 e.0) and text_rule e.1
+extension_rule None = is true
+extension_rule (Some e) = is (is_utf8 e.0) and text_rule e.1
 
 insert_text : (p : Pair) → Meets (text_pair p) → (ps : List Pair) → Meets (each text_pair ps) → Meets (each text_pair (insert_over p ps))
 insert_text p h [] k = (h, refl)
@@ -200,20 +200,20 @@ insert_text p h (q ∷ qs) k = pick (before p.0 q.0) (same p.0 q.0) (insert_text
     pick false false next = (k.0, next)
 
 with_text : (m : Option Bytes) (ps : List Pair) → Meets (text_rule m) → Meets (each text_pair ps) → Meets (each text_pair (with_metadata m ps))
-with_text none ps h k = k
-with_text (some m) ps h k = insert_text (metadata_key, m) (refl, h) ps k
+with_text None ps h k = k
+with_text (Some m) ps h k = insert_text (metadata_key, m) (refl, h) ps k
 
-pub all_text : (e : Extension) (ps : List Pair) → Meets (extension_rule (some e)) → Meets (each text_pair ps) → Meets (each text_pair (insert_over (name_key, e.0) (with_metadata e.1 ps)))
+pub all_text : (e : Extension) (ps : List Pair) → Meets (extension_rule (Some e)) → Meets (each text_pair ps) → Meets (each text_pair (insert_over (name_key, e.0) (with_metadata e.1 ps)))
 all_text e ps h k = insert_text (name_key, e.0) (refl, h.0) (with_metadata e.1 ps) (with_text e.1 ps h.1 k)
 
 pub pairs_text_lem : (ps : List Pair) → Meets (pairs_rule ps) → Meets (each text_pair ps)
 pairs_text_lem [] h = refl
 pairs_text_lem (p ∷ ps) h = ((h.0, h.1.0), pairs_text_lem ps h.1.1.1)
 
-with_values : (m : Option Bytes) (n : Bytes) (ps : List Pair) → Meets (no_reserved ps) → meaning (insert_over (name_key, n) (with_metadata m ps)) ≡ (some_pairs (ordinary ps), some (n, m))
-with_values none n ps h =
+with_values : (m : Option Bytes) (n : Bytes) (ps : List Pair) → Meets (no_reserved ps) → meaning (insert_over (name_key, n) (with_metadata m ps)) ≡ (some_pairs (ordinary ps), Some (n, m))
+with_values None n ps h =
     rw (ordinary_insert (name_key, n) refl ps, value_same (name_key, n) ps (value_none name_key refl ps h), value_other metadata_key (name_key, n) refl ps, value_none metadata_key refl ps h)
-with_values (some m) n ps h =
+with_values (Some m) n ps h =
     rw (
       ordinary_insert (name_key, n) refl (insert_over (metadata_key, m) ps),
       ordinary_insert (metadata_key, m) refl ps,
@@ -222,27 +222,27 @@ with_values (some m) n ps h =
       value_same (metadata_key, m) ps (value_none metadata_key refl ps h),
     )
 
-none_values : (ps : List Pair) → Meets (no_reserved ps) → meaning ps ≡ (some_pairs (ordinary ps), none)
+none_values : (ps : List Pair) → Meets (no_reserved ps) → meaning ps ≡ (some_pairs (ordinary ps), None)
 none_values ps h = rw (value_none name_key refl ps h)
 
 pub pairs_ordered : (ps : Option (List Pair)) → Meets (metadata_rule ps) → Meets (pairs_rule (or_none ps))
-pairs_ordered none h = h
-pairs_ordered (some ps) h = h
+pairs_ordered None h = h
+pairs_ordered (Some ps) h = h
 
 -- the block, where there is one, has a length that 32 bits count
 abbrev pub short_block : Option Bytes → Rule
-short_block none = is true
-short_block (some b) = is (ltb (length b) (2 ^ 31))
+short_block None = is true
+short_block (Some b) = is (ltb (length b) (2 ^ 31))
 
 module _ (big : Bool) where
-  read_plain : (ps : List Pair) → Meets (pairs_rule ps) → Meets (no_reserved ps) → Meets (short_block (block_of big ps)) → metadata_from_bytes big (block_of big ps) ≡ given (some_pairs ps, none)
+  read_plain : (ps : List Pair) → Meets (pairs_rule ps) → Meets (no_reserved ps) → Meets (short_block (block_of big ps)) → metadata_from_bytes big (block_of big ps) ≡ given (some_pairs ps, None)
   read_plain [] h k l = refl
   read_plain (p ∷ ps) h k l =
       rw (read_block_lem big (p ∷ ps) (pairs_text_lem (p ∷ ps) h) (ltb-true (length (metadata_to_bytes big (p ∷ ps))) (2 ^ 31) l)) (rw (none_values (p ∷ ps) k, ordinary_same (p ∷ ps) h k))
 
   pub read_metadata : (ps : Option (List Pair)) (e : Option Extension) → Meets (metadata_rule ps) → Meets (no_reserved (or_none ps)) → Meets (extension_rule e) → Meets (short_block (schema_metadata big ps e))
       → metadata_from_bytes big (schema_metadata big ps e) ≡ given (plain_pairs ps, e)
-  read_metadata ps none h k x l = rw (← (some_plain ps)) (read_plain (or_none ps) (pairs_ordered ps h) k l)
-  read_metadata ps (some e) h k x l =
+  read_metadata ps None h k x l = rw (← (some_plain ps)) (read_plain (or_none ps) (pairs_ordered ps h) k l)
+  read_metadata ps (Some e) h k x l =
       rw (← (some_plain ps), read_block_lem big (insert_over (name_key, e.0) (with_metadata e.1 (or_none ps))) (all_text e (or_none ps) x (pairs_text_lem (or_none ps) (pairs_ordered ps h))) (ltb-true _ (2 ^ 31) l))
       (rw (with_values e.1 e.0 (or_none ps) k, ordinary_same (or_none ps) (pairs_ordered ps h) k))

@@ -3,7 +3,7 @@
 use mathlib.Core.Path.{◌≡◌, refl, sym, ◌∙◌, subst}
 use mathlib.Core.Bool.{Bool, true, false, ◌||◌, cond}
 use mathlib.Core.List.{List, [], ◌∷◌, ◌++◌}
-use mathlib.Core.Option.{Option, none, some}
+use Rattle.std.specs.Prelude.{Option, None, Some}
 use Prim.Native.Nat.{ℕ, zero, suc, ◌+◌}
 use lib.Dec.{eqb, leb}
 use lib.ListN.{length}
@@ -35,8 +35,8 @@ single_only (t ∷ []) = given_only t
 single_only (t ∷ u ∷ us) = refused_only
 
 field_of_only : (e : Entry) → OnlyLines (field_of e)
-field_of_only (none, t) = refused_only
-field_of_only (some i, t) = given_only _
+field_of_only (None, t) = refused_only
+field_of_only (Some i, t) = given_only _
 
 -- ── refusals among given numbers
 
@@ -74,8 +74,8 @@ only_when {A} ns q h rule a = pick (passes rule)
     pick false = only_refused ns q h
 
 pub only_found : {A : Type 0} (ns : List ℕ) (q : Refusal) → one_of ns (number_of q) ≡ true → (o : Option A) → Only ns (found q o)
-only_found ns q h none = only_refused ns q h
-only_found ns q h (some a) = only_given ns a
+only_found ns q h None = only_refused ns q h
+only_found ns q h (Some a) = only_given ns a
 
 -- each of these numbers is one of those
 abbrev pub among : List ℕ → List ℕ → Rule
@@ -130,10 +130,10 @@ scalar_numbers (decimal_type w p s) = only_given owner_numbers _
 
 grouping_numbers : (g : Grouping) (count : ℕ) → Only owner_numbers (grouping_format g count)
 grouping_numbers struct count = only_given owner_numbers _
-grouping_numbers (union mode none) zero = only_refused owner_numbers no_union_ids refl
-grouping_numbers (union mode none) (suc count) = only_given owner_numbers _
-grouping_numbers (union mode (some [])) count = only_refused owner_numbers no_union_ids refl
-grouping_numbers (union mode (some (z ∷ zs))) count = only_given owner_numbers _
+grouping_numbers (union mode None) zero = only_refused owner_numbers no_union_ids refl
+grouping_numbers (union mode None) (suc count) = only_given owner_numbers _
+grouping_numbers (union mode (Some [])) count = only_refused owner_numbers no_union_ids refl
+grouping_numbers (union mode (Some (z ∷ zs))) count = only_given owner_numbers _
 
 module _ (big : Bool) where
   node_numbers : (i : Info) (e : Option Extension) (f : Bytes) (x : ℕ) (cs : Schemas) (d : Dictionary) → Only owner_numbers (schema_node big i e f x cs d)
@@ -142,21 +142,21 @@ module _ (big : Bool) where
   mutual
     type_numbers : (t : ArrowDataType) (i : Info) (e : Option Extension) → Only owner_numbers (schema_new_of big t i e)
     type_numbers (scalar s) i e = only_chain owner_numbers (scalar_format s) _ (scalar_numbers s) (λ f g. node_numbers i e f 0 end absent)
-    type_numbers (nested n j t) i e = only_chain owner_numbers (schema_new_of big t j none) _ (type_numbers t j none) (λ c g. node_numbers i e (nesting_format n) (sorted_flag n) (c & end) absent)
+    type_numbers (nested n j t) i e = only_chain owner_numbers (schema_new_of big t j None) _ (type_numbers t j None) (λ c g. node_numbers i e (nesting_format n) (sorted_flag n) (c & end) absent)
     type_numbers (grouped g fs) i e =
         only_chain owner_numbers (grouping_format g (count_fields fs)) _ (grouping_numbers g (count_fields fs))
         (λ f q. only_chain owner_numbers (schema_children big fs) _ (fields_numbers fs) (λ cs p. node_numbers i e f 0 cs absent))
-    type_numbers (dictionary ix ordered t) i none =
+    type_numbers (dictionary ix ordered t) i None =
         only_chain owner_numbers (index_format ix) _ (scalar_numbers (leaf (ix + Kind.Int8) 0))
-        (λ f q. only_chain owner_numbers (schema_new_of big t values_info none) _ (type_numbers t values_info none) (λ d p. node_numbers i none f (flag ordered ORDERED) end (present d)))
-    type_numbers (dictionary ix ordered t) i (some e) =
-        only_chain owner_numbers (index_format ix) _ (scalar_numbers (leaf (ix + Kind.Int8) 0)) (λ f q. node_numbers i (some e) f 0 end absent)
+        (λ f q. only_chain owner_numbers (schema_new_of big t values_info None) _ (type_numbers t values_info None) (λ d p. node_numbers i None f (flag ordered ORDERED) end (present d)))
+    type_numbers (dictionary ix ordered t) i (Some e) =
+        only_chain owner_numbers (index_format ix) _ (scalar_numbers (leaf (ix + Kind.Int8) 0)) (λ f q. node_numbers i (Some e) f 0 end absent)
     type_numbers (extension n m t) i e = type_numbers t i _
 
     fields_numbers : (fs : Fields) → Only owner_numbers (schema_children big fs)
     fields_numbers nil = only_given owner_numbers end
     fields_numbers (add i t fs) =
-        only_chain owner_numbers (schema_new_of big t i none) _ (type_numbers t i none) (λ c q. only_chain owner_numbers (schema_children big fs) _ (fields_numbers fs) (λ cs p. only_given owner_numbers (c & cs)))
+        only_chain owner_numbers (schema_new_of big t i None) _ (type_numbers t i None) (λ c q. only_chain owner_numbers (schema_children big fs) _ (fields_numbers fs) (λ cs p. only_given owner_numbers (c & cs)))
 
 -- export: the sheet's maker and the field's owner are turned back, and no other
 abbrev pub export_numbers : List ℕ
@@ -167,7 +167,7 @@ module _ (big : Bool) where
   unfolding exported
   export_numbers_lem b =
       only_chain export_numbers (read_field_sheet b) _ (field_sheet_numbers export_numbers refl refl refl b)
-      (λ f e. only_chain export_numbers (schema_new big f) _ (only_more owner_numbers export_numbers (meets (among owner_numbers export_numbers) refl) (schema_new big f) (type_numbers big f.type f.info none)) (λ s g. only_given export_numbers _))
+      (λ f e. only_chain export_numbers (schema_new big f) _ (only_more owner_numbers export_numbers (meets (among owner_numbers export_numbers) refl) (schema_new big f) (type_numbers big f.type f.info None)) (λ s g. only_given export_numbers _))
 
 -- strict export: its own tests besides
 abbrev pub test_numbers : List ℕ
@@ -190,8 +190,8 @@ module _ (big : Bool) where
   strict_numbers_lem b =
       only_chain strict_numbers (read_field_sheet b) _ (field_sheet_numbers strict_numbers refl refl refl b)
       (λ f e. only_chain strict_numbers (field_returns f) _
-      (only_more test_numbers strict_numbers (meets (among test_numbers strict_numbers) refl) (field_returns f) (lines_numbers (type_heads f.type (some f.info))))
-      (λ u g. only_chain strict_numbers (schema_new big f) _ (only_more owner_numbers strict_numbers (meets (among owner_numbers strict_numbers) refl) (schema_new big f) (type_numbers big f.type f.info none)) (λ s k. only_given strict_numbers _)))
+      (only_more test_numbers strict_numbers (meets (among test_numbers strict_numbers) refl) (field_returns f) (lines_numbers (type_heads f.type (Some f.info))))
+      (λ u g. only_chain strict_numbers (schema_new big f) _ (only_more owner_numbers strict_numbers (meets (among owner_numbers strict_numbers) refl) (schema_new big f) (type_numbers big f.type f.info None)) (λ s k. only_given strict_numbers _)))
 
 -- either export
 abbrev pub export_numbers_as : Bool → List ℕ

@@ -6,7 +6,7 @@ use mathlib.Core.Path.{◌≡◌, refl, sym, ◌∙◌, ap, ap₂, subst}
 use mathlib.Core.Logic.{◌↔◌, ◌≢◌}
 use mathlib.Core.Bool.{Bool, true, false, ◌&&◌, cond}
 use mathlib.Core.List.{List, [], ◌∷◌, ◌++◌, map, map-append, append_assoc, zip_with}
-use mathlib.Core.Option.{Option, none, some}
+use Rattle.std.specs.Prelude.{Option, None, Some}
 use Prim.Native.Nat.{ℕ, zero, suc, ◌+◌, ◌-◌, ◌*◌, ◌≤◌, ◌<◌, max}
 use native.Mathlib.Nat.{mul-zero, mul-suc, add_comm}
 use native.Mathlib.Omega.{arith}
@@ -153,34 +153,34 @@ line_length level x h =
 pub byte_72 : (level : ℕ) (x : Head) → level < 1000 → get_or (page_line level x) 71 0 ≡ cut_mark (name_digits x.info)
 byte_72 level x h = shown_cut level (columns x.shape).kind (nullable_mark x.info) (name_digits x.info) h
 
-cut_exactly : (i : Info) → (cut_mark (name_digits (some i)) ≡ plus_sign) ↔ (24 < length i.name)
-cut_exactly i = (go (ltb name_width (length (name_digits (some i)))) refl, λ l. rw (lt-ltb name_width (length (name_digits (some i))) (omega (arith, hex_length i.name))))
+cut_exactly : (i : Info) → (cut_mark (name_digits (Some i)) ≡ plus_sign) ↔ (24 < length i.name)
+cut_exactly i = (go (ltb name_width (length (name_digits (Some i)))) refl, λ l. rw (lt-ltb name_width (length (name_digits (Some i))) (omega (arith, hex_length i.name))))
   where
-    go : (t : Bool) → ltb name_width (length (name_digits (some i))) ≡ t → cond t plus_sign space ≡ plus_sign → 24 < length i.name
-    go true l k = omega (arith, ltb-true name_width (length (name_digits (some i))) l, hex_length i.name)
+    go : (t : Bool) → ltb name_width (length (name_digits (Some i))) ≡ t → cond t plus_sign space ≡ plus_sign → 24 < length i.name
+    go true l k = omega (arith, ltb-true name_width (length (name_digits (Some i))) l, hex_length i.name)
     go false l k = absurd (omega arith)
 
 -- it is `+` exactly if the name has more than 24 bytes
-pub plus_exactly : (level : ℕ) (x : Head) (i : Info) → level < 1000 → x.info ≡ some i → (get_or (page_line level x) 71 0 ≡ plus_sign) ↔ (24 < length i.name)
+pub plus_exactly : (level : ℕ) (x : Head) (i : Info) → level < 1000 → x.info ≡ Some i → (get_or (page_line level x) 71 0 ≡ plus_sign) ↔ (24 < length i.name)
 plus_exactly level x i h e =
     subst (λ (c : ℕ). (c ≡ plus_sign) ↔ (24 < length i.name)) (sym (byte_72 level x h ∙ ap (λ (o : Option Info). cut_mark (name_digits o)) e)) (cut_exactly i)
 
 -- and a space in a bare line
-pub bare_space : (level : ℕ) (x : Head) → level < 1000 → x.info ≡ none → get_or (page_line level x) 71 0 ≡ space
+pub bare_space : (level : ℕ) (x : Head) → level < 1000 → x.info ≡ None → get_or (page_line level x) 71 0 ≡ space
 bare_space level x h e = byte_72 level x h ∙ ap (λ (o : Option Info). cut_mark (name_digits o)) e
 
 -- "An empty name and a bare line show 48 spaces"
-pub bare_spaces : name_column (name_digits none) ≡ replicate name_width space
+pub bare_spaces : name_column (name_digits None) ≡ replicate name_width space
 bare_spaces = refl
 
-pub empty_spaces : (i : Info) → i.name ≡ [] → name_column (name_digits (some i)) ≡ replicate name_width space
+pub empty_spaces : (i : Info) → i.name ≡ [] → name_column (name_digits (Some i)) ≡ replicate name_width space
 empty_spaces i e = rw e
 
 -- and differ in the column before
-pub bare_differs : (i : Info) → nullable_mark none ≢ nullable_mark (some i)
+pub bare_differs : (i : Info) → nullable_mark None ≢ nullable_mark (Some i)
 bare_differs i = go i.nullable
   where
-    go : (b : Bool) → nullable_mark none ≡ cond b 121 110 → ⊥
+    go : (b : Bool) → nullable_mark None ≡ cond b 121 110 → ⊥
     go true e = omega arith
     go false e = omega arith
 
@@ -206,20 +206,20 @@ mutual
   -- a type whose first line is on level m or, where it is an extension directly in another, one deeper
   type_tallest : (t : ArrowDataType) (i : Option Info) (n m : ℕ) (inside : Bool) → n ≡ m + to_nat (inside && is_extension (type_shape t)) → suc (tallest placed_level (type_placed t i n)) ≡ m + type_levels t inside
   type_tallest (scalar s) i n m inside e = omega (arith, e, not_deeper inside)
-  type_tallest (nested g j t) i n m inside e = omega (arith, e, not_deeper inside, type_tallest t (some j) (suc n) (suc n) false (omega arith))
+  type_tallest (nested g j t) i n m inside e = omega (arith, e, not_deeper inside, type_tallest t (Some j) (suc n) (suc n) false (omega arith))
   type_tallest (grouped g fs) i n m inside e = omega (arith, e, not_deeper inside, fields_tallest fs n)
-  type_tallest (dictionary ix ordered t) i n m inside e = omega (arith, e, not_deeper inside, type_tallest t none (suc n) (suc n) false (omega arith))
-  type_tallest (extension a b t) i n m true e = omega (arith, e, levels_some true t, type_tallest t none (inner_level n t) n true (inner_level_lem n t))
-  type_tallest (extension a b t) i n m false e = omega (arith, e, levels_some true t, type_tallest t none (inner_level n t) n true (inner_level_lem n t))
+  type_tallest (dictionary ix ordered t) i n m inside e = omega (arith, e, not_deeper inside, type_tallest t None (suc n) (suc n) false (omega arith))
+  type_tallest (extension a b t) i n m true e = omega (arith, e, levels_some true t, type_tallest t None (inner_level n t) n true (inner_level_lem n t))
+  type_tallest (extension a b t) i n m false e = omega (arith, e, levels_some true t, type_tallest t None (inner_level n t) n true (inner_level_lem n t))
 
   fields_tallest : (fs : Fields) (n : ℕ) → max n (tallest placed_level (fields_placed fs (suc n))) ≡ n + fields_levels fs
   fields_tallest nil n = omega arith
   fields_tallest (add i t fs) n =
-      omega (arith, tallest_append placed_level (type_placed t (some i) (suc n)) (fields_placed fs (suc n)), type_tallest t (some i) (suc n) (suc n) false (omega arith), fields_tallest fs n)
+      omega (arith, tallest_append placed_level (type_placed t (Some i) (suc n)) (fields_placed fs (suc n)), type_tallest t (Some i) (suc n) (suc n) false (omega arith), fields_tallest fs n)
 
 -- the levels of the page are those that 3 is decided by
 pub page_levels : (f : Field) → tallest placed_level (placed_lines f) ≡ field_levels f
-page_levels f = omega (arith, type_tallest f.type (some f.info) 1 1 false refl)
+page_levels f = omega (arith, type_tallest f.type (Some f.info) 1 1 false refl)
 
 abbrev FromOne : Placed → Type 0
 FromOne x = 1 ≤ x.level
@@ -227,14 +227,14 @@ FromOne x = 1 ≤ x.level
 mutual
   type_first : (t : ArrowDataType) (i : Option Info) (n : ℕ) → 1 ≤ n → Each FromOne (type_placed t i n)
   type_first (scalar s) i n h = (h, tt)
-  type_first (nested g j t) i n h = (h, type_first t (some j) (suc n) (omega arith))
+  type_first (nested g j t) i n h = (h, type_first t (Some j) (suc n) (omega arith))
   type_first (grouped g fs) i n h = (h, fields_first fs (suc n) (omega arith))
-  type_first (dictionary ix ordered t) i n h = (h, type_first t none (suc n) (omega arith))
-  type_first (extension a m t) i n h = (h, type_first t none (inner_level n t) (omega (arith, inner_level_lem n t)))
+  type_first (dictionary ix ordered t) i n h = (h, type_first t None (suc n) (omega arith))
+  type_first (extension a m t) i n h = (h, type_first t None (inner_level n t) (omega (arith, inner_level_lem n t)))
 
   fields_first : (fs : Fields) (n : ℕ) → 1 ≤ n → Each FromOne (fields_placed fs n)
   fields_first nil n h = tt
-  fields_first (add i t fs) n h = each_both FromOne (type_placed t (some i) n) (fields_placed fs n) (type_first t (some i) n h) (fields_first fs n h)
+  fields_first (add i t fs) n h = each_both FromOne (type_placed t (Some i) n) (fields_placed fs n) (type_first t (Some i) n h) (fields_first fs n h)
 
 within : (top : ℕ) (l : List Placed) → tallest placed_level l ≤ top → Each FromOne l → Each (λ (x : Placed). (1 ≤ x.level) × (x.level ≤ top)) l
 unfolding tallest
@@ -244,7 +244,7 @@ within top (x ∷ l) h k = ((k.0, omega arith), within top l (omega arith) k.1)
 -- so the lines of a sheet that is read have levels from 1 to 32
 pub levels_within : (b : Bytes) (f : Field) → read_field_sheet b ≡ given f → Each (λ (x : Placed). (1 ≤ x.level) × (x.level ≤ level_limit)) (placed_lines f)
 levels_within b f e =
-    within level_limit (placed_lines f) (omega (arith, page_levels f, leb-true (field_levels f) level_limit (field_read b f e).1)) (type_first f.type (some f.info) 1 (omega arith))
+    within level_limit (placed_lines f) (omega (arith, page_levels f, leb-true (field_levels f) level_limit (field_read b f e).1)) (type_first f.type (Some f.info) 1 (omega arith))
 
 -- ── line by line from the sheet
 
@@ -254,28 +254,28 @@ sheet_line x = head_text x.line
 mutual
   type_texts : (t : ArrowDataType) (i : Option Info) (n : ℕ) → map sheet_line (type_placed t i n) ≡ type_lines t i
   type_texts (scalar s) i n = refl
-  type_texts (nested g j t) i n = rw (type_texts t (some j) (suc n))
+  type_texts (nested g j t) i n = rw (type_texts t (Some j) (suc n))
   type_texts (grouped g fs) i n = rw (fields_texts fs (suc n))
-  type_texts (dictionary ix ordered t) i n = rw (type_texts t none (suc n))
-  type_texts (extension a m t) i n = rw (type_texts t none (inner_level n t))
+  type_texts (dictionary ix ordered t) i n = rw (type_texts t None (suc n))
+  type_texts (extension a m t) i n = rw (type_texts t None (inner_level n t))
 
   fields_texts : (fs : Fields) (n : ℕ) → map sheet_line (fields_placed fs n) ≡ fields_lines fs
   fields_texts nil n = refl
-  fields_texts (add i t fs) n = map-append sheet_line (type_placed t (some i) n) (fields_placed fs n) ∙ ap₂ ◌++◌ (type_texts t (some i) n) (fields_texts fs n)
+  fields_texts (add i t fs) n = map-append sheet_line (type_placed t (Some i) n) (fields_placed fs n) ∙ ap₂ ◌++◌ (type_texts t (Some i) n) (fields_texts fs n)
 
 -- "Each line below the heading, in sheet order": line i of the page is line i of the sheet, and there are as many
-pub page_lines : (f : Field) → map sheet_line (placed_lines f) ≡ type_lines f.type (some f.info)
-page_lines f = type_texts f.type (some f.info) 1
+pub page_lines : (f : Field) → map sheet_line (placed_lines f) ≡ type_lines f.type (Some f.info)
+page_lines f = type_texts f.type (Some f.info) 1
 
-pub page_count : (f : Field) → length (placed_lines f) ≡ length (type_lines f.type (some f.info))
+pub page_count : (f : Field) → length (placed_lines f) ≡ length (type_lines f.type (Some f.info))
 page_count f = sym (length-map (placed_lines f) sheet_line) ∙ ap length (page_lines f)
 
 -- a sheet that was read has these lines
-pub lines_read : (b : Bytes) (f : Field) → read_field_sheet b ≡ given f → read_sheet field_heading b ≡ given (type_lines f.type (some f.info))
+pub lines_read : (b : Bytes) (f : Field) → read_field_sheet b ≡ given f → read_sheet field_heading b ≡ given (type_lines f.type (Some f.info))
 lines_read b f e =
     let k = (field_read b f e).0 in
     ap (read_sheet field_heading) (field_sheet_read b f e)
-    ∙ read_sheet_lem field_heading (type_lines f.type (some f.info)) (type_ends f.type (some f.info) k.0 k.1) (field_sheet_short b f e)
+    ∙ read_sheet_lem field_heading (type_lines f.type (Some f.info)) (type_ends f.type (Some f.info) k.0 k.1) (field_sheet_short b f e)
 
 read_head_lem : (s : Shape) (i : Option Info) (n : ℕ) → Meets (shape_rule s) → Meets (own_rule i) → read_head (head_text (head_with s i n)) ≡ given (head_with s i n)
 read_head_lem s i n h k = rw (read_line_lem s i n h k, read_shape_lem s h, read_info_lem i k)
@@ -286,14 +286,14 @@ Read x = read_head (sheet_line x) ≡ given x.line
 mutual
   type_reads : (t : ArrowDataType) (i : Option Info) (n : ℕ) → Meets (own_rule i) → Meets (type_rule t) → Each Read (type_placed t i n)
   type_reads (scalar s) i n k h = (read_head_lem (of_scalar s) i 0 h k, tt)
-  type_reads (nested g j t) i n k h = (read_head_lem (of_nesting g) i 1 h.0 k, type_reads t (some j) (suc n) h.1.0 h.1.1)
+  type_reads (nested g j t) i n k h = (read_head_lem (of_nesting g) i 1 h.0 k, type_reads t (Some j) (suc n) h.1.0 h.1.1)
   type_reads (grouped g fs) i n k h = (read_head_lem (of_grouping g) i (count_fields fs) h.0 k, fields_reads fs (suc n) h.1)
-  type_reads (dictionary ix ordered t) i n k h = (read_head_lem (of_dictionary ix ordered) i 1 h.0 k, type_reads t none (suc n) refl h.1)
-  type_reads (extension a m t) i n k h = (read_head_lem (of_extension a m) i 1 (h.0, h.1.0) k, type_reads t none (inner_level n t) refl h.1.1)
+  type_reads (dictionary ix ordered t) i n k h = (read_head_lem (of_dictionary ix ordered) i 1 h.0 k, type_reads t None (suc n) refl h.1)
+  type_reads (extension a m t) i n k h = (read_head_lem (of_extension a m) i 1 (h.0, h.1.0) k, type_reads t None (inner_level n t) refl h.1.1)
 
   fields_reads : (fs : Fields) (n : ℕ) → Meets (fields_rule fs) → Each Read (fields_placed fs n)
   fields_reads nil n h = tt
-  fields_reads (add i t fs) n h = each_both Read (type_placed t (some i) n) (fields_placed fs n) (type_reads t (some i) n h.0 h.1.0) (fields_reads fs n h.1.1)
+  fields_reads (add i t fs) n h = each_both Read (type_placed t (Some i) n) (fields_placed fs n) (type_reads t (Some i) n h.0 h.1.0) (fields_reads fs n h.1.1)
 
 -- a line of the sheet as it is shown on a level
 abbrev shown_head : ℕ → Answer Head → Bytes
@@ -313,7 +313,7 @@ pub page_from_sheet : (b : Bytes) (f : Field) (ls : List Bytes) → read_field_s
 page_from_sheet b f ls e r =
     let k = (field_read b f e).0 in
     let is : map sheet_line (placed_lines f) ≡ ls = page_lines f ∙ same_given (sym (lines_read b f e) ∙ r) in
-    ap ended (shown_each (placed_lines f) (type_reads f.type (some f.info) 1 k.0 k.1) ∙ ap (zip_with shown_from (map placed_level (placed_lines f))) is)
+    ap ended (shown_each (placed_lines f) (type_reads f.type (Some f.info) 1 k.0 k.1) ∙ ap (zip_with shown_from (map placed_level (placed_lines f))) is)
 
 -- ── lines of one length
 

@@ -3,7 +3,7 @@
 use mathlib.Core.Path.{◌≡◌, refl, sym, ◌∙◌, ap, subst}
 use mathlib.Core.Bool.{Bool, true, false, cond}
 use mathlib.Core.List.{List, [], ◌∷◌}
-use mathlib.Core.Option.{Option, none, some}
+use Rattle.std.specs.Prelude.{Option, None, Some}
 use Rattle.sheets.specs.Rule.{Rule, is, ◌and◌, Meets}
 use Rattle.sheets.specs.Bytes.{Bytes, same}
 use Rattle.sheets.specs.Field.{Pair, before, first_after}
@@ -49,31 +49,31 @@ ordinary_ascending (p ∷ ps) = pick (reserved p.0) (ordinary_ascending ps)
 
 -- a pair's own word on a key
 abbrev word : Pair → Bytes → Option Bytes
-word p k = cond (same p.0 k) (some p.1) none
+word p k = cond (same p.0 k) (Some p.1) None
 
 -- a word that is kept is kept past another
-or_some : (x : Option Bytes) (v : Bytes) (y : Option Bytes) → or_else (or_else x (some v)) y ≡ or_else x (some v)
-or_some none v y = refl
-or_some (some x) v y = refl
+or_some : (x : Option Bytes) (v : Bytes) (y : Option Bytes) → or_else (or_else x (Some v)) y ≡ or_else x (Some v)
+or_some None v y = refl
+or_some (Some x) v y = refl
 
 -- a pair that is put in counts as one that stands first: it is heard where no later one has its key
 insert_value : (k : Bytes) (p : Pair) (qs : List Pair) → value_of k (insert_new p qs) ≡ value_of k (p ∷ qs)
 insert_value k p [] = refl
 insert_value k p (q ∷ qs) = pick (before p.0 q.0) (same p.0 q.0) refl (insert_value k p qs)
   where
-    equal : same p.0 q.0 ≡ true → (t : Bool) → same p.0 k ≡ t → value_of k (q ∷ qs) ≡ or_else (value_of k (q ∷ qs)) (cond t (some p.1) none)
+    equal : same p.0 q.0 ≡ true → (t : Bool) → same p.0 k ≡ t → value_of k (q ∷ qs) ≡ or_else (value_of k (q ∷ qs)) (cond t (Some p.1) None)
     equal e true f =
         let here : same q.0 k ≡ true = ap (λ (b : Bytes). same b k) (sym (same_eq p.0 q.0 e)) ∙ f in
-        rw here (sym (or_some (value_of k qs) q.1 (some p.1)))
+        rw here (sym (or_some (value_of k qs) q.1 (Some p.1)))
     equal e false f = sym (or_none_lem (value_of k (q ∷ qs)))
 
     apart : same p.0 q.0 ≡ false → (t u : Bool) → same p.0 k ≡ t → same q.0 k ≡ u
-        → or_else (or_else (value_of k qs) (cond t (some p.1) none)) (cond u (some q.1) none) ≡ or_else (or_else (value_of k qs) (cond u (some q.1) none)) (cond t (some p.1) none)
+        → or_else (or_else (value_of k qs) (cond t (Some p.1) None)) (cond u (Some q.1) None) ≡ or_else (or_else (value_of k qs) (cond u (Some q.1) None)) (cond t (Some p.1) None)
     apart e true true f g =
         let b : p.0 ≡ q.0 = same_eq p.0 k f ∙ sym (same_eq q.0 k g) in
         never (sym e ∙ ap (same p.0) (sym b) ∙ same_refl p.0)
-    apart e true false f g = rw (or_none_lem (value_of k qs)) (or_none_lem (or_else (value_of k qs) (some p.1)))
-    apart e false true f g = rw (or_none_lem (value_of k qs)) (sym (or_none_lem (or_else (value_of k qs) (some q.1))))
+    apart e true false f g = rw (or_none_lem (value_of k qs)) (or_none_lem (or_else (value_of k qs) (Some p.1)))
+    apart e false true f g = rw (or_none_lem (value_of k qs)) (sym (or_none_lem (or_else (value_of k qs) (Some q.1))))
     apart e false false f g = refl
 
     pick : (b s : Bool) → same p.0 q.0 ≡ s → value_of k (insert_new p qs) ≡ value_of k (p ∷ qs) → value_of k (cond b (p ∷ q ∷ qs) (cond s (q ∷ qs) (q ∷ insert_new p qs))) ≡ value_of k (p ∷ q ∷ qs)
@@ -95,7 +95,7 @@ ordinary_last k h (p ∷ ps) = pick (reserved p.0) refl (ordinary_last k h ps)
     pick false e next = insert_value k p (ordinary ps) ∙ ap (λ (v : Option Bytes). or_else v (word p k)) next
 
 -- "`ARROW:extension:name` and `ARROW:extension:metadata` are reserved": they are no pairs
-pub ordinary_reserved : (k : Bytes) → reserved k ≡ true → (ps : List Pair) → value_of k (ordinary ps) ≡ none
+pub ordinary_reserved : (k : Bytes) → reserved k ≡ true → (ps : List Pair) → value_of k (ordinary ps) ≡ None
 ordinary_reserved k h [] = refl
 ordinary_reserved k h (p ∷ ps) = pick (reserved p.0) refl (ordinary_reserved k h ps)
   where
@@ -103,9 +103,9 @@ ordinary_reserved k h (p ∷ ps) = pick (reserved p.0) refl (ordinary_reserved k
     other e true f = sym h ∙ ap reserved (sym (same_eq p.0 k f)) ∙ e
     other e false f = refl
 
-    pick : (t : Bool) → reserved p.0 ≡ t → value_of k (ordinary ps) ≡ none → value_of k (cond t (ordinary ps) (insert_new p (ordinary ps))) ≡ none
+    pick : (t : Bool) → reserved p.0 ≡ t → value_of k (ordinary ps) ≡ None → value_of k (cond t (ordinary ps) (insert_new p (ordinary ps))) ≡ None
     pick true e next = next
-    pick false e next = insert_value k p (ordinary ps) ∙ ap (λ (v : Option Bytes). or_else v (word p k)) next ∙ ap (λ (t : Bool). cond t (some p.1) none) (other e (same p.0 k) refl)
+    pick false e next = insert_value k p (ordinary ps) ∙ ap (λ (v : Option Bytes). or_else v (word p k)) next ∙ ap (λ (t : Bool). cond t (Some p.1) None) (other e (same p.0 k) refl)
 
 -- No other list has that: keys that ascend, and the values, tell the pairs.
 
@@ -114,12 +114,12 @@ after_next k q [] h l = refl
 after_next k q (r ∷ qs) h l = before_trans k q.0 r.0 h l
 
 -- a key before the first has no value
-none_before : (k : Bytes) (qs : List Pair) → first_after k qs ≡ true → Meets (ascending qs) → value_of k qs ≡ none
+none_before : (k : Bytes) (qs : List Pair) → first_after k qs ≡ true → Meets (ascending qs) → value_of k qs ≡ None
 none_before k [] l h = refl
 none_before k (q ∷ qs) l h = rw (none_before k qs (after_next k q qs l h.0) h.1, same_back k q.0 (not_same k q.0 l))
 
 -- the first key has its own
-first_value : (q : Pair) (qs : List Pair) → Meets (ascending (q ∷ qs)) → value_of q.0 (q ∷ qs) ≡ some q.1
+first_value : (q : Pair) (qs : List Pair) → Meets (ascending (q ∷ qs)) → value_of q.0 (q ∷ qs) ≡ Some q.1
 first_value q qs h = rw (none_before q.0 qs h.0 h.1, same_refl q.0)
 
 -- what is left of a key's values where the first is not its own
@@ -135,7 +135,7 @@ ascending_unique (q ∷ qs) (r ∷ rs) a b h = pick (before q.0 r.0) (same q.0 r
     tails : q.0 ≡ r.0 → (k : Bytes) (t : Bool) → same q.0 k ≡ t → value_of k qs ≡ value_of k rs
     tails e k true f =
         let here : q.0 ≡ k = same_eq q.0 k f in
-        subst (λ (x : Bytes). value_of x qs ≡ none) here (none_before q.0 qs a.0 a.1) ∙ sym (subst (λ (x : Bytes). value_of x rs ≡ none) (sym e ∙ here) (none_before r.0 rs b.0 b.1))
+        subst (λ (x : Bytes). value_of x qs ≡ None) here (none_before q.0 qs a.0 a.1) ∙ sym (subst (λ (x : Bytes). value_of x rs ≡ None) (sym e ∙ here) (none_before r.0 rs b.0 b.1))
     tails e k false f = sym (rest_value k q qs f) ∙ h k ∙ rest_value k r rs (ap (λ (x : Bytes). same x k) (sym e) ∙ f)
 
     join_up : q.0 ≡ r.0 → q.1 ≡ r.1 → qs ≡ rs → q ∷ qs ≡ r ∷ rs
@@ -146,12 +146,12 @@ ascending_unique (q ∷ qs) (r ∷ rs) a b h = pick (before q.0 r.0) (same q.0 r
     pick false false e f next = not_some (sym (none_before r.0 (q ∷ qs) (connected q.0 r.0 e f) a) ∙ h r.0 ∙ first_value r rs b)
     pick false true e f next =
         let k : q.0 ≡ r.0 = same_eq q.0 r.0 f in
-        let v : some q.1 ≡ some r.1 = sym (first_value q qs a) ∙ h q.0 ∙ ap (λ (x : Bytes). value_of x (r ∷ rs)) k ∙ first_value r rs b in
+        let v : Some q.1 ≡ Some r.1 = sym (first_value q qs a) ∙ h q.0 ∙ ap (λ (x : Bytes). value_of x (r ∷ rs)) k ∙ first_value r rs b in
         let w : q.1 ≡ r.1 = cc in
         join_up k w (next (λ x. tails k x (same q.0 x) refl))
 
 -- so the pairs of a field are THE ascending list with the last value of each key that is not reserved, and no other
-pub ordinary_unique : (ps qs : List Pair) → Meets (ascending qs) → ((k : Bytes) → reserved k ≡ false → value_of k qs ≡ value_of k ps) → ((k : Bytes) → reserved k ≡ true → value_of k qs ≡ none) → qs ≡ ordinary ps
+pub ordinary_unique : (ps qs : List Pair) → Meets (ascending qs) → ((k : Bytes) → reserved k ≡ false → value_of k qs ≡ value_of k ps) → ((k : Bytes) → reserved k ≡ true → value_of k qs ≡ None) → qs ≡ ordinary ps
 ordinary_unique ps qs a h n = ascending_unique qs (ordinary ps) a (ordinary_ascending ps) (λ k. pick k (reserved k) refl)
   where
     pick : (k : Bytes) (t : Bool) → reserved k ≡ t → value_of k qs ≡ value_of k (ordinary ps)

@@ -2,7 +2,7 @@
 use mathlib.Core.Path.{◌≡◌, refl}
 use mathlib.Core.Bool.{Bool, true, false}
 use mathlib.Core.List.{List, [], ◌∷◌}
-use mathlib.Core.Option.{Option, none, some}
+use Rattle.std.specs.Prelude.{Option, None, Some}
 use Prim.Native.Nat.{ℕ, ◌^◌, ◌≤◌}
 use native.Mathlib.Omega.{arith}
 use lib.Dec.{leb}
@@ -24,9 +24,9 @@ use Rattle.sheets.proofs.RoundTrip.{index_leaf}
 -- ── exported alike
 
 zone_same : (z : Option Bytes) → or_empty (plain_zone z) ≡ or_empty z
-zone_same none = refl
-zone_same (some []) = refl
-zone_same (some (b ∷ bs)) = refl
+zone_same None = refl
+zone_same (Some []) = refl
+zone_same (Some (b ∷ bs)) = refl
 
 scalar_same : (s : Scalar) → scalar_format (plain_scalar s) ≡ scalar_format s
 scalar_same (leaf k u) = refl
@@ -36,18 +36,18 @@ scalar_same (decimal_type w p s) = refl
 
 grouping_same : (g : Grouping) (n : ℕ) → grouping_format (plain_grouping g n) n ≡ grouping_format g n
 grouping_same struct n = refl
-grouping_same (union sparse none) n = refl
-grouping_same (union sparse (some ids)) n = refl
+grouping_same (union sparse None) n = refl
+grouping_same (union sparse (Some ids)) n = refl
 
 pairs_same : (ps : Option (List Pair)) → or_none (plain_pairs ps) ≡ or_none ps
-pairs_same none = refl
-pairs_same (some []) = refl
-pairs_same (some (p ∷ ps)) = refl
+pairs_same None = refl
+pairs_same (Some []) = refl
+pairs_same (Some (p ∷ ps)) = refl
 
 module _ (big : Bool) where
   metadata_same : (ps : Option (List Pair)) (e : Option Extension) → schema_metadata big (plain_pairs ps) e ≡ schema_metadata big ps e
-  metadata_same ps none = rw (pairs_same ps)
-  metadata_same ps (some e) = rw (pairs_same ps)
+  metadata_same ps None = rw (pairs_same ps)
+  metadata_same ps (Some e) = rw (pairs_same ps)
 
   node_same : (i : Info) (e : Option Extension) (f : Bytes) (x : ℕ) (cs : Schemas) (d : Dictionary) → schema_node big (plain_info i) e f x cs d ≡ schema_node big i e f x cs d
   node_same i e f x cs d = rw (metadata_same i.pairs e)
@@ -63,38 +63,38 @@ module _ (big : Bool) where
         chain_same (scalar_format (plain_scalar s)) (scalar_format s) (λ f. schema_node big (plain_info i) e f 0 end absent) (λ f. schema_node big i e f 0 end absent)
         (scalar_same s) (λ f. node_same big i e f 0 end absent)
     type_same (nested n j t) i e =
-        chain_same (schema_new_of big (plain_type t false) (plain_info j) none) (schema_new_of big t j none)
+        chain_same (schema_new_of big (plain_type t false) (plain_info j) None) (schema_new_of big t j None)
         (λ c. schema_node big (plain_info i) e (nesting_format n) (sorted_flag n) (c & end) absent) (λ c. schema_node big i e (nesting_format n) (sorted_flag n) (c & end) absent)
-        (type_same t j none) (λ c. node_same big i e (nesting_format n) (sorted_flag n) (c & end) absent)
+        (type_same t j None) (λ c. node_same big i e (nesting_format n) (sorted_flag n) (c & end) absent)
     type_same (grouped g fs) i e =
         chain_same (grouping_format (plain_grouping g (count_fields fs)) (count_fields (plain_fields fs))) (grouping_format g (count_fields fs))
         (λ f. schema_children big (plain_fields fs) >>= λ cs. schema_node big (plain_info i) e f 0 cs absent) (λ f. schema_children big fs >>= λ cs. schema_node big i e f 0 cs absent)
         (rw (count_plain fs) (grouping_same g (count_fields fs)))
         (λ f. chain_same (schema_children big (plain_fields fs)) (schema_children big fs) (λ cs. schema_node big (plain_info i) e f 0 cs absent) (λ cs. schema_node big i e f 0 cs absent) (fields_same fs) (λ cs. node_same big i e f 0 cs absent))
-    type_same (dictionary ix ordered t) i none =
+    type_same (dictionary ix ordered t) i None =
         chain_same (index_format ix) (index_format ix)
-        (λ f. schema_new_of big (plain_type t false) values_info none >>= λ d. schema_node big (plain_info i) none f (flag ordered 1) end (present d)) (λ f. schema_new_of big t values_info none >>= λ d. schema_node big i none f (flag ordered 1) end (present d))
+        (λ f. schema_new_of big (plain_type t false) values_info None >>= λ d. schema_node big (plain_info i) None f (flag ordered 1) end (present d)) (λ f. schema_new_of big t values_info None >>= λ d. schema_node big i None f (flag ordered 1) end (present d))
         refl
-        (λ f. chain_same (schema_new_of big (plain_type t false) values_info none) (schema_new_of big t values_info none) (λ d. schema_node big (plain_info i) none f (flag ordered 1) end (present d)) (λ d. schema_node big i none f (flag ordered 1) end (present d)) (type_same t values_info none) (λ d. node_same big i none f (flag ordered 1) end (present d)))
-    type_same (dictionary ix ordered t) i (some e) =
-        chain_same (index_format ix) (index_format ix) (λ f. schema_node big (plain_info i) (some e) f 0 end absent) (λ f. schema_node big i (some e) f 0 end absent) refl (λ f. node_same big i (some e) f 0 end absent)
-    type_same (extension n m t) i none = type_same t i (some (n, m))
-    type_same (extension n m t) i (some e) = type_same t i (some e)
+        (λ f. chain_same (schema_new_of big (plain_type t false) values_info None) (schema_new_of big t values_info None) (λ d. schema_node big (plain_info i) None f (flag ordered 1) end (present d)) (λ d. schema_node big i None f (flag ordered 1) end (present d)) (type_same t values_info None) (λ d. node_same big i None f (flag ordered 1) end (present d)))
+    type_same (dictionary ix ordered t) i (Some e) =
+        chain_same (index_format ix) (index_format ix) (λ f. schema_node big (plain_info i) (Some e) f 0 end absent) (λ f. schema_node big i (Some e) f 0 end absent) refl (λ f. node_same big i (Some e) f 0 end absent)
+    type_same (extension n m t) i None = type_same t i (Some (n, m))
+    type_same (extension n m t) i (Some e) = type_same t i (Some e)
 
     fields_same : (fs : Fields) → schema_children big (plain_fields fs) ≡ schema_children big fs
     fields_same nil = refl
-    fields_same (add i t fs) = rw (type_same t i none, fields_same fs)
+    fields_same (add i t fs) = rw (type_same t i None, fields_same fs)
 
   -- exporting the plain form gives the same
   pub export_plain : (f : Field) → schema_new big (plain f) ≡ schema_new big f
-  export_plain f = type_same f.type f.info none
+  export_plain f = type_same f.type f.info None
 
 -- ── the rules
 
 zone_rule : (z : Option Bytes) → Meets (text_rule z) → Meets (text_rule (plain_zone z))
-zone_rule none h = h
-zone_rule (some []) h = refl
-zone_rule (some (b ∷ bs)) h = h
+zone_rule None h = h
+zone_rule (Some []) h = refl
+zone_rule (Some (b ∷ bs)) h = h
 
 scalar_rule_lem : (s : Scalar) → Meets (scalar_rule s) → Meets (scalar_rule (plain_scalar s))
 scalar_rule_lem (leaf k u) h = h
@@ -104,13 +104,13 @@ scalar_rule_lem (decimal_type w p s) h = h
 
 grouping_rule_lem : (g : Grouping) (n : ℕ) → n ≤ 2 ^ 31 → Meets (grouping_rule g) → Meets (grouping_rule (plain_grouping g n))
 grouping_rule_lem struct n k h = h
-grouping_rule_lem (union sparse none) n k h = up_from_lem 0 n (omega arith)
-grouping_rule_lem (union sparse (some ids)) n k h = h
+grouping_rule_lem (union sparse None) n k h = up_from_lem 0 n (omega arith)
+grouping_rule_lem (union sparse (Some ids)) n k h = h
 
 pairs_rule_lem : (ps : Option (List Pair)) → Meets (metadata_rule ps) → Meets (metadata_rule (plain_pairs ps))
-pairs_rule_lem none h = h
-pairs_rule_lem (some []) h = refl
-pairs_rule_lem (some (p ∷ ps)) h = h
+pairs_rule_lem None h = h
+pairs_rule_lem (Some []) h = refl
+pairs_rule_lem (Some (p ∷ ps)) h = h
 
 info_rule_lem : (i : Info) → Meets (info_rule i) → Meets (info_rule (plain_info i))
 info_rule_lem i h = (h.0, pairs_rule_lem i.pairs h.1)

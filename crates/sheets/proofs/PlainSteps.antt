@@ -4,7 +4,7 @@ use mathlib.Core.Path.{◌≡◌, refl, sym, ◌∙◌, ap}
 use mathlib.Core.Bool.{Bool, true, false, ◌&&◌}
 use mathlib.Core.List.{List, [], ◌∷◌, ◌++◌, append-nil}
 use mathlib.Core.List.{map as map_list}
-use mathlib.Core.Option.{Option, none, some}
+use Rattle.std.specs.Prelude.{Option, None, Some}
 use Prim.Native.Nat.{ℕ, ◌/◌, ◌%◌}
 use native.Mathlib.Omega.{arith}
 use lib.Dec.{eqb, leb}
@@ -32,27 +32,27 @@ mutual
   -- in no extension, with any columns
   pub type_plain : (t : ArrowDataType) (i : Option Info) → type_walk plain_step t i false ≡ given (type_lines (plain_type t false) (plain_own i))
   type_plain (scalar s) i = refl
-  type_plain (nested n j t) i = rw (type_plain t (some j))
+  type_plain (nested n j t) i = rw (type_plain t (Some j))
   type_plain (grouped g fs) i = rw (fields_plain fs, count_plain fs)
-  type_plain (dictionary ix ordered t) i = rw (type_plain t none)
+  type_plain (dictionary ix ordered t) i = rw (type_plain t None)
   type_plain (extension n m t) i = rw (inner_plain t)
 
   -- directly in an extension, bare
-  pub inner_plain : (t : ArrowDataType) → type_walk plain_step t none true ≡ given (type_lines (plain_type t true) none)
+  pub inner_plain : (t : ArrowDataType) → type_walk plain_step t None true ≡ given (type_lines (plain_type t true) None)
   inner_plain (scalar s) = refl
-  inner_plain (nested n j t) = rw (type_plain t (some j))
+  inner_plain (nested n j t) = rw (type_plain t (Some j))
   inner_plain (grouped g fs) = rw (fields_plain fs, count_plain fs)
   inner_plain (dictionary ix ordered t) = refl
   inner_plain (extension n m t) = rw (inner_plain t)
 
   pub fields_plain : (fs : Fields) → fields_walk plain_step fs false ≡ given (fields_lines (plain_fields fs))
   fields_plain nil = refl
-  fields_plain (add i t fs) = rw (type_plain t (some i), fields_plain fs)
+  fields_plain (add i t fs) = rw (type_plain t (Some i), fields_plain fs)
 
 -- with the heading: the plain form of a sheet
 pub sheet_plain : (b : Bytes) → plained b ≡ sheet_walk plain_step false field_heading b
 unfolding plained
-sheet_plain b = sheet_walked plain_step false field_heading b (λ f. given (type_lines (plain f).type (some (plain f).info))) (λ f. type_plain f.type (some f.info))
+sheet_plain b = sheet_walked plain_step false field_heading b (λ f. given (type_lines (plain f).type (Some (plain f).info))) (λ f. type_plain f.type (Some f.info))
 
 -- ── columns
 
@@ -65,9 +65,9 @@ two_same x y c r = go (eqb x c)
 
 -- the timezone
 pub zone_text : (z : Option Bytes) → write_text (plain_zone z) ≡ empty_to_none (write_text z)
-zone_text none = refl
-zone_text (some []) = refl
-zone_text (some (b ∷ bs)) = rw (two_same (hex_digit (b / 16)) (hex_digit (b % 16)) 45 (hex bs))
+zone_text None = refl
+zone_text (Some []) = refl
+zone_text (Some (b ∷ bs)) = rw (two_same (hex_digit (b / 16)) (hex_digit (b % 16)) 45 (hex bs))
 
 pair_same : (p : Pair) (r : Bytes) → same (pair_text p ++ r) (45 ∷ []) ≡ false
 pair_same p r = go p.0
@@ -78,10 +78,10 @@ pair_same p r = go p.0
 
 -- the pairs
 pub pairs_text_lem : (ps : Option (List Pair)) → write_list pair_text (plain_pairs ps) ≡ empty_to_none (write_list pair_text ps)
-pairs_text_lem none = refl
-pairs_text_lem (some []) = refl
-pairs_text_lem (some (p ∷ [])) = rw (sym (ap (λ t. same t (45 ∷ [])) (append-nil (pair_text p))) ∙ pair_same p [])
-pairs_text_lem (some (p ∷ q ∷ ps)) = rw (pair_same p (44 ∷ join 44 (pair_text q ∷ map_list pair_text ps)))
+pairs_text_lem None = refl
+pairs_text_lem (Some []) = refl
+pairs_text_lem (Some (p ∷ [])) = rw (sym (ap (λ t. same t (45 ∷ [])) (append-nil (pair_text p))) ∙ pair_same p [])
+pairs_text_lem (Some (p ∷ q ∷ ps)) = rw (pair_same p (44 ∷ join 44 (pair_text q ∷ map_list pair_text ps)))
 
 signed_same : (z : ℤ) (r : Bytes) → same (write_signed z ++ r) (126 ∷ []) ≡ false
 signed_same (negsuc n) r = refl
@@ -93,40 +93,40 @@ signed_same (pos n) r = go (decimal n) (decimal_lean n) (decimal_digits n)
 
 -- the union's ids
 pub ids_text : (mode : Bool) (ids : Option (List ℤ)) (n : ℕ) → (columns (of_grouping (plain_grouping (union mode ids) n))).text ≡ plain_ids (columns (of_grouping (union mode ids))).text n
-ids_text mode none n = refl
-ids_text mode (some []) n = refl
-ids_text mode (some (z ∷ [])) n = rw (sym (ap (λ t. same t (126 ∷ [])) (append-nil (write_signed z))) ∙ signed_same z [])
-ids_text mode (some (z ∷ y ∷ ids)) n = rw (signed_same z (44 ∷ join 44 (write_signed y ∷ map_list write_signed ids)))
+ids_text mode None n = refl
+ids_text mode (Some []) n = refl
+ids_text mode (Some (z ∷ [])) n = rw (sym (ap (λ t. same t (126 ∷ [])) (append-nil (write_signed z))) ∙ signed_same z [])
+ids_text mode (Some (z ∷ y ∷ ids)) n = rw (signed_same z (44 ∷ join 44 (write_signed y ∷ map_list write_signed ids)))
 
 -- ── what is plain already
 
-same_pairs : (i : Info) → is_plain_own (some i) ≡ true → plain_info i ≡ i
+same_pairs : (i : Info) → is_plain_own (Some i) ≡ true → plain_info i ≡ i
 same_pairs i h = go i.pairs refl h
   where
     go : (ps : Option (List Pair)) → i.pairs ≡ ps → plain_text ps ≡ true → plain_info i ≡ i
-    go none e k = λ x. record { name = i.name; nullable = i.nullable; pairs = (ap plain_pairs e ∙ sym e) x }
-    go (some []) e k = never k
-    go (some (p ∷ ps)) e k = λ x. record { name = i.name; nullable = i.nullable; pairs = (ap plain_pairs e ∙ sym e) x }
+    go None e k = λ x. record { name = i.name; nullable = i.nullable; pairs = (ap plain_pairs e ∙ sym e) x }
+    go (Some []) e k = never k
+    go (Some (p ∷ ps)) e k = λ x. record { name = i.name; nullable = i.nullable; pairs = (ap plain_pairs e ∙ sym e) x }
 
 same_scalar : (s : Scalar) (inside : Bool) → is_plain_shape (of_scalar s) inside ≡ true → plain_scalar s ≡ s
 same_scalar (leaf k u) inside h = refl
-same_scalar (timestamp u none) inside h = refl
-same_scalar (timestamp u (some [])) inside h = never h
-same_scalar (timestamp u (some (b ∷ bs))) inside h = refl
+same_scalar (timestamp u None) inside h = refl
+same_scalar (timestamp u (Some [])) inside h = never h
+same_scalar (timestamp u (Some (b ∷ bs))) inside h = refl
 same_scalar (fixed_size_binary n) inside h = refl
 same_scalar (decimal_type w p s) inside h = refl
 
 same_grouping : (g : Grouping) (n : ℕ) (inside : Bool) → is_plain_shape (of_grouping g) inside ≡ true → plain_grouping g n ≡ g
 same_grouping struct n inside h = refl
-same_grouping (union mode none) n inside h = never h
-same_grouping (union mode (some ids)) n inside h = refl
+same_grouping (union mode None) n inside h = never h
+same_grouping (union mode (Some ids)) n inside h = refl
 
 mutual
   -- a type that is plain is its own plain form
   pub plain_already : (t : ArrowDataType) (inside : Bool) → is_plain t inside ≡ true → plain_type t inside ≡ t
   plain_already (scalar s) inside h = ap scalar (same_scalar s inside h)
   plain_already (nested n i t) inside h =
-      rw (same_pairs i (and_left (is_plain_own (some i)) (is_plain t false) h), plain_already t false (and_right (is_plain_own (some i)) (is_plain t false) h))
+      rw (same_pairs i (and_left (is_plain_own (Some i)) (is_plain t false) h), plain_already t false (and_right (is_plain_own (Some i)) (is_plain t false) h))
   plain_already (grouped g fs) inside h =
       rw (same_grouping g (count_fields fs) inside (and_left (is_plain_shape (of_grouping g) inside) (are_plain fs) h), fields_already fs (and_right (is_plain_shape (of_grouping g) inside) (are_plain fs) h))
   plain_already (dictionary ix ordered t) true h = never h
@@ -137,8 +137,8 @@ mutual
   fields_already : (fs : Fields) → are_plain fs ≡ true → plain_fields fs ≡ fs
   fields_already nil h = refl
   fields_already (add i t fs) h =
-      let r = and_right (is_plain_own (some i)) (is_plain t false && are_plain fs) h in
-      rw (same_pairs i (and_left (is_plain_own (some i)) (is_plain t false && are_plain fs) h), plain_already t false (and_left (is_plain t false) (are_plain fs) r), fields_already fs (and_right (is_plain t false) (are_plain fs) r))
+      let r = and_right (is_plain_own (Some i)) (is_plain t false && are_plain fs) h in
+      rw (same_pairs i (and_left (is_plain_own (Some i)) (is_plain t false && are_plain fs) h), plain_already t false (and_left (is_plain t false) (are_plain fs) r), fields_already fs (and_right (is_plain t false) (are_plain fs) r))
 
 and_four : (a b c d : Bool) → ((a && b) && (c && d)) ≡ ((a && (b && c)) && d)
 and_four true true c d = refl
@@ -147,7 +147,7 @@ and_four false b c d = refl
 
 fields_row_plain : (fs : Fields) (es : List Entry) → row_plain (push_fields fs es) false ≡ (are_plain fs && row_plain es false)
 fields_row_plain nil es = refl
-fields_row_plain (add i t fs) es = rw (fields_row_plain fs es) (and_four (is_plain_own (some i)) (is_plain t false) (are_plain fs) (row_plain es false))
+fields_row_plain (add i t fs) es = rw (fields_row_plain fs es) (and_four (is_plain_own (Some i)) (is_plain t false) (are_plain fs) (row_plain es false))
 
 two : (o b c : Bool) → ((o && b) && c) ≡ ((o && true) && (b && c))
 two true b c = refl
@@ -158,7 +158,7 @@ two false b c = refl
 pub row_plain_lem : (i : Option Info) (t : ArrowDataType) (es : List Entry) (inside : Bool)
     → row_plain ((i, t) ∷ es) inside ≡ ((is_plain_own i && is_plain_shape (type_shape t) inside) && row_plain (type_below t ++ es) (is_extension (type_shape t)))
 row_plain_lem i (scalar s) es inside = refl
-row_plain_lem i (nested n j t) es inside = two (is_plain_own i) (is_plain_own (some j) && is_plain t false) (row_plain es false)
+row_plain_lem i (nested n j t) es inside = two (is_plain_own i) (is_plain_own (Some j) && is_plain t false) (row_plain es false)
 row_plain_lem i (grouped g fs) es inside =
     rw (sym (ap (λ (l : List Entry). row_plain l false) (fields_push fs es)) ∙ fields_row_plain fs es) (sym (and_four (is_plain_own i) (is_plain_shape (of_grouping g) inside) (are_plain fs) (row_plain es false)))
 row_plain_lem i (dictionary ix ordered t) es inside = sym (and_four (is_plain_own i) (is_plain_shape (of_dictionary ix ordered) inside) (is_plain t false) (row_plain es false))
@@ -166,26 +166,26 @@ row_plain_lem i (extension n m t) es inside = sym (and_four (is_plain_own i) (is
 
 -- ── and nothing else is
 
-own_only : (i : Info) → plain_info i ≡ i → is_plain_own (some i) ≡ true
+own_only : (i : Info) → plain_info i ≡ i → is_plain_own (Some i) ≡ true
 own_only i e = go i.pairs (ap (λ (j : Info). j.pairs) e)
   where
     go : (ps : Option (List Pair)) → plain_pairs ps ≡ ps → plain_text ps ≡ true
-    go none k = refl
-    go (some []) k = not_some k
-    go (some (p ∷ ps)) k = refl
+    go None k = refl
+    go (Some []) k = not_some k
+    go (Some (p ∷ ps)) k = refl
 
 scalar_only : (s : Scalar) (inside : Bool) → scalar (plain_scalar s) ≡ scalar s → is_plain_shape (of_scalar s) inside ≡ true
 scalar_only (leaf k u) inside e = refl
-scalar_only (timestamp u none) inside e = refl
-scalar_only (timestamp u (some [])) inside e = absurd (let z : ◌≡◌ {A = ℕ} 0 1 = cc in omega arith)
-scalar_only (timestamp u (some (b ∷ bs))) inside e = refl
+scalar_only (timestamp u None) inside e = refl
+scalar_only (timestamp u (Some [])) inside e = absurd (let z : ◌≡◌ {A = ℕ} 0 1 = cc in omega arith)
+scalar_only (timestamp u (Some (b ∷ bs))) inside e = refl
 scalar_only (fixed_size_binary n) inside e = refl
 scalar_only (decimal_type w p s) inside e = refl
 
 grouping_only : (g : Grouping) (n : ℕ) (inside : Bool) → plain_grouping g n ≡ g → is_plain_shape (of_grouping g) inside ≡ true
 grouping_only struct n inside e = refl
-grouping_only (union mode none) n inside e = absurd (let z : ◌≡◌ {A = ℕ} 0 1 = cc in omega arith)
-grouping_only (union mode (some ids)) n inside e = refl
+grouping_only (union mode None) n inside e = absurd (let z : ◌≡◌ {A = ℕ} 0 1 = cc in omega arith)
+grouping_only (union mode (Some ids)) n inside e = refl
 
 -- no extension stands directly in one
 no_extension : (t u : ArrowDataType) (n : Bytes) (m : Option Bytes) → plain_type t true ≡ extension n m u → ⊥

@@ -3,7 +3,7 @@
 use mathlib.Core.Path.{◌≡◌, refl, subst}
 use mathlib.Core.Bool.{Bool, true, false}
 use mathlib.Core.List.{List, [], ◌∷◌}
-use mathlib.Core.Option.{Option, none, some}
+use Rattle.std.specs.Prelude.{Option, None, Some}
 use Prim.Native.Nat.{ℕ, ◌+◌, ◌^◌, ◌≤◌}
 use native.Mathlib.Omega.{arith}
 use lib.Dec.{leb}
@@ -60,8 +60,8 @@ module _ (big : Bool) where
       rw (read_block_lem big (p ∷ ps) (pairs_text_lem (p ∷ ps) h) (ltb-true (length (metadata_to_bytes big (p ∷ ps))) (2 ^ 31) l)) (only_given nine _)
 
   metadata_nine : (ps : Option (List Pair)) (e : Option Extension) → Meets (metadata_rule ps) → Meets (extension_rule e) → Meets (short_block (schema_metadata big ps e)) → Only nine (metadata_from_bytes big (schema_metadata big ps e))
-  metadata_nine ps none h x l = metadata_plain (or_none ps) (pairs_ordered ps h) l
-  metadata_nine ps (some e) h x l =
+  metadata_nine ps None h x l = metadata_plain (or_none ps) (pairs_ordered ps h) l
+  metadata_nine ps (Some e) h x l =
       rw (read_block_lem big (insert_over (name_key, e.0) (with_metadata e.1 (or_none ps))) (all_text e (or_none ps) x (pairs_text_lem (or_none ps) (pairs_ordered ps h))) (ltb-true _ (2 ^ 31) l)) (only_given nine _)
 
   node_nine : (i : Info) (e : Option Extension) (f : Bytes) (x : ℕ) (cs : Schemas) (d : Dictionary) → is_utf8 f ≡ true → Meets (info_rule i) → Meets (extension_rule e) → Meets (short_block (schema_metadata big i.pairs e))
@@ -94,11 +94,11 @@ module _ (big : Bool) where
         (λ l. node_nine big i e q.0 0 end absent (utf8_scalar c q.0 h q.1) hi x l.0
         (rw (read_scalar (is_sorted (pos (flag i.nullable NULLABLE + 0))) c q.0 h q.1) (only_given nine _)))
     type_nine (nested n j t) i e s h hi x g =
-        let q = first_gave (schema_new_of big t j none) (λ c. schema_node big i e (nesting_format n) (sorted_flag n) (c & end) absent) s g in
+        let q = first_gave (schema_new_of big t j None) (λ c. schema_node big i e (nesting_format n) (sorted_flag n) (c & end) absent) s g in
         carry big Nine i e (nesting_format n) (sorted_flag n) (q.0 & end) absent s q.2
         (λ l. node_nine big i e (nesting_format n) (sorted_flag n) (q.0 & end) absent (utf8_nesting n) hi x l.0
         (rw (nesting_any (is_sorted (pos (flag i.nullable NULLABLE + sorted_flag n))) n h.0).1
-        (only_chain nine (to_field big q.0) _ (type_nine t j none q.0 h.1.1 h.1.0 refl q.1 l.1.1.0.0) (λ f r. only_given nine _))))
+        (only_chain nine (to_field big q.0) _ (type_nine t j None q.0 h.1.1 h.1.0 refl q.1 l.1.1.0.0) (λ f r. only_given nine _))))
     type_nine (grouped c fs) i e s h hi x g =
         let q = first_gave (grouping_format c (count_fields fs)) (λ f. schema_children big fs >>= λ cs. schema_node big i e f 0 cs absent) s g in
         let p = first_gave (schema_children big fs) (λ cs. schema_node big i e q.0 0 cs absent) s q.2 in
@@ -106,31 +106,31 @@ module _ (big : Bool) where
         (λ l. node_nine big i e q.0 0 p.0 absent (utf8_grouping c (count_fields fs) q.0 q.1) hi x l.0
         (rw (read_grouping (is_sorted (pos (flag i.nullable NULLABLE + 0))) c (count_fields fs) q.0 h.0 (omega (arith, leb-true (count_schemas p.0) (2 ^ 31) l.1.0, count_export big fs p.0 p.1)) q.1)
         (only_chain nine (all_of (to_fields big p.0)) _ (fields_nine fs p.0 h.1 p.1 l.1.1.0) (λ a r. only_given nine _))))
-    type_nine (dictionary ix ordered t) i none s h hi x g =
-        let q = first_gave (index_format ix) (λ f. schema_new_of big t values_info none >>= λ d. schema_node big i none f (flag ordered ORDERED) end (present d)) s g in
-        let p = first_gave (schema_new_of big t values_info none) (λ d. schema_node big i none q.0 (flag ordered ORDERED) end (present d)) s q.2 in
-        carry big Nine i none q.0 (flag ordered ORDERED) end (present p.0) s p.2
-        (λ l. node_nine big i none q.0 (flag ordered ORDERED) end (present p.0) (utf8_scalar (leaf (ix + Kind.Int8) 0) q.0 (index_leaf ix h.0) q.1) hi x l.0
+    type_nine (dictionary ix ordered t) i None s h hi x g =
+        let q = first_gave (index_format ix) (λ f. schema_new_of big t values_info None >>= λ d. schema_node big i None f (flag ordered ORDERED) end (present d)) s g in
+        let p = first_gave (schema_new_of big t values_info None) (λ d. schema_node big i None q.0 (flag ordered ORDERED) end (present d)) s q.2 in
+        carry big Nine i None q.0 (flag ordered ORDERED) end (present p.0) s p.2
+        (λ l. node_nine big i None q.0 (flag ordered ORDERED) end (present p.0) (utf8_scalar (leaf (ix + Kind.Int8) 0) q.0 (index_leaf ix h.0) q.1) hi x l.0
         (only_chain nine (to_integer_type q.0) _ (index_numbers nine refl q.0)
-        (λ k r. only_chain nine (to_field big p.0) _ (type_nine t values_info none p.0 h.1 values_rule refl p.1 l.1.1.1) (λ v w. only_given nine _))))
-    type_nine (dictionary ix ordered t) i (some e) s h hi x g =
-        let q = first_gave (index_format ix) (λ f. schema_node big i (some e) f 0 end absent) s g in
-        carry big Nine i (some e) q.0 0 end absent s q.2
-        (λ l. node_nine big i (some e) q.0 0 end absent (utf8_scalar (leaf (ix + Kind.Int8) 0) q.0 (index_leaf ix h.0) q.1) hi x l.0
+        (λ k r. only_chain nine (to_field big p.0) _ (type_nine t values_info None p.0 h.1 values_rule refl p.1 l.1.1.1) (λ v w. only_given nine _))))
+    type_nine (dictionary ix ordered t) i (Some e) s h hi x g =
+        let q = first_gave (index_format ix) (λ f. schema_node big i (Some e) f 0 end absent) s g in
+        carry big Nine i (Some e) q.0 0 end absent s q.2
+        (λ l. node_nine big i (Some e) q.0 0 end absent (utf8_scalar (leaf (ix + Kind.Int8) 0) q.0 (index_leaf ix h.0) q.1) hi x l.0
         (rw (read_scalar (is_sorted (pos (flag i.nullable NULLABLE + 0))) (leaf (ix + Kind.Int8) 0) q.0 (index_leaf ix h.0) q.1) (only_given nine _)))
-    type_nine (extension n m t) i none s h hi x g = type_nine t i (some (n, m)) s h.1.1 hi (h.0, h.1.0) g
-    type_nine (extension n m t) i (some e) s h hi x g = type_nine t i (some e) s h.1.1 hi x g
+    type_nine (extension n m t) i None s h hi x g = type_nine t i (Some (n, m)) s h.1.1 hi (h.0, h.1.0) g
+    type_nine (extension n m t) i (Some e) s h hi x g = type_nine t i (Some e) s h.1.1 hi x g
 
     fields_nine : (fs : Fields) (cs : Schemas) → Meets (fields_rule fs) → schema_children big fs ≡ given cs → Meets (children_short cs) → Only nine (all_of (to_fields big cs))
     fields_nine nil cs h g =
         let e : end ≡ cs = cc in
         subst (λ c. Meets (children_short c) → Only nine (all_of (to_fields big c))) e (λ l. only_given nine _)
     fields_nine (add i t fs) cs h g =
-        let q = first_gave (schema_new_of big t i none) (λ c. schema_children big fs >>= λ r. given (c & r)) cs g in
+        let q = first_gave (schema_new_of big t i None) (λ c. schema_children big fs >>= λ r. given (c & r)) cs g in
         let p = first_gave (schema_children big fs) (λ r. given (q.0 & r)) cs q.2 in
         let e : q.0 & p.0 ≡ cs = cc in
         subst (λ c. Meets (children_short c) → Only nine (all_of (to_fields big c))) e
-        (λ l. only_chain nine (to_field big q.0) _ (type_nine t i none q.0 h.1.0 h.0 refl q.1 l.0)
+        (λ l. only_chain nine (to_field big q.0) _ (type_nine t i None q.0 h.1.0 h.0 refl q.1 l.0)
         (λ a r. only_chain nine (all_of (to_fields big p.0)) _ (fields_nine fs p.0 h.1.1 p.1 l.1) (λ b w. only_given nine _)))
 
 -- ── the sheet
@@ -148,7 +148,7 @@ module _ (big : Bool) where
       pick true e =
           let a = export_good big f s h g in
           rw (read_schema_sheet_lem s a.1 a.0 (le-leb (schema_levels s) 32 (omega (arith, a.2))) e)
-          (only_chain return_numbers (to_field big s) _ (only_more nine return_numbers (meets (among nine return_numbers) refl) (to_field big s) (type_nine big f.type f.info none s h.1 h.0 refl g (sheet_short s e))) (λ b k. only_given return_numbers _))
+          (only_chain return_numbers (to_field big s) _ (only_more nine return_numbers (meets (among nine return_numbers) refl) (to_field big s) (type_nine big f.type f.info None s h.1 h.0 refl g (sheet_short s e))) (λ b k. only_given return_numbers _))
 
   -- import of what export wrote, for any field sheet
   pub return_numbers_lem : (b x : Bytes) → exported big b ≡ given x → Only return_numbers (imported big x)

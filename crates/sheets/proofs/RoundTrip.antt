@@ -1,7 +1,7 @@
 -- Import of an export is the plain form, in the order that it was exported in. Assumes nothing.
 use mathlib.Core.Path.{◌≡◌, refl, ap, subst}
 use mathlib.Core.Bool.{Bool, true, false}
-use mathlib.Core.Option.{Option, none, some}
+use Rattle.std.specs.Prelude.{Option, None, Some}
 use Prim.Native.Nat.{ℕ, suc, ◌+◌, ◌^◌}
 use native.Mathlib.Omega.{arith}
 use lib.Dec.{ltb, leb}
@@ -86,7 +86,7 @@ bit_ordered false false = refl
 
 -- the node that an export has, its metadata in that order
 abbrev pub exported_node : Bool → Info → Option Extension → Bytes → ℕ → Node
-exported_node big i e f x = record { format = some f; name = some i.name; flags = pos (flag i.nullable 2 + x); metadata = schema_metadata big i.pairs e }
+exported_node big i e f x = record { format = Some f; name = Some i.name; flags = pos (flag i.nullable 2 + x); metadata = schema_metadata big i.pairs e }
 
 module _ (big : Bool) where
   -- as many children as fields
@@ -95,7 +95,7 @@ module _ (big : Bool) where
       let e : end ≡ cs = cc in
       rw (← e)
   count_export (add i t fs) cs g =
-      let q = first_gave (schema_new_of big t i none) (λ c. schema_children big fs >>= λ r. given (c & r)) cs g in
+      let q = first_gave (schema_new_of big t i None) (λ c. schema_children big fs >>= λ r. given (c & r)) cs g in
       let p = first_gave (schema_children big fs) (λ r. given (q.0 & r)) cs q.2 in
       let e : q.0 & p.0 ≡ cs = cc in
       subst (λ c. count_schemas c ≡ suc (count_fields fs)) e (ap suc (count_export fs p.0 p.1))
@@ -142,41 +142,41 @@ module _ (big : Bool) where
         (λ l. import_node big i e q.0 0 end absent (plain_type (scalar c) (is_some e)) (utf8_scalar c q.0 h q.1) hi oi x l.0 (nullable_plain i.nullable)
         (rw (read_scalar (bit 4 (pos (flag i.nullable 2 + 0))) c q.0 h q.1)))
     import_type (nested n j t) i e s h hi o oi x g =
-        let q = first_gave (schema_new_of big t j none) (λ c. schema_node big i e (nesting_format n) (sorted_flag n) (c & end) absent) s g in
+        let q = first_gave (schema_new_of big t j None) (λ c. schema_node big i e (nesting_format n) (sorted_flag n) (c & end) absent) s g in
         carry (Returns i e (plain_type (nested n j t) (is_some e))) i e (nesting_format n) (sorted_flag n) (q.0 & end) absent s q.2
         (λ l. import_node big i e (nesting_format n) (sorted_flag n) (q.0 & end) absent (plain_type (nested n j t) (is_some e)) (utf8_nesting n) hi oi x l.0 (nullable_sorted i.nullable n)
-        (rw (bit_sorted i.nullable n, read_nesting n h.0, import_type t j none q.0 h.1.1 h.1.0 o.1 o.0 refl q.1 l.1.1.0.0)))
+        (rw (bit_sorted i.nullable n, read_nesting n h.0, import_type t j None q.0 h.1.1 h.1.0 o.1 o.0 refl q.1 l.1.1.0.0)))
     import_type (grouped c fs) i e s h hi o oi x g =
         let q = first_gave (grouping_format c (count_fields fs)) (λ f. schema_children big fs >>= λ cs. schema_node big i e f 0 cs absent) s g in
         let p = first_gave (schema_children big fs) (λ cs. schema_node big i e q.0 0 cs absent) s q.2 in
         carry (Returns i e (plain_type (grouped c fs) (is_some e))) i e q.0 0 p.0 absent s p.2
         (λ l. import_node big i e q.0 0 p.0 absent (plain_type (grouped c fs) (is_some e)) (utf8_grouping c (count_fields fs) q.0 q.1) hi oi x l.0 (nullable_plain i.nullable)
         (rw (read_grouping (bit 4 (pos (flag i.nullable 2 + 0))) c (count_fields fs) q.0 h.0 (omega (arith, leb-true (count_schemas p.0) (2 ^ 31) l.1.0, count_export big fs p.0 p.1)) q.1, import_fields fs p.0 h.1 o p.1 l.1.1.0)))
-    import_type (dictionary ix ordered t) i none s h hi o oi x g =
-        let q = first_gave (index_format ix) (λ f. schema_new_of big t values_info none >>= λ d. schema_node big i none f (flag ordered 1) end (present d)) s g in
-        let p = first_gave (schema_new_of big t values_info none) (λ d. schema_node big i none q.0 (flag ordered 1) end (present d)) s q.2 in
-        carry (Returns i none (plain_type (dictionary ix ordered t) false)) i none q.0 (flag ordered 1) end (present p.0) s p.2
-        (λ l. import_node big i none q.0 (flag ordered 1) end (present p.0) (plain_type (dictionary ix ordered t) false) (utf8_scalar (leaf (ix + 2) 0) q.0 (index_leaf ix h.0) q.1) hi oi x l.0 (nullable_ordered i.nullable ordered)
-        (rw (read_index ix q.0 (ltb-true ix 10 h.0) o.0 q.1, import_type t values_info none p.0 h.1 values_rule o.1 refl refl p.1 l.1.1.1, bit_ordered i.nullable ordered)))
-    import_type (dictionary ix ordered t) i (some e) s h hi o oi x g =
-        let q = first_gave (index_format ix) (λ f. schema_node big i (some e) f 0 end absent) s g in
-        carry (Returns i (some e) (plain_type (dictionary ix ordered t) true)) i (some e) q.0 0 end absent s q.2
-        (λ l. import_node big i (some e) q.0 0 end absent (plain_type (dictionary ix ordered t) true) (utf8_scalar (leaf (ix + 2) 0) q.0 (index_leaf ix h.0) q.1) hi oi x l.0 (nullable_plain i.nullable)
+    import_type (dictionary ix ordered t) i None s h hi o oi x g =
+        let q = first_gave (index_format ix) (λ f. schema_new_of big t values_info None >>= λ d. schema_node big i None f (flag ordered 1) end (present d)) s g in
+        let p = first_gave (schema_new_of big t values_info None) (λ d. schema_node big i None q.0 (flag ordered 1) end (present d)) s q.2 in
+        carry (Returns i None (plain_type (dictionary ix ordered t) false)) i None q.0 (flag ordered 1) end (present p.0) s p.2
+        (λ l. import_node big i None q.0 (flag ordered 1) end (present p.0) (plain_type (dictionary ix ordered t) false) (utf8_scalar (leaf (ix + 2) 0) q.0 (index_leaf ix h.0) q.1) hi oi x l.0 (nullable_ordered i.nullable ordered)
+        (rw (read_index ix q.0 (ltb-true ix 10 h.0) o.0 q.1, import_type t values_info None p.0 h.1 values_rule o.1 refl refl p.1 l.1.1.1, bit_ordered i.nullable ordered)))
+    import_type (dictionary ix ordered t) i (Some e) s h hi o oi x g =
+        let q = first_gave (index_format ix) (λ f. schema_node big i (Some e) f 0 end absent) s g in
+        carry (Returns i (Some e) (plain_type (dictionary ix ordered t) true)) i (Some e) q.0 0 end absent s q.2
+        (λ l. import_node big i (Some e) q.0 0 end absent (plain_type (dictionary ix ordered t) true) (utf8_scalar (leaf (ix + 2) 0) q.0 (index_leaf ix h.0) q.1) hi oi x l.0 (nullable_plain i.nullable)
         (rw (read_scalar (bit 4 (pos (flag i.nullable 2 + 0))) (leaf (ix + 2) 0) q.0 (index_leaf ix h.0) q.1)))
-    import_type (extension n m t) i none s h hi o oi x g = import_type t i (some (n, m)) s h.1.1 hi o oi (h.0, h.1.0) g
-    import_type (extension n m t) i (some e) s h hi o oi x g = import_type t i (some e) s h.1.1 hi o oi x g
+    import_type (extension n m t) i None s h hi o oi x g = import_type t i (Some (n, m)) s h.1.1 hi o oi (h.0, h.1.0) g
+    import_type (extension n m t) i (Some e) s h hi o oi x g = import_type t i (Some e) s h.1.1 hi o oi x g
 
     import_fields : (fs : Fields) (cs : Schemas) → Meets (fields_rule fs) → Meets (fields_free fs) → schema_children big fs ≡ given cs → Meets (children_short cs) → all_of (to_fields big cs) ≡ given (plain_fields fs)
     import_fields nil cs h o g =
         let e : end ≡ cs = cc in
         subst (λ c. Meets (children_short c) → all_of (to_fields big c) ≡ given nil) e (λ l. refl)
     import_fields (add i t fs) cs h o g =
-        let q = first_gave (schema_new_of big t i none) (λ c. schema_children big fs >>= λ r. given (c & r)) cs g in
+        let q = first_gave (schema_new_of big t i None) (λ c. schema_children big fs >>= λ r. given (c & r)) cs g in
         let p = first_gave (schema_children big fs) (λ r. given (q.0 & r)) cs q.2 in
         let e : q.0 & p.0 ≡ cs = cc in
         subst (λ c. Meets (children_short c) → all_of (to_fields big c) ≡ given (plain_fields (add i t fs))) e
-        (λ l. rw (import_type t i none q.0 h.1.0 h.0 o.1.0 o.0 refl q.1 l.0, import_fields fs p.0 h.1.1 o.1.1 p.1 l.1))
+        (λ l. rw (import_type t i None q.0 h.1.0 h.0 o.1.0 o.0 refl q.1 l.0, import_fields fs p.0 h.1.1 o.1.1 p.1 l.1))
 
   -- import of an export is the plain form
   pub import_export : (f : Field) (s : Schema) → Meets (field_rule f) → Meets (field_free f) → schema_new big f ≡ given s → Meets (schema_short s) → to_field big s ≡ given (plain f)
-  import_export f s h o g l = import_type f.type f.info none s h.1 h.0 o.1 o.0 refl g l
+  import_export f s h o g l = import_type f.type f.info None s h.1 h.0 o.1 o.0 refl g l

@@ -2,7 +2,7 @@
 use mathlib.Core.Path.{◌≡◌, refl}
 use mathlib.Core.Bool.{Bool, true, false}
 use mathlib.Core.List.{List, [], ◌∷◌, ◌++◌}
-use mathlib.Core.Option.{Option, none, some}
+use Rattle.std.specs.Prelude.{Option, None, Some}
 use Prim.Native.Nat.{ℕ, zero, suc, ◌+◌, ◌*◌, ◌^◌, ◌≤◌}
 use native.Mathlib.Omega.{arith}
 use lib.Dec.{leb}
@@ -30,7 +30,7 @@ pub hex_length : (b : Bytes) → length (hex b) ≡ 2 * length b
 hex_length [] = refl
 hex_length (x ∷ b) = omega (arith, hex_length b)
 
-text_length : (b : Bytes) → length b ≤ length (write_text (some b))
+text_length : (b : Bytes) → length b ≤ length (write_text (Some b))
 text_length [] = omega arith
 text_length (x ∷ b) = omega (arith, hex_length b)
 
@@ -66,8 +66,8 @@ each_right (p ∷ ps) qs h = each_right ps qs h.1
 -- ── schemas
 
 block_short : (m : Option Bytes) → Meets (within (write_text m)) → Meets (short_block m)
-block_short none h = refl
-block_short (some b) h = lt-ltb (length b) (2 ^ 31) (omega (arith, text_length b, leb-true (length (write_text (some b))) limit h))
+block_short None h = refl
+block_short (Some b) h = lt-ltb (length b) (2 ^ 31) (omega (arith, text_length b, leb-true (length (write_text (Some b))) limit h))
 
 node_short : (n : Node) (c d : ℕ) → Meets (within (schema_line.write (line_of n c d))) → Meets (short_block n.metadata)
 node_short n c d h =
@@ -119,24 +119,24 @@ type_some (extension n m t) i = omega arith
 
 count_fields_lem : (fs : Fields) → count_fields fs ≤ length (fields_lines fs)
 count_fields_lem nil = omega arith
-count_fields_lem (add i t fs) = rw (length-append (type_lines t (some i)) (fields_lines fs)) (omega (arith, type_some t (some i), count_fields_lem fs))
+count_fields_lem (add i t fs) = rw (length-append (type_lines t (Some i)) (fields_lines fs)) (omega (arith, type_some t (Some i), count_fields_lem fs))
 
 mutual
   type_few_lem : (t : ArrowDataType) (b : Bool) (i : Option Info) → length (type_lines t i) ≤ limit → Meets (type_few t b)
   type_few_lem (scalar s) b i h = refl
-  type_few_lem (nested n j t) b i h = type_few_lem t false (some j) (omega arith)
+  type_few_lem (nested n j t) b i h = type_few_lem t false (Some j) (omega arith)
   type_few_lem (grouped g fs) b i h = (le-leb (count_fields fs) (2 ^ 31) (omega (arith, count_fields_lem fs)), fields_few_lem fs (omega arith))
   type_few_lem (dictionary ix ordered t) true i h = refl
-  type_few_lem (dictionary ix ordered t) false i h = type_few_lem t false none (omega arith)
-  type_few_lem (extension n m t) b i h = type_few_lem t true none (omega arith)
+  type_few_lem (dictionary ix ordered t) false i h = type_few_lem t false None (omega arith)
+  type_few_lem (extension n m t) b i h = type_few_lem t true None (omega arith)
 
   fields_few_lem : (fs : Fields) → length (fields_lines fs) ≤ limit → Meets (fields_few fs)
   fields_few_lem nil h = refl
   fields_few_lem (add i t fs) h =
-      let a : length (type_lines t (some i) ++ fields_lines fs) ≡ length (type_lines t (some i)) + length (fields_lines fs) = length-append (type_lines t (some i)) (fields_lines fs) in
-      (type_few_lem t false (some i) (omega arith), fields_few_lem fs (omega arith))
+      let a : length (type_lines t (Some i) ++ fields_lines fs) ≡ length (type_lines t (Some i)) + length (fields_lines fs) = length-append (type_lines t (Some i)) (fields_lines fs) in
+      (type_few_lem t false (Some i) (omega arith), fields_few_lem fs (omega arith))
 
 pub field_few : (f : Field) → leb (length (write_field_sheet f)) 65535 ≡ true → Meets (type_few f.type false)
 field_few f h =
-    let r = sheet_within field_heading (type_lines f.type (some f.info)) h in
-    type_few_lem f.type false (some f.info) r.1
+    let r = sheet_within field_heading (type_lines f.type (Some f.info)) h in
+    type_few_lem f.type false (Some f.info) r.1

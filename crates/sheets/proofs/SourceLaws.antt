@@ -4,7 +4,7 @@
 use mathlib.Core.Path.{◌≡◌, refl, ◌∙◌}
 use mathlib.Core.Bool.{false}
 use mathlib.Core.List.{List}
-use mathlib.Core.Option.{Option}
+use Rattle.std.specs.Prelude.{Option}
 use lib.IntN.{ℤ, pos, negsuc}
 use Rattle.sheets.specs.Rule.{Rule, Meets}
 use Rattle.sheets.specs.Bytes.{Bytes}

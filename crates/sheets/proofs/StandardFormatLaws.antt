@@ -6,7 +6,7 @@ use mathlib.Core.Logic.{inl, inr}
 use mathlib.Core.Bool.{Bool, true, false, ◌&&◌, ◌||◌, cond}
 use mathlib.Core.List.{List, [], ◌∷◌, ◌++◌}
 use mathlib.Core.List.{map as map_list}
-use mathlib.Core.Option.{none, some}
+use Rattle.std.specs.Prelude.{None, Some}
 use Prim.Native.Nat.{ℕ, ◌+◌, ◌^◌}
 use lib.Dec.{eqb, ltb}
 use lib.IntN.{ℤ, pos, negsuc}
@@ -110,9 +110,9 @@ unfolding rows
 read_union sorted true [] = refl
 read_union sorted false [] = refl
 read_union sorted true (z ∷ zs) =
-    rw (split_join 44 (write_signed z) (map_list write_signed zs) (texts_free (z ∷ zs)), ids_any (z ∷ zs)) (when_map (each id_rule (z ∷ zs)) (λ l. of_grouping (union true (some l))) (z ∷ zs))
+    rw (split_join 44 (write_signed z) (map_list write_signed zs) (texts_free (z ∷ zs)), ids_any (z ∷ zs)) (when_map (each id_rule (z ∷ zs)) (λ l. of_grouping (union true (Some l))) (z ∷ zs))
 read_union sorted false (z ∷ zs) =
-    rw (split_join 44 (write_signed z) (map_list write_signed zs) (texts_free (z ∷ zs)), ids_any (z ∷ zs)) (when_map (each id_rule (z ∷ zs)) (λ l. of_grouping (union false (some l))) (z ∷ zs))
+    rw (split_join 44 (write_signed z) (map_list write_signed zs) (texts_free (z ∷ zs)), ids_any (z ∷ zs)) (when_map (each id_rule (z ∷ zs)) (λ l. of_grouping (union false (Some l))) (z ∷ zs))
 
 fixed_read : (sorted : Bool) → map_list (λ (r : Published). read_format sorted r.format) (fixed_formats sorted) ≡ map_list (λ (r : Published). r.taken) (fixed_formats sorted)
 unfolding rows
@@ -197,7 +197,7 @@ module _ (i : Info) (a : ArrowDataType) (fs : Fields) where
   timestamp_written nanosecond [] = refl
   timestamp_written nanosecond (b ∷ z) = refl
 
-  union_written : (mode : Bool) (z : ℤ) (zs : List ℤ) → Writes (union_format mode (z ∷ zs)).format (of_grouping (union mode (some (z ∷ zs))))
+  union_written : (mode : Bool) (z : ℤ) (zs : List ℤ) → Writes (union_format mode (z ∷ zs)).format (of_grouping (union mode (Some (z ∷ zs))))
   union_written true z zs = refl
   union_written false z zs = refl
 
@@ -243,11 +243,11 @@ table : (sorted : Bool) → Meets (each (row_published sorted) rows)
 unfolding rows
 table sorted = meets (each (row_published sorted) rows) refl
 
-row_published_lem : (sorted : Bool) (l : List F.FormatRow) → Meets (each (row_published sorted) l) → (k u : ℕ) (r : F.FormatRow) → row_of k u l ≡ some r → Meets (row_published sorted r)
+row_published_lem : (sorted : Bool) (l : List F.FormatRow) → Meets (each (row_published sorted) l) → (k u : ℕ) (r : F.FormatRow) → row_of k u l ≡ Some r → Meets (row_published sorted r)
 row_published_lem sorted [] h k u r e = not_some e
 row_published_lem sorted (x ∷ l) h k u r e = pick (eqb k x.kind && eqb u x.unit) (row_published_lem sorted l h.1 k u r) e
   where
-    pick : (t : Bool) → (row_of k u l ≡ some r → Meets (row_published sorted r)) → cond t (some x) (row_of k u l) ≡ some r → Meets (row_published sorted r)
+    pick : (t : Bool) → (row_of k u l ≡ Some r → Meets (row_published sorted r)) → cond t (Some x) (row_of k u l) ≡ Some r → Meets (row_published sorted r)
     pick true next g =
         let same : x ≡ r = cc in
         subst (λ y. Meets (row_published sorted y)) same h.0
@@ -287,7 +287,7 @@ written_published sorted (nested large_list i t) f e d = subst (IsPublished sort
 written_published sorted (nested (fixed_size_list n) i t) f e d = (fixed_sized_list n, same_given e)
 written_published sorted (nested (map b) i t) f e d = subst (IsPublished sorted) (same_given e) (listed_published sorted (ascii "+m") refl)
 written_published sorted (grouped struct fs) f e d = subst (IsPublished sorted) (same_given e) (listed_published sorted (ascii "+s") refl)
-written_published sorted (grouped (union mode none) fs) f e d = ids_published sorted mode (up_from 0 (count_fields fs)) f e
-written_published sorted (grouped (union mode (some ids)) fs) f e d = ids_published sorted mode ids f e
+written_published sorted (grouped (union mode None) fs) f e d = ids_published sorted mode (up_from 0 (count_fields fs)) f e
+written_published sorted (grouped (union mode (Some ids)) fs) f e d = ids_published sorted mode ids f e
 written_published sorted (dictionary ix ordered t) f e d = leaf_published sorted (ix + Kind.Int8) 0 f e d
 written_published sorted (extension n m t) f e d = written_published sorted t f e d

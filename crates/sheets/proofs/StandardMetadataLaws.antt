@@ -4,7 +4,7 @@
 use mathlib.Core.Path.{◌≡◌, refl, sym, ◌∙◌, ap, subst}
 use mathlib.Core.Bool.{Bool, true, false}
 use mathlib.Core.List.{List, [], ◌∷◌, ◌++◌, append_assoc, reverse}
-use mathlib.Core.Option.{Option, none, some}
+use Rattle.std.specs.Prelude.{Option, None, Some}
 use Prim.Native.Nat.{ℕ, ◌+◌, ◌/◌, ◌^◌, ◌<◌}
 use native.Mathlib.Omega.{arith}
 use lib.ListN.{length}
@@ -51,17 +51,17 @@ module _ (big : Bool) where
 
 -- the pairs that export writes for a field's pairs and extension; a field without either has no block
 abbrev pub exported_pairs : Option (List Pair) → Option Extension → List Pair
-exported_pairs ps none = or_none ps
-exported_pairs ps (some e) = insert_over (name_key, e.0) (with_metadata e.1 (or_none ps))
+exported_pairs ps None = or_none ps
+exported_pairs ps (Some e) = insert_over (name_key, e.0) (with_metadata e.1 (or_none ps))
 
 module _ (big : Bool) where
-  block_laid_out : (ps : List Pair) (b : Bytes) → block_of big ps ≡ some b → b ≡ laid_out (order_of big) ps
+  block_laid_out : (ps : List Pair) (b : Bytes) → block_of big ps ≡ Some b → b ≡ laid_out (order_of big) ps
   block_laid_out [] b e = not_some e
   block_laid_out (p ∷ ps) b e = sym (same_some e) ∙ written_laid_out big (p ∷ ps)
 
-  pub export_laid_out : (ps : Option (List Pair)) (e : Option Extension) (b : Bytes) → schema_metadata big ps e ≡ some b → b ≡ laid_out (order_of big) (exported_pairs ps e)
-  export_laid_out ps none b h = block_laid_out (or_none ps) b h
-  export_laid_out ps (some e) b h = sym (same_some h) ∙ written_laid_out big (exported_pairs ps (some e))
+  pub export_laid_out : (ps : Option (List Pair)) (e : Option Extension) (b : Bytes) → schema_metadata big ps e ≡ Some b → b ≡ laid_out (order_of big) (exported_pairs ps e)
+  export_laid_out ps None b h = block_laid_out (or_none ps) b h
+  export_laid_out ps (Some e) b h = sym (same_some h) ∙ written_laid_out big (exported_pairs ps (Some e))
 
   -- a block laid out so, of any pairs in any order, with bytes past it or none, is read as its pairs,
   pub read_laid_out : (ps : List Pair) (past : Bytes) → Meets (each text_pair ps) → length (laid_out (order_of big) ps) < 2 ^ 31 → read_block big (laid_out (order_of big) ps ++ past) ≡ given ps
@@ -69,7 +69,7 @@ module _ (big : Bool) where
       subst (λ (b : Bytes). length b < 2 ^ 31 → read_block big (b ++ past) ≡ given ps) (written_laid_out big ps) (read_past big ps past u) h
 
   -- and as what they mean
-  pub metadata_laid_out : (ps : List Pair) (past : Bytes) → Meets (each text_pair ps) → length (laid_out (order_of big) ps) < 2 ^ 31 → metadata_from_bytes big (some (laid_out (order_of big) ps ++ past)) ≡ given (meaning ps)
+  pub metadata_laid_out : (ps : List Pair) (past : Bytes) → Meets (each text_pair ps) → length (laid_out (order_of big) ps) < 2 ^ 31 → metadata_from_bytes big (Some (laid_out (order_of big) ps ++ past)) ≡ given (meaning ps)
   metadata_laid_out ps past u h = ap (λ (a : Answer (List Pair)). a >>= λ qs. given (meaning qs)) (read_laid_out ps past u h)
 
 -- ── extensions

@@ -5,7 +5,7 @@ use mathlib.Core.Path.{◌≡◌, refl, sym, ◌∙◌, ap, ap₂}
 use mathlib.Core.Logic.{◌↔◌}
 use mathlib.Core.Bool.{Bool, true, false}
 use mathlib.Core.List.{List, [], ◌∷◌, ◌++◌, map}
-use mathlib.Core.Option.{Option, none, some}
+use Rattle.std.specs.Prelude.{Option, None, Some}
 use lib.Dec.{leb}
 use lib.ListN.{length}
 use Rattle.sheets.specs.Refusal.{Refusal, not_sheet, reserved_key, wide_index}
@@ -33,14 +33,14 @@ map_both (x ∷ xs) ys = ap (λ (ls : List Bytes). head_text x ∷ ls) (map_both
 mutual
   pub heads_lines : (t : ArrowDataType) (i : Option Info) → map head_text (type_heads t i) ≡ type_lines t i
   heads_lines (scalar s) i = refl
-  heads_lines (nested n j t) i = rw (heads_lines t (some j))
+  heads_lines (nested n j t) i = rw (heads_lines t (Some j))
   heads_lines (grouped g fs) i = rw (fields_lines_lem fs)
-  heads_lines (dictionary ix ordered t) i = rw (heads_lines t none)
-  heads_lines (extension n m t) i = rw (heads_lines t none)
+  heads_lines (dictionary ix ordered t) i = rw (heads_lines t None)
+  heads_lines (extension n m t) i = rw (heads_lines t None)
 
   fields_lines_lem : (fs : Fields) → map head_text (fields_heads fs) ≡ fields_lines fs
   fields_lines_lem nil = refl
-  fields_lines_lem (add i t fs) = map_both (type_heads t (some i)) (fields_heads fs) ∙ ap₂ (λ (x y : List Bytes). x ++ y) (heads_lines t (some i)) (fields_lines_lem fs)
+  fields_lines_lem (add i t fs) = map_both (type_heads t (Some i)) (fields_heads fs) ∙ ap₂ (λ (x y : List Bytes). x ++ y) (heads_lines t (Some i)) (fields_lines_lem fs)
 
 -- ── what is found in lines
 
@@ -109,36 +109,36 @@ each_both (x ∷ xs) ys h k = (h.0, each_both xs ys h.1 k)
 mutual
   heads_free : (t : ArrowDataType) (i : Option Info) → Meets (each neither (type_heads t i)) → Meets (keys_rule i) × Meets (type_free t)
   heads_free (scalar s) i h = (h.0.0, refl)
-  heads_free (nested n j t) i h = (h.0.0, heads_free t (some j) h.1)
+  heads_free (nested n j t) i h = (h.0.0, heads_free t (Some j) h.1)
   heads_free (grouped g fs) i h = (h.0.0, fields_free_lem fs h.1)
-  heads_free (dictionary ix ordered t) i h = (h.0.0, (h.0.1, (heads_free t none h.1).1))
-  heads_free (extension n m t) i h = (h.0.0, (heads_free t none h.1).1)
+  heads_free (dictionary ix ordered t) i h = (h.0.0, (h.0.1, (heads_free t None h.1).1))
+  heads_free (extension n m t) i h = (h.0.0, (heads_free t None h.1).1)
 
   fields_free_lem : (fs : Fields) → Meets (each neither (fields_heads fs)) → Meets (fields_free fs)
   fields_free_lem nil h = refl
   fields_free_lem (add i t fs) h =
-      let r = each_apart (type_heads t (some i)) (fields_heads fs) h in
-      let q = heads_free t (some i) r.0 in
+      let r = each_apart (type_heads t (Some i)) (fields_heads fs) h in
+      let q = heads_free t (Some i) r.0 in
       (q.0, (q.1, fields_free_lem fs r.1))
 
 mutual
   free_heads : (t : ArrowDataType) (i : Option Info) → Meets (keys_rule i) → Meets (type_free t) → Meets (each neither (type_heads t i))
   free_heads (scalar s) i k h = ((k, refl), refl)
-  free_heads (nested n j t) i k h = ((k, refl), free_heads t (some j) h.0 h.1)
+  free_heads (nested n j t) i k h = ((k, refl), free_heads t (Some j) h.0 h.1)
   free_heads (grouped g fs) i k h = ((k, refl), free_fields fs h)
-  free_heads (dictionary ix ordered t) i k h = ((k, h.0), free_heads t none refl h.1)
-  free_heads (extension n m t) i k h = ((k, refl), free_heads t none refl h)
+  free_heads (dictionary ix ordered t) i k h = ((k, h.0), free_heads t None refl h.1)
+  free_heads (extension n m t) i k h = ((k, refl), free_heads t None refl h)
 
   free_fields : (fs : Fields) → Meets (fields_free fs) → Meets (each neither (fields_heads fs))
   free_fields nil h = refl
-  free_fields (add i t fs) h = each_both (type_heads t (some i)) (fields_heads fs) (free_heads t (some i) h.0 h.1.0) (free_fields fs h.1.1)
+  free_fields (add i t fs) h = each_both (type_heads t (Some i)) (fields_heads fs) (free_heads t (Some i) h.0 h.1.0) (free_fields fs h.1.1)
 
 -- the tests pass exactly if the field meets both conditions, as one rule and as the two of demand 3
 pub returns_free : (f : Field) → field_returns f ≡ given tt → Meets (field_free f)
-returns_free f h = heads_free f.type (some f.info) (lines_meet (type_heads f.type (some f.info)) h)
+returns_free f h = heads_free f.type (Some f.info) (lines_meet (type_heads f.type (Some f.info)) h)
 
 pub free_returns : (f : Field) → Meets (field_free f) → field_returns f ≡ given tt
-free_returns f h = lines_pass (type_heads f.type (some f.info)) (free_heads f.type (some f.info) h.0 h.1)
+free_returns f h = lines_pass (type_heads f.type (Some f.info)) (free_heads f.type (Some f.info) h.0 h.1)
 
 pub returns_exactly : (f : Field) → (field_returns f ≡ given tt) ↔ (NoReservedKey f × NoWideIndex f)
 returns_exactly f = (λ h. free_each f (returns_free f h), λ h. free_returns f (free f h.0 h.1))

@@ -5,7 +5,7 @@ use mathlib.Core.Path.{◌≡◌, refl, sym, ◌∙◌, ap, subst}
 use mathlib.Core.Logic.{◌↔◌, ◌≢◌}
 use mathlib.Core.Bool.{Bool, true, false}
 use mathlib.Core.List.{List, ◌∷◌}
-use mathlib.Core.Option.{some}
+use Rattle.std.specs.Prelude.{Some}
 use Prim.Native.Nat.{ℕ}
 use native.Mathlib.Omega.{arith}
 use Rattle.sheets.specs.Refusal.{Refusal, reserved_key, wide_index, number_of, one_of}
@@ -32,7 +32,7 @@ use Rattle.sheets.proofs.RoundTripLaws.{zero_gave, number_among, both_of, plain_
 -- ── what is found
 
 abbrev heads : Field → List Head
-heads f = type_heads f.type (some f.info)
+heads f = type_heads f.type (Some f.info)
 
 module _ (big : Bool) (b : Bytes) (f : Field) (r : read_field_sheet b ≡ given f) (out : Bytes) where
   abbrev number : ℕ
@@ -101,7 +101,7 @@ module _ {big : Bool} where
 pub strict_return : (big : Bool) → StrictReturn big
 strict_return big =
     record {
-      all_lines = λ b f r. field_sheet_read b f r ∙ ap (write_sheet field_heading) (sym (heads_lines f.type (some f.info)));
+      all_lines = λ b f r. field_sheet_read b f r ∙ ap (write_sheet field_heading) (sym (heads_lines f.type (Some f.info)));
       as_export = λ b f r k w out. ap (λ (a : Answer Bytes). outcome a out) (strict_free big b f r (free f k w));
       as_form = λ b r h out. ap (λ (a : Answer Bytes). outcome a out) (strict_form big b r h ∙ sym (export_form big b r h));
       reserved_exactly = λ b f r out. reserved_exactly_lem big b f r out;

@@ -2,7 +2,7 @@
 use mathlib.Core.Path.{◌≡◌, refl}
 use mathlib.Core.Logic.{◌≢◌}
 use mathlib.Core.Bool.{Bool, true, false, ◌&&◌}
-use mathlib.Core.Option.{none, some}
+use Rattle.std.specs.Prelude.{None, Some}
 use Prim.Native.Nat.{ℕ, zero, suc, ◌<◌}
 use native.Mathlib.Nat.{not-suc-le-zero}
 use native.Mathlib.Omega.{arith}
@@ -16,7 +16,7 @@ use Rattle.sheets.specs.Answer.{Answer, refused, given, ◌>>=◌, when, decide}
 pub never : {A : Type 0} → ◌≡◌ {A = Bool} false true → A
 never h = absurd (let z : ◌≡◌ {A = ℕ} 0 1 = cc in omega arith)
 
-pub not_some : {A B : Type 0} {b : B} → none ≡ some b → A
+pub not_some : {A B : Type 0} {b : B} → None ≡ Some b → A
 not_some h = absurd (let z : ◌≡◌ {A = ℕ} 0 1 = cc in omega arith)
 
 pub not_given : {A B : Type 0} {n : Refusal} {b : B} → refused n ≡ given b → A
@@ -26,7 +26,7 @@ not_given h = absurd (let z : ◌≡◌ {A = ℕ} 0 1 = cc in omega arith)
 pub same_given : {A : Type 0} {a b : A} → given a ≡ given b → a ≡ b
 same_given h = cc
 
-pub same_some : {A : Type 0} {a b : A} → some a ≡ some b → a ≡ b
+pub same_some : {A : Type 0} {a b : A} → Some a ≡ Some b → a ≡ b
 same_some h = cc
 
 pub and_left : (a b : Bool) → (a && b) ≡ true → a ≡ true

@@ -6,7 +6,7 @@ use mathlib.Core.Logic.{◌↔◌}
 use mathlib.Core.Bool
 use mathlib.Core.Bool.{Bool, true, false, cond, ◌&&◌, ◌||◌}
 use mathlib.Core.List.{List, [], ◌∷◌, ◌++◌}
-use mathlib.Core.Option.{Option, none, some}
+use Rattle.std.specs.Prelude.{Option, None, Some}
 use Prim.Native.Nat.{ℕ, zero, suc, ◌+◌, ◌<◌, ◌≤◌}
 use native.Mathlib.Omega.{arith}
 use lib.Dec.{eqb, ltb, leb}
@@ -21,12 +21,12 @@ use Rattle.sheets.proofs.TextLaws.{bytes_rule}
 
 -- what follows a first byte: nothing fits where it begins no row
 abbrev go_on : Option (List Range) → Bytes → Bool
-go_on none s = false
-go_on (some rs) s = sequences rs s
+go_on None s = false
+go_on (Some rs) s = sequences rs s
 
-go_on_lem : (o : Option (List Range)) (s : Bytes) → (elim o as (λ z. Bool) [ none ↦ false | some rs ↦ sequences rs s ]) ≡ go_on o s
-go_on_lem none s = refl
-go_on_lem (some rs) s = refl
+go_on_lem : (o : Option (List Range)) (s : Bytes) → (elim o as (λ z. Bool) [ None ↦ false | Some rs ↦ sequences rs s ]) ≡ go_on o s
+go_on_lem None s = refl
+go_on_lem (Some rs) s = refl
 
 begin : (b : ℕ) (s : Bytes) → sequences [] (b ∷ s) ≡ go_on (following b table) s
 begin b s = go_on_lem (following b table) s
@@ -43,12 +43,12 @@ in_byte r b h k =
     lt-ltb b 256 (omega (arith, ltb-true r.last 256 h))
 
 -- a byte that begins a row, and the ranges of the bytes after it
-follow_bytes : (rows : List (List Range)) → Meets (each byte_ranges rows) → (b : ℕ) (rs : List Range) → following b rows ≡ some rs → (is_byte b ≡ true) × Meets (byte_ranges rs)
+follow_bytes : (rows : List (List Range)) → Meets (each byte_ranges rows) → (b : ℕ) (rs : List Range) → following b rows ≡ Some rs → (is_byte b ≡ true) × Meets (byte_ranges rs)
 follow_bytes [] h b rs e = not_some e
 follow_bytes ([] ∷ rows) h b rs e = follow_bytes rows h.1 b rs e
 follow_bytes ((r ∷ row) ∷ rows) h b rs e = pick (in_range r b) refl (follow_bytes rows h.1 b rs) e
   where
-    pick : (t : Bool) → in_range r b ≡ t → (following b rows ≡ some rs → (is_byte b ≡ true) × Meets (byte_ranges rs)) → elim t as (λ z. Option (List Range)) [ true ↦ some row | false ↦ following b rows ] ≡ some rs → (is_byte b ≡ true) × Meets (byte_ranges rs)
+    pick : (t : Bool) → in_range r b ≡ t → (following b rows ≡ Some rs → (is_byte b ≡ true) × Meets (byte_ranges rs)) → elim t as (λ z. Option (List Range)) [ true ↦ Some row | false ↦ following b rows ] ≡ Some rs → (is_byte b ≡ true) × Meets (byte_ranges rs)
     pick true t next g =
         let same : row ≡ rs = cc in
         (in_byte r b h.0.0 t, subst (λ x. Meets (byte_ranges x)) same h.0.1)
@@ -59,8 +59,8 @@ table_bytes = meets (each byte_ranges table) refl
 
 -- the first byte of a sequence, and the ranges of those after it
 first_byte : (b : ℕ) (s : Bytes) (o : Option (List Range)) → following b table ≡ o → go_on o s ≡ true → (is_byte b ≡ true) × (rs : List Range) × Meets (byte_ranges rs) × (sequences rs s ≡ true)
-first_byte b s none e k = never k
-first_byte b s (some rs) e k = let f = follow_bytes table table_bytes b rs e in (f.0, rs, f.1, k)
+first_byte b s None e k = never k
+first_byte b s (Some rs) e k = let f = follow_bytes table table_bytes b rs e in (f.0, rs, f.1, k)
 
 run_bytes : (rs : List Range) (s : Bytes) → Meets (byte_ranges rs) → sequences rs s ≡ true → Meets (all is_byte s)
 run_bytes [] [] h e = refl
@@ -75,8 +75,8 @@ pub utf8_bytes : (b : Bytes) → is_utf8 b ≡ true → Meets (all is_byte b)
 utf8_bytes b h = run_bytes [] b refl h
 
 pub text_bytes : (t : Option Bytes) → Meets (text_rule t) → Meets (bytes_rule t)
-text_bytes none h = h
-text_bytes (some b) h = utf8_bytes b h
+text_bytes None h = h
+text_bytes (Some b) h = utf8_bytes b h
 
 -- ── one text after another
 
@@ -85,8 +85,8 @@ run_append [] [] b h k = k
 run_append [] (x ∷ a) b h k = begin x (a ++ b) ∙ pick (following x table) (sym (begin x a) ∙ h) (λ rs. run_append rs a b)
   where
     pick : (o : Option (List Range)) → go_on o a ≡ true → ((rs : List Range) → sequences rs a ≡ true → is_utf8 b ≡ true → sequences rs (a ++ b) ≡ true) → go_on o (a ++ b) ≡ true
-    pick none e next = e
-    pick (some rs) e next = next rs e k
+    pick None e next = e
+    pick (Some rs) e next = next rs e k
 run_append (r ∷ rs) [] b h k = never h
 run_append (r ∷ rs) (x ∷ a) b h k =
     rw (and_left (in_range r x) (sequences rs a) h, run_append rs a b (and_right (in_range r x) (sequences rs a) h) k)
@@ -111,31 +111,31 @@ ascii_utf8 (x ∷ b) h = begin x b ∙ first h.0 ∙ ascii_utf8 b h.1
 -- what a state waits for: the ranges of the bytes to come, or nothing that can come
 abbrev pub awaited : ℕ → Option (List Range)
 awaited q =
-    cond (eqb q 0) (some [])
-    (cond (eqb q 2) (some (0x80 to 0xbf ∷ []))
-    (cond (eqb q 3) (some (0x80 to 0xbf ∷ 0x80 to 0xbf ∷ []))
-    (cond (eqb q 4) (some (0xa0 to 0xbf ∷ 0x80 to 0xbf ∷ []))
-    (cond (eqb q 5) (some (0x80 to 0x9f ∷ 0x80 to 0xbf ∷ []))
-    (cond (eqb q 6) (some (0x90 to 0xbf ∷ 0x80 to 0xbf ∷ 0x80 to 0xbf ∷ []))
-    (cond (eqb q 7) (some (0x80 to 0xbf ∷ 0x80 to 0xbf ∷ 0x80 to 0xbf ∷ []))
-    (cond (eqb q 8) (some (0x80 to 0x8f ∷ 0x80 to 0xbf ∷ 0x80 to 0xbf ∷ [])) none)))))))
+    cond (eqb q 0) (Some [])
+    (cond (eqb q 2) (Some (0x80 to 0xbf ∷ []))
+    (cond (eqb q 3) (Some (0x80 to 0xbf ∷ 0x80 to 0xbf ∷ []))
+    (cond (eqb q 4) (Some (0xa0 to 0xbf ∷ 0x80 to 0xbf ∷ []))
+    (cond (eqb q 5) (Some (0x80 to 0x9f ∷ 0x80 to 0xbf ∷ []))
+    (cond (eqb q 6) (Some (0x90 to 0xbf ∷ 0x80 to 0xbf ∷ 0x80 to 0xbf ∷ []))
+    (cond (eqb q 7) (Some (0x80 to 0xbf ∷ 0x80 to 0xbf ∷ 0x80 to 0xbf ∷ []))
+    (cond (eqb q 8) (Some (0x80 to 0x8f ∷ 0x80 to 0xbf ∷ 0x80 to 0xbf ∷ [])) None)))))))
 
 -- what is still to come after one byte more
 abbrev advance : Option (List Range) → ℕ → Option (List Range)
-advance none b = none
-advance (some []) b = following b table
-advance (some (r ∷ rs)) b = cond (in_range r b) (some rs) none
+advance None b = None
+advance (Some []) b = following b table
+advance (Some (r ∷ rs)) b = cond (in_range r b) (Some rs) None
 
 -- the bytes from a state on
 abbrev pub from_state : ℕ → Bytes → Bool
 from_state q s = go_on (awaited q) s
 
 advanced : (o : Option (List Range)) (b : ℕ) (s : Bytes) → go_on o (b ∷ s) ≡ go_on (advance o b) s
-advanced none b s = refl
-advanced (some []) b s = begin b s
-advanced (some (r ∷ rs)) b s = pick (in_range r b)
+advanced None b s = refl
+advanced (Some []) b s = begin b s
+advanced (Some (r ∷ rs)) b s = pick (in_range r b)
   where
-    pick : (t : Bool) → (t && sequences rs s) ≡ go_on (cond t (some rs) none) s
+    pick : (t : Bool) → (t && sequences rs s) ≡ go_on (cond t (Some rs) None) s
     pick true = refl
     pick false = refl
 
@@ -157,16 +157,16 @@ ranges_eq (x ∷ xs) (y ∷ ys) h =
     λ i. record { first = a i; last = b i } ∷ l i
 
 abbrev same_awaited : Option (List Range) → Option (List Range) → Bool
-same_awaited none none = true
-same_awaited none (some y) = false
-same_awaited (some x) none = false
-same_awaited (some x) (some y) = same_ranges x y
+same_awaited None None = true
+same_awaited None (Some y) = false
+same_awaited (Some x) None = false
+same_awaited (Some x) (Some y) = same_ranges x y
 
 awaited_eq : (x y : Option (List Range)) → same_awaited x y ≡ true → x ≡ y
-awaited_eq none none h = refl
-awaited_eq none (some y) h = cc
-awaited_eq (some x) none h = cc
-awaited_eq (some x) (some y) h = ap some (ranges_eq x y h)
+awaited_eq None None h = refl
+awaited_eq None (Some y) h = cc
+awaited_eq (Some x) None h = cc
+awaited_eq (Some x) (Some y) h = ap Some (ranges_eq x y h)
 
 -- one test at every state and every byte: the class leads where the table does, and to a state again
 abbrev leads : Option (List Range) → ℕ → Bool
@@ -228,12 +228,12 @@ or_right true b h = refl
 or_right false b h = h
 
 -- a first byte and bytes in the ranges that follow it are a sequence
-follow_fits : (rows : List (List Range)) (b : ℕ) (rs : List Range) (s : Bytes) → following b rows ≡ some rs → fits rs s ≡ true → is_sequence rows (b ∷ s) ≡ true
+follow_fits : (rows : List (List Range)) (b : ℕ) (rs : List Range) (s : Bytes) → following b rows ≡ Some rs → fits rs s ≡ true → is_sequence rows (b ∷ s) ≡ true
 follow_fits [] b rs s e h = not_some e
 follow_fits ([] ∷ rows) b rs s e h = follow_fits rows b rs s e h
 follow_fits ((r ∷ row) ∷ rows) b rs s e h = pick (in_range r b) refl e (λ k. follow_fits rows b rs s k h)
   where
-    pick : (t : Bool) → in_range r b ≡ t → elim t as (λ z. Option (List Range)) [ true ↦ some row | false ↦ following b rows ] ≡ some rs → (following b rows ≡ some rs → is_sequence rows (b ∷ s) ≡ true) → ((in_range r b && fits row s) || is_sequence rows (b ∷ s)) ≡ true
+    pick : (t : Bool) → in_range r b ≡ t → elim t as (λ z. Option (List Range)) [ true ↦ Some row | false ↦ following b rows ] ≡ Some rs → (following b rows ≡ Some rs → is_sequence rows (b ∷ s) ≡ true) → ((in_range r b && fits row s) || is_sequence rows (b ∷ s)) ≡ true
     pick true t g next =
         let same : row ≡ rs = cc in
         or_left (in_range r b && fits row s) (is_sequence rows (b ∷ s)) (rw (t, same, h))
@@ -247,8 +247,8 @@ Parts rs b = (s : Bytes) × (ss : List Bytes) × (fits rs s ≡ true) × Meets (
 
 -- a first byte before the parts of what follows it
 begun : (x : ℕ) (b : Bytes) (o : Option (List Range)) → following x table ≡ o → go_on o b ≡ true → ((rs : List Range) → sequences rs b ≡ true → Parts rs b) → Parts [] (x ∷ b)
-begun x b none e k next = never k
-begun x b (some rs) e k next =
+begun x b None e k next = never k
+begun x b (Some rs) e k next =
     let p = next rs k in
     ([], (x ∷ p.0) ∷ p.1, refl, (follow_fits table x rs p.0 e p.2, p.3), ap (λ y. x ∷ y) p.4)
 
@@ -282,7 +282,7 @@ not_later ((r ∷ row) ∷ rows) n x s h l =
     rw (lt-leb r.first x (omega (arith, ltb-true n r.first h.0))) (not_later rows n x s h.1 l)
 
 abbrev Follows : List (List Range) → ℕ → Bytes → Type 0
-Follows rows x s = (rs : List Range) × (following x rows ≡ some rs) × (fits rs s ≡ true)
+Follows rows x s = (rs : List Range) × (following x rows ≡ Some rs) × (fits rs s ≡ true)
 
 -- what follows a sequence's first byte fits the row that the byte begins
 sequence_follows : (rows : List (List Range)) → Meets (ascending rows) → (x : ℕ) (s : Bytes) → is_sequence rows (x ∷ s) ≡ true → Follows rows x s

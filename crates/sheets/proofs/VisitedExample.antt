@@ -3,7 +3,7 @@
 use mathlib.Core.Path.{◌≡◌, refl}
 use mathlib.Core.Bool.{Bool, false}
 use mathlib.Core.List.{[], ◌∷◌, ◌++◌}
-use mathlib.Core.Option.{none, some}
+use Rattle.std.specs.Prelude.{None, Some}
 use Prim.Native.Nat.{ℕ}
 use lib.IntN.{pos, negsuc}
 use Rattle.sheets.specs.Bytes.{Bytes, ascii}
@@ -21,7 +21,7 @@ abbrev child_sheet : Bytes → Bytes
 child_sheet l = schema_sheet (ascii "69 - 0 ~ 1 1\n" ++ l ++ ascii "6e - 0 ~ 0 0\n")
 
 abbrev format_only : Bytes → Node
-format_only f = record { format = some f; name = some []; flags = pos 0; metadata = none }
+format_only f = record { format = Some f; name = Some []; flags = pos 0; metadata = None }
 
 abbrev over_child : Node → Schema
 over_child n = schema (format_only (ascii "i")) (schema n end absent & end) (present (schema (format_only (ascii "n")) end absent))
@@ -35,14 +35,14 @@ other_child = child_sheet (ascii "~ ff -5 00 0 0\n")
 
 pub ignored_child : (big : Bool) → ((out : Bytes) → import_outcome_in big one_child out ≡ import_outcome_in big other_child out) × (measure_import_outcome big one_child ≡ measure_import_outcome big other_child)
 ignored_child big =
-    import_told big one_child other_child (over_child (format_only (ascii "x"))) (over_child (record { format = none; name = some (255 ∷ []); flags = negsuc 4; metadata = some (0 ∷ []) })) refl refl refl
+    import_told big one_child other_child (over_child (format_only (ascii "x"))) (over_child (record { format = None; name = Some (255 ∷ []); flags = negsuc 4; metadata = Some (0 ∷ []) })) refl refl refl
 
 -- an extension over a dictionary, whose values are not visited: Null, and Unknown, which has no format
 abbrev values_sheet : Bytes → Bytes
 values_sheet l = field_sheet (ascii "37 0 0 78 ~ - 0 ~ 1\n32 2 0 ~ ~ ~ ~ ~ 1\n" ++ l)
 
 abbrev over_values : ℕ → Field
-over_values kind = record { info = record { name = []; nullable = false; pairs = none }; type = extension (ascii "x") none (dictionary IntegerType.Int32 false (scalar (leaf kind 0))) }
+over_values kind = record { info = record { name = []; nullable = false; pairs = None }; type = extension (ascii "x") None (dictionary IntegerType.Int32 false (scalar (leaf kind 0))) }
 
 abbrev one_values : Bytes
 one_values = values_sheet (ascii "0 0 0 ~ ~ ~ ~ ~ 0\n")

@@ -8,7 +8,7 @@ use mathlib.Core.Path.{◌≡◌, refl, sym, ◌∙◌, ap, ap₂, subst}
 use mathlib.Core.Logic.{◌≢◌}
 use mathlib.Core.Bool.{Bool, true, false}
 use mathlib.Core.List.{List, [], ◌∷◌, ◌++◌, append_assoc}
-use mathlib.Core.Option.{Option, none, some}
+use Rattle.std.specs.Prelude.{Option, None, Some}
 use Prim.Native.Nat.{ℕ, suc}
 use native.Mathlib.Omega.{arith}
 use lib.ListN.{length}
@@ -55,10 +55,10 @@ module _ (big : Bool) where
     given (record { info = record { name = name; nullable = nullable n.flags; pairs = pairs }; type = extended e t })
 
   -- without a dictionary: what the format says, the type over the children, then the node
-  by_format : (n : Node) (children : List (Answer Field)) → to_field_node big n children none ≡ ((format_of n >>= λ g. type_of g children) >>= finished n)
+  by_format : (n : Node) (children : List (Answer Field)) → to_field_node big n children None ≡ ((format_of n >>= λ g. type_of g children) >>= finished n)
   by_format n children = go (format_text n.format)
     where
-      go : (a : Answer Bytes) → (a >>= λ f. to_dtype f n.flags children none >>= finished n) ≡ (((a >>= λ f. read_format (is_sorted n.flags) f) >>= λ g. type_of g children) >>= finished n)
+      go : (a : Answer Bytes) → (a >>= λ f. to_dtype f n.flags children None >>= finished n) ≡ (((a >>= λ f. read_format (is_sorted n.flags) f) >>= λ g. type_of g children) >>= finished n)
       go (refused r) = refl
       go (given f) = refl
 
@@ -99,7 +99,7 @@ module _ (big : Bool) where
   node_told n cs bs absent (present w) k l first all values c v h = absurd (omega arith)
   node_told n cs bs (present v) absent k l first all values c e h = absurd (omega arith)
   node_told n cs bs (present v) (present w) k l first all values c e h =
-      let r = values w k l h in (ap (λ (a : Answer Field). to_field_node big n (to_fields big cs) (some a)) r.0, r.1)
+      let r = values w k l h in (ap (λ (a : Answer Field). to_field_node big n (to_fields big cs) (Some a)) r.0, r.1)
 
   all_both : (x y : Answer Field) (fs gs : List (Answer Field)) → x ≡ y → all_of fs ≡ all_of gs → all_of (x ∷ fs) ≡ all_of (y ∷ gs)
   all_both x y fs gs p q = ap₂ (λ (a : Answer Field) (b : Answer Fields). a >>= λ f. b >>= λ rest. given (add f.info f.type rest)) p q
@@ -191,7 +191,7 @@ mutual
   values_same absent absent c h = refl
   values_same absent (present w) c h = absurd (omega arith)
   values_same (present v) absent c h = absurd (omega arith)
-  values_same (present v) (present w) c h = ap some (import_same v w h)
+  values_same (present v) (present w) c h = ap Some (import_same v w h)
 
 -- "changing what stands on any other line, its form kept, changes neither the answer nor the counts"
 pub import_unchanged : (big : Bool) (b c : Bytes) (t u : Schema) → read_schema_sheet b ≡ given t → read_schema_sheet c ≡ given u → SameForImport t u
@@ -224,7 +224,7 @@ module _ (big : Bool) where
           record { format = x; metadata = (p, e); name = (m, j) }
 
   -- a dictionary's values
-  values_gave : (n : Node) (children : List (Answer Field)) (a : Answer Field) (f : Field) → to_field_node big n children (some a) ≡ given f → Gives a
+  values_gave : (n : Node) (children : List (Answer Field)) (a : Answer Field) (f : Field) → to_field_node big n children (Some a) ≡ given f → Gives a
   values_gave n children (given v) f h = (v, refl)
   values_gave n children (refused r) f h = format (format_text n.format) h
     where
@@ -287,7 +287,7 @@ module _ (big : Bool) where
   import_read t f h = field_read t f h
 
 -- so a line whose format is null is none of them
-pub not_null : (big : Bool) (l : Line) → IsRead big l → (node_of l).format ≢ none
+pub not_null : (big : Bool) (l : Line) → IsRead big l → (node_of l).format ≢ None
 not_null big l r e = not_given (sym (ap format_text e) ∙ r.format.1)
 
 -- ── export
@@ -309,10 +309,10 @@ of_shape (extension n m w) = (w, refl)
 
 -- the first visited line is the type's own
 abbrev first_head : List Head → Option Head
-first_head [] = none
-first_head (x ∷ l) = some x
+first_head [] = None
+first_head (x ∷ l) = Some x
 
-first_head_lem : (u : ArrowDataType) (j : Option Info) (inside : Bool) (l : List Head) → first_head (export_visits u j inside ++ l) ≡ some (entry_head (j, u))
+first_head_lem : (u : ArrowDataType) (j : Option Info) (inside : Bool) (l : List Head) → first_head (export_visits u j inside ++ l) ≡ Some (entry_head (j, u))
 first_head_lem (scalar s) j inside l = refl
 first_head_lem (nested n i t) j inside l = refl
 first_head_lem (grouped g fs) j inside l = refl
@@ -346,8 +346,8 @@ module _ (big : Bool) where
 
   nested_told : (n : Nesting) (j m : Info) (t w : ArrowDataType) (inside : Bool) → Told t false w → Told (nested n j t) inside (nested n m w)
   nested_told n j m t w inside told i i' k l h =
-      let r = told (some j) (some m) k l (rest_same h) in
-      (λ a e q. ap (λ (x : Answer Schema). x >>= λ c. schema_node big a e (nesting_format n) (sorted_flag n) (c & end) absent) (r.0 j none refl ∙ ap (λ (x : Info). schema_new_of big w x none) (same_some r.1)), info_same (first_same h), r.2)
+      let r = told (Some j) (Some m) k l (rest_same h) in
+      (λ a e q. ap (λ (x : Answer Schema). x >>= λ c. schema_node big a e (nesting_format n) (sorted_flag n) (c & end) absent) (r.0 j None refl ∙ ap (λ (x : Info). schema_new_of big w x None) (same_some r.1)), info_same (first_same h), r.2)
 
   grouped_told : (g : Grouping) (fs hs : Fields) (inside : Bool) → FieldsTold fs → Told (grouped g fs) inside (grouped g hs)
   grouped_told g fs hs inside told i j k l h =
@@ -360,18 +360,18 @@ module _ (big : Bool) where
   under_told ix ordered t w i j k l h = (alike, info_same (first_same h), rest_same h)
     where
       alike : Alike (dictionary ix ordered t) (dictionary ix ordered w) true
-      alike a none q = never q
-      alike a (some e) q = refl
+      alike a None q = never q
+      alike a (Some e) q = refl
 
   dictionary_told : (ix : ℕ) (ordered : Bool) (t w : ArrowDataType) → Told t false w → Told (dictionary ix ordered t) false (dictionary ix ordered w)
-  dictionary_told ix ordered t w told i j k l h = let r = told none none k l (rest_same h) in (alike r.0, info_same (first_same h), r.2)
+  dictionary_told ix ordered t w told i j k l h = let r = told None None k l (rest_same h) in (alike r.0, info_same (first_same h), r.2)
     where
       alike : Alike t w false → Alike (dictionary ix ordered t) (dictionary ix ordered w) false
-      alike p a none q = ap (λ (x : Answer Schema). index_format ix >>= λ f. x >>= λ d. schema_node big a none f (flag ordered ORDERED) end (present d)) (p values_info none refl)
-      alike p a (some e) q = never (sym q)
+      alike p a None q = ap (λ (x : Answer Schema). index_format ix >>= λ f. x >>= λ d. schema_node big a None f (flag ordered ORDERED) end (present d)) (p values_info None refl)
+      alike p a (Some e) q = never (sym q)
 
   extension_told : (n : Bytes) (m : Option Bytes) (t w : ArrowDataType) (inside : Bool) → Told t true w → Told (extension n m t) inside (extension n m w)
-  extension_told n m t w inside told i j k l h = let r = told none none k l (rest_same h) in (λ a e q. r.0 a (some (outermost e (n, m))) refl, info_same (first_same h), r.2)
+  extension_told n m t w inside told i j k l h = let r = told None None k l (rest_same h) in (λ a e q. r.0 a (Some (outermost e (n, m))) refl, info_same (first_same h), r.2)
 
   mutual
     type_told : (t : ArrowDataType) (inside : Bool) (u : ArrowDataType) → Told t inside u
@@ -391,22 +391,22 @@ module _ (big : Bool) where
     fields_told nil (add j u hs) k l c h = absurd (omega arith)
     fields_told (add i t fs) nil k l c h = absurd (omega arith)
     fields_told (add i t fs) (add j u hs) k l c h =
-        let r = type_told t false u (some i) (some j) (visits_of_fields fs ++ k) (visits_of_fields hs ++ l) (regrouped (export_visits t (some i) false) (visits_of_fields fs) k (export_visits u (some j) false) (visits_of_fields hs) l h) in
+        let r = type_told t false u (Some i) (Some j) (visits_of_fields fs ++ k) (visits_of_fields hs ++ l) (regrouped (export_visits t (Some i) false) (visits_of_fields fs) k (export_visits u (Some j) false) (visits_of_fields hs) l h) in
         let q = fields_told fs hs k l (omega arith) r.2 in
-        (ap₂ (λ (x : Answer Schema) (y : Answer Schemas). x >>= λ a. y >>= λ cs. given (a & cs)) (r.0 i none refl ∙ ap (λ (x : Info). schema_new_of big u x none) (same_some r.1)) q.0, q.1)
+        (ap₂ (λ (x : Answer Schema) (y : Answer Schemas). x >>= λ a. y >>= λ cs. given (a & cs)) (r.0 i None refl ∙ ap (λ (x : Info). schema_new_of big u x None) (same_some r.1)) q.0, q.1)
 
   -- fields with the same visited lines have the same export
-  pub schema_visited : (f g : Field) → export_visits f.type (some f.info) false ≡ export_visits g.type (some g.info) false → schema_new big f ≡ schema_new big g
+  pub schema_visited : (f g : Field) → export_visits f.type (Some f.info) false ≡ export_visits g.type (Some g.info) false → schema_new big f ≡ schema_new big g
   schema_visited f g h =
-      let r = type_told f.type false g.type (some f.info) (some g.info) [] [] (ap (λ (ls : List Head). ls ++ []) h) in
-      r.0 f.info none refl ∙ ap (λ (i : Info). schema_new_of big g.type i none) (same_some r.1)
+      let r = type_told f.type false g.type (Some f.info) (Some g.info) [] [] (ap (λ (ls : List Head). ls ++ []) h) in
+      r.0 f.info None refl ∙ ap (λ (i : Info). schema_new_of big g.type i None) (same_some r.1)
 
   exported_as_lem : (b : Bytes) (f : Field) → read_field_sheet b ≡ given f → exported big b ≡ (schema_new big f >>= λ s. given (write_schema_sheet s))
   unfolding exported
   exported_as_lem b f e = ap (λ (a : Answer Field). a >>= λ g. schema_new big g >>= λ s. given (write_schema_sheet s)) e
 
   -- Sheets that can be read, with the same visited lines: the same answer in every buffer, and the same counts.
-  pub export_told : (b c : Bytes) (f g : Field) → read_field_sheet b ≡ given f → read_field_sheet c ≡ given g → export_visits f.type (some f.info) false ≡ export_visits g.type (some g.info) false
+  pub export_told : (b c : Bytes) (f g : Field) → read_field_sheet b ≡ given f → read_field_sheet c ≡ given g → export_visits f.type (Some f.info) false ≡ export_visits g.type (Some g.info) false
       → ((out : Bytes) → export_outcome_in big b out ≡ export_outcome_in big c out) × (measure_export_outcome big b ≡ measure_export_outcome big c)
   unfolding export_lines
   export_told b c f g p q h =
@@ -420,26 +420,26 @@ mutual
   pub export_same : (t u : ArrowDataType) (i : Option Info) (inside : Bool) → SameForExport t u inside → export_visits t i inside ≡ export_visits u i inside
   export_same (scalar s) u i inside e = ap (λ (x : ArrowDataType). export_visits x i inside) (sym e)
   export_same (nested n j t) u i inside (w, e, h) =
-      ap (λ (ls : List Head). entry_head (i, nested n j t) ∷ ls) (export_same t w (some j) false h) ∙ ap (λ (x : ArrowDataType). export_visits x i inside) (sym e)
+      ap (λ (ls : List Head). entry_head (i, nested n j t) ∷ ls) (export_same t w (Some j) false h) ∙ ap (λ (x : ArrowDataType). export_visits x i inside) (sym e)
   export_same (grouped g fs) u i inside (hs, e, h) =
       let same = fields_same fs hs h in
       ap₂ (λ (n : ℕ) (ls : List Head). record { shape = grouping_shape g; info = i; children = n } ∷ ls) same.0 same.1 ∙ ap (λ (x : ArrowDataType). export_visits x i inside) (sym e)
   export_same (dictionary ix ordered t) u i false (w, e, h) =
-      ap (λ (ls : List Head). entry_head (i, dictionary ix ordered t) ∷ ls) (export_same t w none false h) ∙ ap (λ (x : ArrowDataType). export_visits x i false) (sym e)
+      ap (λ (ls : List Head). entry_head (i, dictionary ix ordered t) ∷ ls) (export_same t w None false h) ∙ ap (λ (x : ArrowDataType). export_visits x i false) (sym e)
   export_same (dictionary ix ordered t) u i true (w, e) = ap (λ (x : ArrowDataType). export_visits x i true) (sym e)
   export_same (extension n m t) u i inside (w, e, h) =
-      ap (λ (ls : List Head). entry_head (i, extension n m t) ∷ ls) (export_same t w none true h) ∙ ap (λ (x : ArrowDataType). export_visits x i inside) (sym e)
+      ap (λ (ls : List Head). entry_head (i, extension n m t) ∷ ls) (export_same t w None true h) ∙ ap (λ (x : ArrowDataType). export_visits x i inside) (sym e)
 
   fields_same : (fs hs : Fields) → SameFields fs hs → (count_fields fs ≡ count_fields hs) × (visits_of_fields fs ≡ visits_of_fields hs)
   fields_same nil hs e = (ap count_fields (sym e), ap visits_of_fields (sym e))
   fields_same (add i t fs) hs (w, rest, e, h, k) =
       let same = fields_same fs rest k in
-      (ap suc same.0 ∙ ap count_fields (sym e), ap₂ (λ (x y : List Head). x ++ y) (export_same t w (some i) false h) same.1 ∙ ap visits_of_fields (sym e))
+      (ap suc same.0 ∙ ap count_fields (sym e), ap₂ (λ (x y : List Head). x ++ y) (export_same t w (Some i) false h) same.1 ∙ ap visits_of_fields (sym e))
 
 -- "changing what stands on any other line, its form kept, changes neither the answer nor the counts"
 pub export_unchanged : (big : Bool) (b c : Bytes) (i : Info) (t u : ArrowDataType) → read_field_sheet b ≡ given (record { info = i; type = t }) → read_field_sheet c ≡ given (record { info = i; type = u }) → SameForExport t u false
     → ((out : Bytes) → export_outcome_in big b out ≡ export_outcome_in big c out) × (measure_export_outcome big b ≡ measure_export_outcome big c)
-export_unchanged big b c i t u p q h = export_told big b c (record { info = i; type = t }) (record { info = i; type = u }) p q (export_same t u (some i) false h)
+export_unchanged big b c i t u p q h = export_told big b c (record { info = i; type = t }) (record { info = i; type = u }) p q (export_same t u (Some i) false h)
 
 -- ── export, the lines of an accepted sheet
 
@@ -459,26 +459,26 @@ module _ (big : Bool) where
     type_read : (t : ArrowDataType) (i : Option Info) (j : Info) (e : Option Extension) (s : Schema) → schema_new_of big t j e ≡ given s → Each Formatted (export_visits t i (is_some e))
     type_read (scalar x) i j e s h = let (f, p, q) = first_gave (scalar_format x) (λ f. schema_node big j e f 0 end absent) s h in ((f, p), tt)
     type_read (nested n k t) i j e s h =
-        let (c, p, q) = first_gave (schema_new_of big t k none) (λ c. schema_node big j e (nesting_format n) (sorted_flag n) (c & end) absent) s h in
-        (tt, type_read t (some k) k none c p)
+        let (c, p, q) = first_gave (schema_new_of big t k None) (λ c. schema_node big j e (nesting_format n) (sorted_flag n) (c & end) absent) s h in
+        (tt, type_read t (Some k) k None c p)
     type_read (grouped g fs) i j e s h =
         let (f, p, q) = first_gave (grouping_format g (count_fields fs)) (λ f. schema_children big fs >>= λ cs. schema_node big j e f 0 cs absent) s h in
         let (cs, u, v) = first_gave (schema_children big fs) (λ cs. schema_node big j e f 0 cs absent) s q in
         ((f, p), fields_read fs cs u)
-    type_read (dictionary ix ordered t) i j none s h =
-        let (f, p, q) = first_gave (index_format ix) (λ f. schema_new_of big t values_info none >>= λ d. schema_node big j none f (flag ordered ORDERED) end (present d)) s h in
-        let (d, u, v) = first_gave (schema_new_of big t values_info none) (λ d. schema_node big j none f (flag ordered ORDERED) end (present d)) s q in
-        ((f, p), type_read t none values_info none d u)
-    type_read (dictionary ix ordered t) i j (some e) s h = let (f, p, q) = first_gave (index_format ix) (λ f. schema_node big j (some e) f 0 end absent) s h in ((f, p), tt)
-    type_read (extension n m t) i j e s h = (tt, type_read t none j (some (outermost e (n, m))) s h)
+    type_read (dictionary ix ordered t) i j None s h =
+        let (f, p, q) = first_gave (index_format ix) (λ f. schema_new_of big t values_info None >>= λ d. schema_node big j None f (flag ordered ORDERED) end (present d)) s h in
+        let (d, u, v) = first_gave (schema_new_of big t values_info None) (λ d. schema_node big j None f (flag ordered ORDERED) end (present d)) s q in
+        ((f, p), type_read t None values_info None d u)
+    type_read (dictionary ix ordered t) i j (Some e) s h = let (f, p, q) = first_gave (index_format ix) (λ f. schema_node big j (Some e) f 0 end absent) s h in ((f, p), tt)
+    type_read (extension n m t) i j e s h = (tt, type_read t None j (Some (outermost e (n, m))) s h)
 
     fields_read : (fs : Fields) (cs : Schemas) → schema_children big fs ≡ given cs → Each Formatted (visits_of_fields fs)
     fields_read nil cs h = tt
     fields_read (add i t fs) cs h =
-        let (c, p, q) = first_gave (schema_new_of big t i none) (λ c. schema_children big fs >>= λ ds. given (c & ds)) cs h in
+        let (c, p, q) = first_gave (schema_new_of big t i None) (λ c. schema_children big fs >>= λ ds. given (c & ds)) cs h in
         let (ds, u, v) = first_gave (schema_children big fs) (λ ds. given (c & ds)) cs q in
-        each_both Formatted (export_visits t (some i) false) (visits_of_fields fs) (type_read t (some i) i none c p) (fields_read fs ds u)
+        each_both Formatted (export_visits t (Some i) false) (visits_of_fields fs) (type_read t (Some i) i None c p) (fields_read fs ds u)
 
   -- Every visited line of a field that is accepted has its format.
-  pub export_read : (f : Field) (s : Schema) → schema_new big f ≡ given s → Each Formatted (export_visits f.type (some f.info) false)
-  export_read f s h = type_read f.type (some f.info) f.info none s h
+  pub export_read : (f : Field) (s : Schema) → schema_new big f ≡ given s → Each Formatted (export_visits f.type (Some f.info) false)
+  export_read f s h = type_read f.type (Some f.info) f.info None s h

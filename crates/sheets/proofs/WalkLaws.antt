@@ -4,7 +4,7 @@
 use mathlib.Core.Path.{◌≡◌, refl, sym, ◌∙◌, ap}
 use mathlib.Core.Bool.{Bool, true, false}
 use mathlib.Core.List.{List, [], ◌∷◌, ◌++◌, append-nil, append_assoc}
-use mathlib.Core.Option.{Option, none, some}
+use Rattle.std.specs.Prelude.{Option, None, Some}
 use Prim.Native.Nat.{ℕ, suc, ◌+◌, ◌-◌, ◌≤◌, ◌<◌}
 use native.Mathlib.Omega.{arith}
 use lib.ListN.{drop}
@@ -30,10 +30,10 @@ fields_row fs = fields_lines_lem fs [] ∙ append-nil (fields_lines fs)
 -- a type's lines: its first, then those of the row below
 pub lines_opened : (t : ArrowDataType) (i : Option Info) → type_lines t i ≡ head_text (entry_head (i, t)) ∷ entry_lines (type_below t)
 lines_opened (scalar s) i = refl
-lines_opened (nested n j t) i = ap (λ l. head_text (entry_head (i, nested n j t)) ∷ l) (sym (append-nil (type_lines t (some j))))
+lines_opened (nested n j t) i = ap (λ l. head_text (entry_head (i, nested n j t)) ∷ l) (sym (append-nil (type_lines t (Some j))))
 lines_opened (grouped g fs) i = ap (λ l. head_text (entry_head (i, grouped g fs)) ∷ l) (sym (fields_row fs))
-lines_opened (dictionary ix ordered t) i = ap (λ l. head_text (entry_head (i, dictionary ix ordered t)) ∷ l) (sym (append-nil (type_lines t none)))
-lines_opened (extension n m t) i = ap (λ l. head_text (entry_head (i, extension n m t)) ∷ l) (sym (append-nil (type_lines t none)))
+lines_opened (dictionary ix ordered t) i = ap (λ l. head_text (entry_head (i, dictionary ix ordered t)) ∷ l) (sym (append-nil (type_lines t None)))
+lines_opened (extension n m t) i = ap (λ l. head_text (entry_head (i, extension n m t)) ∷ l) (sym (append-nil (type_lines t None)))
 
 -- a line that reads has one text
 pub head_text_lem : (b : Bytes) (x : Head) → read_head b ≡ given x → head_text x ≡ b
@@ -100,7 +100,7 @@ one_written (given x) = ap given (sym (append-nil x))
 module _ {S : Type 0} (step : S → Head → Answer (Step S)) where
   fields_written : (fs : Fields) (σ : S) → fields_walk step fs σ ≡ row_walk step (push_fields fs []) σ
   fields_written nil σ = refl
-  fields_written (add i t fs) σ = ap (λ (m : Answer (List Bytes)). type_walk step t (some i) σ >>= λ a. m >>= λ b. given (a ++ b)) (fields_written fs σ)
+  fields_written (add i t fs) σ = ap (λ (m : Answer (List Bytes)). type_walk step t (Some i) σ >>= λ a. m >>= λ b. given (a ++ b)) (fields_written fs σ)
 
   one_below : (a : Answer (Step S)) (t : ArrowDataType) (i : Option Info) → line_written a (λ τ. type_walk step t i τ) (type_lines t i) ≡ line_written a (λ τ. row_walk step ((i, t) ∷ []) τ) (entry_lines ((i, t) ∷ []))
   one_below a t i = written_same a (λ τ. type_walk step t i τ) (λ τ. row_walk step ((i, t) ∷ []) τ) (type_lines t i) (type_lines t i ++ []) (λ τ. one_written (type_walk step t i τ)) (sym (append-nil (type_lines t i)))
@@ -108,26 +108,26 @@ module _ {S : Type 0} (step : S → Head → Answer (Step S)) where
   -- The walk of a type: its line's own, then the row below it, visited, copied or skipped, then what was pending.
   pub walk_opened : (t : ArrowDataType) (i : Option Info) (σ : S) → type_walk step t i σ ≡ line_written (step σ (entry_head (i, t))) (λ τ. row_walk step (type_below t) τ) (entry_lines (type_below t))
   walk_opened (scalar s) i σ = refl
-  walk_opened (nested n j t) i σ = one_below (step σ (entry_head (i, nested n j t))) t (some j)
+  walk_opened (nested n j t) i σ = one_below (step σ (entry_head (i, nested n j t))) t (Some j)
   walk_opened (grouped g fs) i σ =
       written_same (step σ (entry_head (i, grouped g fs))) (λ τ. fields_walk step fs τ) (λ τ. row_walk step (push_fields fs []) τ) (fields_lines fs) (entry_lines (push_fields fs [])) (λ τ. fields_written fs τ) (sym (fields_row fs))
-  walk_opened (dictionary ix ordered t) i σ = one_below (step σ (entry_head (i, dictionary ix ordered t))) t none
-  walk_opened (extension n m t) i σ = one_below (step σ (entry_head (i, extension n m t))) t none
+  walk_opened (dictionary ix ordered t) i σ = one_below (step σ (entry_head (i, dictionary ix ordered t))) t None
+  walk_opened (extension n m t) i σ = one_below (step σ (entry_head (i, extension n m t))) t None
 
   -- the lines that are visited, in the same way
   fields_visited : (fs : Fields) (σ : S) → fields_visits step fs σ ≡ row_visits step (push_fields fs []) σ
   fields_visited nil σ = refl
-  fields_visited (add i t fs) σ = ap (λ (n : ℕ). type_visits step t (some i) σ + n) (fields_visited fs σ)
+  fields_visited (add i t fs) σ = ap (λ (n : ℕ). type_visits step t (Some i) σ + n) (fields_visited fs σ)
 
   one_visited : (a : Answer (Step S)) (t : ArrowDataType) (i : Option Info) → line_visits a (λ τ. type_visits step t i τ) ≡ line_visits a (λ τ. row_visits step ((i, t) ∷ []) τ)
   one_visited a t i = visits_same a (λ τ. type_visits step t i τ) (λ τ. row_visits step ((i, t) ∷ []) τ) (λ τ. omega arith)
 
   visits_opened : (t : ArrowDataType) (i : Option Info) (σ : S) → type_visits step t i σ ≡ line_visits (step σ (entry_head (i, t))) (λ τ. row_visits step (type_below t) τ)
   visits_opened (scalar s) i σ = refl
-  visits_opened (nested n j t) i σ = one_visited (step σ (entry_head (i, nested n j t))) t (some j)
+  visits_opened (nested n j t) i σ = one_visited (step σ (entry_head (i, nested n j t))) t (Some j)
   visits_opened (grouped g fs) i σ = visits_same (step σ (entry_head (i, grouped g fs))) (λ τ. fields_visits step fs τ) (λ τ. row_visits step (push_fields fs []) τ) (λ τ. fields_visited fs τ)
-  visits_opened (dictionary ix ordered t) i σ = one_visited (step σ (entry_head (i, dictionary ix ordered t))) t none
-  visits_opened (extension n m t) i σ = one_visited (step σ (entry_head (i, extension n m t))) t none
+  visits_opened (dictionary ix ordered t) i σ = one_visited (step σ (entry_head (i, dictionary ix ordered t))) t None
+  visits_opened (extension n m t) i σ = one_visited (step σ (entry_head (i, extension n m t))) t None
 
   -- both, where no line was passed before
   pub walked_opened : (t : ArrowDataType) (i : Option Info) (σ : S) → type_walked step t i σ ≡ line_walked 0 (step σ (entry_head (i, t))) (λ τ. row_walked step (type_below t) τ) (entry_lines (type_below t))
@@ -149,10 +149,10 @@ module _ {S : Type 0} (step : S → Head → Answer (Step S)) where
           below skip = refl
 
   -- a sheet, with the heading: what is written for each field that is read
-  pub sheet_walked : (σ : S) (heading b : Bytes) (write : Field → Answer (List Bytes)) → ((f : Field) → type_walk step f.type (some f.info) σ ≡ write f)
+  pub sheet_walked : (σ : S) (heading b : Bytes) (write : Field → Answer (List Bytes)) → ((f : Field) → type_walk step f.type (Some f.info) σ ≡ write f)
       → (read_field_sheet b >>= λ f. write f >>= λ ls. given (write_sheet heading ls)) ≡ sheet_walk step σ heading b
   sheet_walked σ heading b write h =
-      chain_same (read_field_sheet b) (read_field_sheet b) (λ f. write f >>= λ ls. given (write_sheet heading ls)) (λ f. type_walk step f.type (some f.info) σ >>= λ ls. given (write_sheet heading ls)) refl
+      chain_same (read_field_sheet b) (read_field_sheet b) (λ f. write f >>= λ ls. given (write_sheet heading ls)) (λ f. type_walk step f.type (Some f.info) σ >>= λ ls. given (write_sheet heading ls)) refl
       (λ f. ap (λ (m : Answer (List Bytes)). m >>= λ ls. given (write_sheet heading ls)) (sym (h f)))
 
 -- ── levels
@@ -160,11 +160,11 @@ module _ {S : Type 0} (step : S → Head → Answer (Step S)) where
 -- what is below has the levels that are left for it, and stands directly in an extension if the line is one
 pub levels_below_lem : (t : ArrowDataType) (inside : Bool) (levels : ℕ) → type_levels t inside ≤ levels
     → tallest (entry_levels (is_extension (type_shape t))) (type_below t) ≤ levels_below (type_shape t) inside levels
-levels_below_lem t inside levels h = omega (arith, h, fields_lawful.tall inside (none, t))
+levels_below_lem t inside levels h = omega (arith, h, fields_lawful.tall inside (None, t))
 
 -- the levels left and what the line costs
 pub levels_left : (t : ArrowDataType) (inside : Bool) (levels : ℕ) → type_levels t inside ≤ levels → levels ≡ line_cost inside (is_extension (type_shape t)) + levels_below (type_shape t) inside levels
-levels_left t inside levels h = omega (arith, h, fields_lawful.tall inside (none, t))
+levels_left t inside levels h = omega (arith, h, fields_lawful.tall inside (None, t))
 
 -- ── what falls
 

@@ -1,6 +1,5 @@
 -- An answer is a value or a refusal; of several refusals the first is given. Assumes nothing.
-use Rattle.std.specs.Prelude.{Bool, true, false, List, [], ◌∷◌}
-use Rattle.std.proofs.Math.Option.{Option, none, some}
+use Rattle.std.specs.Prelude.{Bool, true, false, List, [], ◌∷◌, Option, None, Some}
 use Rattle.sheets.specs.Refusal.{Refusal}
 use Rattle.sheets.specs.Rule.{Rule, passes}
 
@@ -16,8 +15,8 @@ abbrev pub ◌>>=◌ : {A B : Type 0} → Answer A → (A → Answer B) → Answ
 
 -- the refusal where there is no value
 abbrev pub found : {A : Type 0} → Refusal → Option A → Answer A
-found n none = refused n
-found n (some a) = given a
+found n None = refused n
+found n (Some a) = given a
 
 -- the values of all, in order
 abbrev pub read_each : {A B : Type 0} → (A → Answer B) → List A → Answer (List B)

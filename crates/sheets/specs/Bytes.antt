@@ -1,6 +1,5 @@
 -- Bytes as lists of numbers, texts as bytes, and the splitting of bytes at a separator. Assumes nothing.
-use Rattle.std.specs.Prelude.{Bool, true, false, ◌&&◌, not, cond, List, [], ◌∷◌, ◌++◌, ℕ, zero, suc, eqb, ltb}
-use Rattle.std.proofs.Math.Option.{Option, none, some}
+use Rattle.std.specs.Prelude.{Bool, true, false, ◌&&◌, not, cond, List, [], ◌∷◌, ◌++◌, ℕ, zero, suc, eqb, ltb, Option, None, Some}
 use Prim.Native.String as S
 use Prim.Native.String.{String}
 use Prim.Native.Char as C
@@ -77,6 +76,6 @@ join s (p ∷ q ∷ ps) = p ++ (s ∷ join s (q ∷ ps))
 
 -- what follows the prefix, if the bytes begin with it
 abbrev pub after : Bytes → Bytes → Option Bytes
-after [] bs = some bs
-after (p ∷ ps) [] = none
-after (p ∷ ps) (b ∷ bs) = cond (eqb p b) (after ps bs) none
+after [] bs = Some bs
+after (p ∷ ps) [] = None
+after (p ∷ ps) (b ∷ bs) = cond (eqb p b) (after ps bs) None

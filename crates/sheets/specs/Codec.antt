@@ -1,6 +1,5 @@
 -- Columns and lines, each with its writer and its reader, so that a line's columns are listed once: "Values are split by one space." Assumes nothing.
-use Rattle.std.specs.Prelude.{List, [], ◌∷◌, ℕ, ℤ}
-use Rattle.std.proofs.Math.Option.{Option}
+use Rattle.std.specs.Prelude.{List, [], ◌∷◌, ℕ, ℤ, Option}
 use Rattle.sheets.specs.Refusal.{bad_lines}
 use Rattle.sheets.specs.Bytes.{Bytes, space, split, join}
 use Rattle.sheets.specs.Answer.{Answer, refused, given, ◌>>=◌}

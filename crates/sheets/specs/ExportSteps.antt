@@ -1,6 +1,5 @@
 -- Export line by line (`Walk`), as code does it that writes a line's own output before it goes on to the lines below. Assumes nothing.
-use Rattle.std.specs.Prelude.{Bool, List, [], ◌∷◌, ℕ, ◌+◌, pos}
-use Rattle.std.proofs.Math.Option.{Option, none, some}
+use Rattle.std.specs.Prelude.{Bool, List, [], ◌∷◌, ℕ, ◌+◌, pos, Option, None, Some}
 use Rattle.sheets.specs.Refusal.{zero_byte}
 use Rattle.sheets.specs.Rule.{◌and◌}
 use Rattle.sheets.specs.Bytes.{Bytes, lacks}
@@ -30,41 +29,41 @@ pub record Bearer : Type 0 where
 
 -- a bare line that is no extension's inner line is a dictionary's values'
 abbrev pub or_values : Option Info → Info
-or_values none = values_info
-or_values (some i) = i
+or_values None = values_info
+or_values (Some i) = i
 
 -- the field's columns and the extension, at a line with these columns: directly under an extension from the state, else the line's own and none
 abbrev pub info_of : Option Bearer → Option Info → Info
-info_of none i = or_values i
-info_of (some w) i = w.info
+info_of None i = or_values i
+info_of (Some w) i = w.info
 
 abbrev pub extension_of : Option Bearer → Option Extension
-extension_of none = none
-extension_of (some w) = some w.extension
+extension_of None = None
+extension_of (Some w) = Some w.extension
 
 -- the schema line, with its format, its other flags, children and dictionary; 14 is pending
 abbrev pub schema_own : Bool → Info → Option Extension → Bytes → ℕ → ℕ → ℕ → Answer (List Bytes)
 schema_own big i e f flags children values =
     when zero_byte (lacks 0 i.name and lacks 0 f)
-    (schema_line.write (schema_line_of (record { format = some f; name = some i.name; flags = pos (flag i.nullable NULLABLE + flags); metadata = schema_metadata big i.pairs e }) children values) ∷ [])
+    (schema_line.write (schema_line_of (record { format = Some f; name = Some i.name; flags = pos (flag i.nullable NULLABLE + flags); metadata = schema_metadata big i.pairs e }) children values) ∷ [])
 
 -- `ArrowSchema::new` at one line, with the columns of its field and the extension directly around it: 12 and 13 come at once. An extension's line
 -- writes nothing. "A dictionary directly under extensions is written as its index type alone": its values are skipped.
 abbrev pub schema_step_of : Bool → Shape → ℕ → Info → Option Extension → Answer (Step (Option Bearer))
 schema_step_of big (of_scalar s) n i e = scalar_format s >>= λ f. given (writes (schema_own big i e f 0 0 0) skip)
-schema_step_of big (of_nesting g) n i e = given (writes (schema_own big i e (nesting_format g) (sorted_flag g) 1 0) (visit none))
-schema_step_of big (of_grouping g) n i e = grouping_format g n >>= λ f. given (writes (schema_own big i e f 0 n 0) (visit none))
-schema_step_of big (of_dictionary ix ordered) n i none = index_format ix >>= λ f. given (writes (schema_own big i none f (flag ordered ORDERED) 0 1) (visit none))
-schema_step_of big (of_dictionary ix ordered) n i (some e) = index_format ix >>= λ f. given (writes (schema_own big i (some e) f 0 0 0) skip)
-schema_step_of big (of_extension a m) n i e = given (writes (given []) (visit (some (record { info = i; extension = outermost e (a, m) }))))
+schema_step_of big (of_nesting g) n i e = given (writes (schema_own big i e (nesting_format g) (sorted_flag g) 1 0) (visit None))
+schema_step_of big (of_grouping g) n i e = grouping_format g n >>= λ f. given (writes (schema_own big i e f 0 n 0) (visit None))
+schema_step_of big (of_dictionary ix ordered) n i None = index_format ix >>= λ f. given (writes (schema_own big i None f (flag ordered ORDERED) 0 1) (visit None))
+schema_step_of big (of_dictionary ix ordered) n i (Some e) = index_format ix >>= λ f. given (writes (schema_own big i (Some e) f 0 0 0) skip)
+schema_step_of big (of_extension a m) n i e = given (writes (given []) (visit (Some (record { info = i; extension = outermost e (a, m) }))))
 
 abbrev pub schema_step : Bool → Option Bearer → Head → Answer (Step (Option Bearer))
 schema_step big u x = schema_step_of big x.shape x.children (info_of u x.info) (extension_of u)
 
 -- the extension that a line says, which is the outermost at the first line of a field
 abbrev pub extension_in : Shape → Option Extension
-extension_in (of_scalar s) = none
-extension_in (of_nesting g) = none
-extension_in (of_grouping g) = none
-extension_in (of_dictionary ix ordered) = none
-extension_in (of_extension a m) = some (a, m)
+extension_in (of_scalar s) = None
+extension_in (of_nesting g) = None
+extension_in (of_grouping g) = None
+extension_in (of_dictionary ix ordered) = None
+extension_in (of_extension a m) = Some (a, m)

@@ -1,8 +1,7 @@
 -- Fields and their types, as `Field` and `ArrowDataType` of the source have them, and the rules of document 01, 'Field sheet', for what they
 -- hold. Types that behave alike stand under one constructor: scalar types have no children, nested types have one field, grouped types any
 -- number. Assumes nothing.
-use Rattle.std.specs.Prelude.{Bool, true, false, ◌&&◌, ◌||◌, cond, List, [], ◌∷◌, ℕ, zero, suc, ◌^◌, max, eqb, leb, ltb, ℤ, pos}
-use Rattle.std.proofs.Math.Option.{Option, none, some}
+use Rattle.std.specs.Prelude.{Bool, true, false, ◌&&◌, ◌||◌, cond, List, [], ◌∷◌, ℕ, zero, suc, ◌^◌, max, eqb, leb, ltb, ℤ, pos, Option, None, Some}
 use Rattle.std.specs.Int.Signed.{mag}
 use Rattle.sheets.specs.Rule.{Rule, is, ◌and◌, each}
 use Rattle.sheets.specs.Bytes.{Bytes}
@@ -110,8 +109,8 @@ leaf_rule k u = is (is_leaf k) and is (cond (has_unit k) (ltb u 4) (eqb u 0))
 
 -- "Names, texts and both sides of a pair are UTF-8"
 abbrev pub text_rule : Option Bytes → Rule
-text_rule none = is true
-text_rule (some b) = is (is_utf8 b)
+text_rule None = is true
+text_rule (Some b) = is (is_utf8 b)
 
 -- "`p`, `q` are unsigned 64-bit"
 abbrev pub size_rule : ℕ → Rule
@@ -135,8 +134,8 @@ id_rule z = is (ltb (mag z) (2 ^ 31))
 
 abbrev pub grouping_rule : Grouping → Rule
 grouping_rule struct = is true
-grouping_rule (union mode none) = is true
-grouping_rule (union mode (some ids)) = each id_rule ids
+grouping_rule (union mode None) = is true
+grouping_rule (union mode (Some ids)) = each id_rule ids
 
 -- bytes in order, as the bytes of the first difference are; the shorter of two that agree so far comes first
 abbrev pub before : Bytes → Bytes → Bool
@@ -159,8 +158,8 @@ pairs_rule [] = is true
 pairs_rule (p ∷ ps) = is (is_utf8 p.0) and is (is_utf8 p.1) and is (first_after p.0 ps) and pairs_rule ps
 
 abbrev pub metadata_rule : Option (List Pair) → Rule
-metadata_rule none = is true
-metadata_rule (some ps) = pairs_rule ps
+metadata_rule None = is true
+metadata_rule (Some ps) = pairs_rule ps
 
 abbrev pub info_rule : Info → Rule
 info_rule i = is (is_utf8 i.name) and metadata_rule i.pairs

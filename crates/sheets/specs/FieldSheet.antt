@@ -1,6 +1,5 @@
 -- Document 01, 'Field sheet': the lines of a field, and reading them: "`kind p q text more name nullable pairs children`". Assumes nothing.
-use Rattle.std.specs.Prelude.{Bool, true, false, ◌&&◌, cond, List, [], ◌∷◌, ◌++◌, map as map_list, ℕ, zero, suc, ◌+◌, eqb, leb}
-use Rattle.std.proofs.Math.Option.{Option, none, some}
+use Rattle.std.specs.Prelude.{Bool, true, false, ◌&&◌, cond, List, [], ◌∷◌, ◌++◌, map as map_list, ℕ, zero, suc, ◌+◌, eqb, leb, Option, None, Some}
 use Rattle.sheets.specs.Refusal.{bad_lines, too_deep}
 use Rattle.sheets.specs.Bytes.{Bytes, comma, equals, ascii, split, join, same}
 use Rattle.sheets.specs.Rule.{is}
@@ -31,7 +30,7 @@ pub data Shape : Type 0 where
 
 -- "unused texts `~`"
 abbrev pub no_text : Bytes
-no_text = write_text none
+no_text = write_text None
 
 -- a type that needs no text
 abbrev numbers : ℕ → ℕ → ℕ → Columns
@@ -50,9 +49,9 @@ decimal_kind bits256 = Kind.Decimal256
 
 -- a list in a column: `~` none, `-` empty, else its elements' texts joined by commas
 abbrev pub write_list : {A : Type 0} → (A → Bytes) → Option (List A) → Bytes
-write_list write none = no_text
-write_list write (some []) = ascii "-"
-write_list write (some (a ∷ l)) = join comma (write a ∷ map_list write l)
+write_list write None = no_text
+write_list write (Some []) = ascii "-"
+write_list write (Some (a ∷ l)) = join comma (write a ∷ map_list write l)
 
 -- "`p`, `q`: size; precision and scale; unit; map sorted in `p`; dictionary index type and ordered; union mode. `text` is the timezone, the
 -- extension's name, or the union's ids. `more` is the extension's metadata. Unused `p`, `q` are 0, unused texts `~`"
@@ -67,7 +66,7 @@ columns (of_nesting large_list) = numbers Kind.LargeList 0 0
 columns (of_grouping struct) = numbers Kind.Struct 0 0
 columns (of_nesting (map sorted)) = numbers Kind.Map (to_nat sorted) 0
 columns (of_dictionary ix ordered) = numbers Kind.Dictionary ix (to_nat ordered)
-columns (of_extension n m) = record { kind = Kind.Extension; p = 0; q = 0; text = write_text (some n); more = write_text m }
+columns (of_extension n m) = record { kind = Kind.Extension; p = 0; q = 0; text = write_text (Some n); more = write_text m }
 columns (of_grouping (union sparse ids)) = record { kind = Kind.Union; p = to_nat sparse; q = 0; text = write_list write_signed ids; more = no_text }
 
 -- ── the columns name nullable pairs: what a line says of its field
@@ -82,8 +81,8 @@ Own = Bytes × (Bytes × Bytes)
 
 -- "bare lines: `name`, `nullable` and `pairs` all `~`"; all others have a name and `nullable` 0 or 1
 abbrev pub info_columns : Option Info → Own
-info_columns none = (no_text, (no_text, no_text))
-info_columns (some i) = (write_text (some i.name), (decimal (to_nat i.nullable), write_list pair_text i.pairs))
+info_columns None = (no_text, (no_text, no_text))
+info_columns (Some i) = (write_text (Some i.name), (decimal (to_nat i.nullable), write_list pair_text i.pairs))
 
 -- "`kind p q text more name nullable pairs children`"
 abbrev pub Line : Type 0
@@ -112,14 +111,14 @@ children_of l = l.1.1.1.1.1.1.1.1.0
 abbrev mutual
   pub type_lines : ArrowDataType → Option Info → List Bytes
   type_lines (scalar s) i = field_line.write (line_of (of_scalar s) i 0) ∷ []
-  type_lines (nested n j t) i = field_line.write (line_of (of_nesting n) i 1) ∷ type_lines t (some j)
+  type_lines (nested n j t) i = field_line.write (line_of (of_nesting n) i 1) ∷ type_lines t (Some j)
   type_lines (grouped g fs) i = field_line.write (line_of (of_grouping g) i (count_fields fs)) ∷ fields_lines fs
-  type_lines (dictionary ix ordered t) i = field_line.write (line_of (of_dictionary ix ordered) i 1) ∷ type_lines t none
-  type_lines (extension n m t) i = field_line.write (line_of (of_extension n m) i 1) ∷ type_lines t none
+  type_lines (dictionary ix ordered t) i = field_line.write (line_of (of_dictionary ix ordered) i 1) ∷ type_lines t None
+  type_lines (extension n m t) i = field_line.write (line_of (of_extension n m) i 1) ∷ type_lines t None
 
   pub fields_lines : Fields → List Bytes
   fields_lines nil = []
-  fields_lines (add i t fs) = type_lines t (some i) ++ fields_lines fs
+  fields_lines (add i t fs) = type_lines t (Some i) ++ fields_lines fs
 
 -- ── read
 
@@ -133,15 +132,15 @@ bool_at p = cond (eqb p 0) (given false) (cond (eqb p 1) (given true) (refused b
 
 -- "an extension's name never is" `~`
 abbrev pub read_some : Option Bytes → Answer Bytes
-read_some none = refused bad_lines
-read_some (some b) = given b
+read_some None = refused bad_lines
+read_some (Some b) = given b
 
 -- a column's list
 abbrev pub read_list : {A : Type 0} → (Bytes → Answer A) → Bytes → Answer (Option (List A))
 read_list read t =
-    cond (same t no_text) (given none)
-    (cond (same t (ascii "-")) (given (some []))
-    (read_each read (split comma t) >>= λ l. given (some l)))
+    cond (same t no_text) (given None)
+    (cond (same t (ascii "-")) (given (Some []))
+    (read_each read (split comma t) >>= λ l. given (Some l)))
 
 -- the type that a line's kind and columns tell
 abbrev pub shape_at : Columns → Answer Shape
@@ -182,8 +181,8 @@ read_pair t = pair_of (split equals t)
 
 -- a line without a name is bare
 abbrev pub info_named : Option Bytes → Own → Answer (Option Info)
-info_named none o = given none
-info_named (some name) o = read_number o.1.0 >>= λ n. bool_at n >>= λ b. read_list read_pair o.1.1 >>= λ ps. given (some (record { name = name; nullable = b; pairs = ps }))
+info_named None o = given None
+info_named (Some name) o = read_number o.1.0 >>= λ n. bool_at n >>= λ b. read_list read_pair o.1.1 >>= λ ps. given (Some (record { name = name; nullable = b; pairs = ps }))
 
 abbrev pub same_own : Own → Own → Bool
 same_own a b = same a.0 b.0 && (same a.1.0 b.1.0 && same a.1.1 b.1.1)
@@ -200,15 +199,15 @@ Entry = Option Info × ArrowDataType
 abbrev pub take_fields : ℕ → List Entry → Answer (Fields × List Entry)
 take_fields zero ts = given (nil, ts)
 take_fields (suc n) [] = refused bad_lines
-take_fields (suc n) (t ∷ ts) = elim t.0 [ none ↦ refused bad_lines | some i ↦ (take_fields n ts >>= λ (fs, rest). given (add i t.1 fs, rest)) ]
+take_fields (suc n) (t ∷ ts) = elim t.0 [ None ↦ refused bad_lines | Some i ↦ (take_fields n ts >>= λ (fs, rest). given (add i t.1 fs, rest)) ]
 
 abbrev pub take_field : ℕ → List Entry → Answer (Field × List Entry)
 take_field n [] = refused bad_lines
-take_field n (t ∷ ts) = elim t.0 [ none ↦ refused bad_lines | some i ↦ when bad_lines (is (eqb n 1)) (record { info = i; type = t.1 }, ts) ]
+take_field n (t ∷ ts) = elim t.0 [ None ↦ refused bad_lines | Some i ↦ when bad_lines (is (eqb n 1)) (record { info = i; type = t.1 }, ts) ]
 
 abbrev pub take_bare : ℕ → List Entry → Answer (ArrowDataType × List Entry)
 take_bare n [] = refused bad_lines
-take_bare n (t ∷ ts) = elim t.0 [ none ↦ when bad_lines (is (eqb n 1)) (t.1, ts) | some i ↦ refused bad_lines ]
+take_bare n (t ∷ ts) = elim t.0 [ None ↦ when bad_lines (is (eqb n 1)) (t.1, ts) | Some i ↦ refused bad_lines ]
 
 -- a line takes its subtrees off the types of the lines after it
 abbrev pub place_type : Shape → ℕ → List Entry → Answer (ArrowDataType × List Entry)
@@ -232,17 +231,17 @@ entries (b ∷ bs) = entries bs >>= λ ts. field_line.read b >>= λ l. place_lin
 
 -- "All other lines, the first included, have a name"
 abbrev pub field_of : Entry → Answer Field
-field_of e = elim e.0 [ none ↦ refused bad_lines | some i ↦ given (record { info = i; type = e.1 }) ]
+field_of e = elim e.0 [ None ↦ refused bad_lines | Some i ↦ given (record { info = i; type = e.1 }) ]
 
 abbrev pub field_heading : Bytes
 field_heading = ascii "kind p q text more name nullable pairs children"
 
 abbrev pub write_field_sheet : Field → Bytes
-write_field_sheet f = write_sheet field_heading (type_lines f.type (some f.info))
+write_field_sheet f = write_sheet field_heading (type_lines f.type (Some f.info))
 
 -- a sheet whose first line is bare
 abbrev pub write_bare_sheet : ArrowDataType → Bytes
-write_bare_sheet t = write_sheet field_heading (type_lines t none)
+write_bare_sheet t = write_sheet field_heading (type_lines t None)
 
 -- 1, 2 and 3 "over the whole sheet in that order"
 abbrev pub read_field_sheet : Bytes → Answer Field

@@ -1,7 +1,6 @@
 -- Field sheets as trees of lines (`LineTrees`): a line tells its type, its field and how many lines are below; only a dictionary's and an extension's
 -- line below is bare; a line is a level, but for an extension that does not stand directly in another. Assumes nothing.
-use Rattle.std.specs.Prelude.{Bool, true, false, ◌||◌, List, [], ◌∷◌, ◌++◌, ℕ, eqb, ltb}
-use Rattle.std.proofs.Math.Option.{Option, none, some}
+use Rattle.std.specs.Prelude.{Bool, true, false, ◌||◌, List, [], ◌∷◌, ◌++◌, ℕ, eqb, ltb, Option, None, Some}
 use Rattle.sheets.specs.Rule.{Rule, is, ◌and◌}
 use Rattle.sheets.specs.Bytes.{Bytes}
 use Rattle.sheets.specs.Answer.{Answer, given, ◌>>=◌}
@@ -39,8 +38,8 @@ shape_rule (of_dictionary ix ordered) = is (ltb ix 10)
 shape_rule (of_extension n m) = is (is_utf8 n) and text_rule m
 
 abbrev pub own_rule : Option Info → Rule
-own_rule none = is true
-own_rule (some i) = info_rule i
+own_rule None = is true
+own_rule (Some i) = info_rule i
 
 -- "`children` is 1 for lists, map, dictionary and extension, free for struct and union, else 0"
 abbrev pub children_rule : Shape → ℕ → Rule
@@ -52,8 +51,8 @@ children_rule (of_extension a m) n = is (eqb n 1)
 
 -- a bare line says nothing of its field
 abbrev pub is_bare : Option Info → Bool
-is_bare none = true
-is_bare (some i) = false
+is_bare None = true
+is_bare (Some i) = false
 
 -- "A dictionary's values and an extension's inner type are bare lines"
 abbrev pub bare_below : Shape → Bool
@@ -86,7 +85,7 @@ line_cost false true = 0
 -- the fields in front of other entries
 abbrev pub push_fields : Fields → List Entry → List Entry
 push_fields nil ts = ts
-push_fields (add i t fs) ts = (some i, t) ∷ push_fields fs ts
+push_fields (add i t fs) ts = (Some i, t) ∷ push_fields fs ts
 
 abbrev pub type_shape : ArrowDataType → Shape
 type_shape (scalar s) = of_scalar s
@@ -97,10 +96,10 @@ type_shape (extension n m t) = of_extension n m
 
 abbrev pub type_below : ArrowDataType → List Entry
 type_below (scalar s) = []
-type_below (nested n j t) = (some j, t) ∷ []
+type_below (nested n j t) = (Some j, t) ∷ []
 type_below (grouped g fs) = push_fields fs []
-type_below (dictionary ix ordered t) = (none, t) ∷ []
-type_below (extension n m t) = (none, t) ∷ []
+type_below (dictionary ix ordered t) = (None, t) ∷ []
+type_below (extension n m t) = (None, t) ∷ []
 
 abbrev pub type_count : ArrowDataType → ℕ
 type_count (scalar s) = 0
@@ -125,7 +124,7 @@ entry_lines (t ∷ ts) = type_lines t.1 t.0 ++ entry_lines ts
 
 -- the field of an entry that is not bare
 abbrev pub field_at : Entry → Field
-field_at e = record { info = elim e.0 [ none ↦ record { name = []; nullable = false; pairs = none } | some i ↦ i ]; type = e.1 }
+field_at e = record { info = elim e.0 [ None ↦ record { name = []; nullable = false; pairs = None } | Some i ↦ i ]; type = e.1 }
 
 -- a line's form: bare or not. Where levels are counted: directly inside an extension or not
 abbrev pub fields : Grammar

@@ -1,7 +1,6 @@
 -- Document 01, 'Format string', and the Arrow C data interface, "Data type description -- format strings": how they are made (`to_format`) and
 -- what they say (the format half of `to_dtype`, and `to_integer_type`). Assumes nothing.
-use Rattle.std.specs.Prelude.{Bool, true, false, ◌&&◌, cond, List, [], ◌∷◌, ◌++◌, map as map_list, ℕ, zero, suc, ◌+◌, ◌^◌, eqb, leb, ltb, ℤ, pos, negsuc}
-use Rattle.std.proofs.Math.Option.{Option, none, some}
+use Rattle.std.specs.Prelude.{Bool, true, false, ◌&&◌, cond, List, [], ◌∷◌, ◌++◌, map as map_list, ℕ, zero, suc, ◌+◌, ◌^◌, eqb, leb, ltb, ℤ, pos, negsuc, Option, None, Some}
 use Rattle.sheets.specs.Refusal.{unsupported_format, bad_number, bad_decimal, bad_index, no_format, no_union_ids}
 use Rattle.sheets.specs.Bytes.{Bytes, comma, colon, plus_sign, minus_sign, ascii, same, split, join, all}
 use Rattle.sheets.specs.Rule.{is}
@@ -62,13 +61,13 @@ rows =
 
 -- the row of a name
 abbrev pub row_named : Bytes → List FormatRow → Option FormatRow
-row_named f [] = none
-row_named f (r ∷ rs) = cond (same f r.name) (some r) (row_named f rs)
+row_named f [] = None
+row_named f (r ∷ rs) = cond (same f r.name) (Some r) (row_named f rs)
 
 -- the row of a type and a unit
 abbrev pub row_of : ℕ → ℕ → List FormatRow → Option FormatRow
-row_of k u [] = none
-row_of k u (r ∷ rs) = cond (eqb k r.kind && eqb u r.unit) (some r) (row_of k u rs)
+row_of k u [] = None
+row_of k u (r ∷ rs) = cond (eqb k r.kind && eqb u r.unit) (Some r) (row_of k u rs)
 
 -- ── made
 
@@ -79,8 +78,8 @@ unit_letter microsecond = ascii "u"
 unit_letter nanosecond = ascii "n"
 
 abbrev pub or_empty : Option Bytes → Bytes
-or_empty none = []
-or_empty (some b) = b
+or_empty None = []
+or_empty (Some b) = b
 
 -- the third part of a decimal's format; a decimal of 128 bits has none
 abbrev pub width_text : Width → List Bytes
@@ -114,8 +113,8 @@ write_ids name (z ∷ zs) = given (name ++ join comma (write_signed z ∷ map_li
 -- the count is of the fields: ids that are None are 0, 1, .. one per field
 abbrev pub grouping_format : Grouping → ℕ → Answer Bytes
 grouping_format struct count = given (ascii "+s")
-grouping_format (union mode none) count = write_ids (union_name mode) (up_from 0 count)
-grouping_format (union mode (some ids)) count = write_ids (union_name mode) ids
+grouping_format (union mode None) count = write_ids (union_name mode) (up_from 0 count)
+grouping_format (union mode (Some ids)) count = write_ids (union_name mode) ids
 
 -- the format of an index type
 abbrev pub index_format : ℕ → Answer Bytes
@@ -177,13 +176,13 @@ decimal_parts (p ∷ s ∷ w ∷ x ∷ xs) = refused bad_decimal
 
 -- "the first colon splits": the bytes before it and after it
 abbrev pub cut : Bytes → Option (Bytes × Bytes)
-cut [] = none
-cut (b ∷ bs) = elim (eqb b colon) [ true ↦ some ([], bs) | false ↦ elim (cut bs) [ none ↦ none | some hr ↦ some (b ∷ hr.0, hr.1) ] ]
+cut [] = None
+cut (b ∷ bs) = elim (eqb b colon) [ true ↦ Some ([], bs) | false ↦ elim (cut bs) [ None ↦ None | Some hr ↦ Some (b ∷ hr.0, hr.1) ] ]
 
 -- an empty zone is none
 abbrev pub zone : Bytes → Option Bytes
-zone [] = none
-zone (b ∷ bs) = some (b ∷ bs)
+zone [] = None
+zone (b ∷ bs) = Some (b ∷ bs)
 
 -- a format with a colon: what stands before it, what stands after it
 abbrev pub read_cut : Bytes → Bytes → Answer Format
@@ -195,17 +194,17 @@ read_cut h r =
     (cond (same h (ascii "w")) (read_size r >>= λ n. given (of_scalar (fixed_size_binary n)))
     (cond (same h (ascii "+w")) (read_size r >>= λ n. given (of_nesting (fixed_size_list n)))
     (cond (same h (ascii "d")) (decimal_parts (split comma r) >>= λ s. given (of_scalar s))
-    (cond (same h (ascii "+us")) (read_each read_id (split comma r) >>= λ zs. given (of_grouping (union true (some zs))))
-    (cond (same h (ascii "+ud")) (read_each read_id (split comma r) >>= λ zs. given (of_grouping (union false (some zs))))
+    (cond (same h (ascii "+us")) (read_each read_id (split comma r) >>= λ zs. given (of_grouping (union true (Some zs))))
+    (cond (same h (ascii "+ud")) (read_each read_id (split comma r) >>= λ zs. given (of_grouping (union false (Some zs))))
     (refused unsupported_format)))))))))
 
 abbrev pub read_other : Option (Bytes × Bytes) → Answer Format
-read_other none = refused unsupported_format
-read_other (some hr) = read_cut hr.0 hr.1
+read_other None = refused unsupported_format
+read_other (Some hr) = read_cut hr.0 hr.1
 
 abbrev pub read_named : Option FormatRow → Answer Format → Answer Format
-read_named (some r) other = given (of_scalar (leaf r.kind r.unit))
-read_named none other = other
+read_named (Some r) other = given (of_scalar (leaf r.kind r.unit))
+read_named None other = other
 
 -- "the fixed names are theirs. Otherwise the first colon splits"; the first argument says that the keys of a map are sorted
 abbrev pub read_format : Bool → Bytes → Answer Format

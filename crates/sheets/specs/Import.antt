@@ -1,6 +1,5 @@
 -- Import: `to_field` and `to_dtype`, a field from a schema. "A field is read through its type, and a type through its fields." Assumes nothing.
-use Rattle.std.specs.Prelude.{Bool, List, [], ◌∷◌, ℤ}
-use Rattle.std.proofs.Math.Option.{Option, none, some}
+use Rattle.std.specs.Prelude.{Bool, List, [], ◌∷◌, ℤ, Option, None, Some}
 use Rattle.sheets.specs.Refusal.{null_format, not_utf8, no_child}
 use Rattle.sheets.specs.Bytes.{Bytes}
 use Rattle.sheets.specs.Rule.{is}
@@ -16,13 +15,13 @@ use Rattle.sheets.specs.Metadata.{Extension, metadata_from_bytes}
 
 -- 4 null format, 5 not UTF-8
 abbrev pub format_text : Option Bytes → Answer Bytes
-format_text none = refused null_format
-format_text (some b) = when not_utf8 (is (is_utf8 b)) b
+format_text None = refused null_format
+format_text (Some b) = when not_utf8 (is (is_utf8 b)) b
 
 -- "Null names read as empty", 5 not UTF-8
 abbrev pub name_text : Option Bytes → Answer Bytes
-name_text none = given []
-name_text (some b) = when not_utf8 (is (is_utf8 b)) b
+name_text None = given []
+name_text (Some b) = when not_utf8 (is (is_utf8 b)) b
 
 -- ── a type from its format and its children's fields
 
@@ -44,16 +43,16 @@ type_of (of_grouping g) fs = all_of fs >>= λ all. given (grouped g all)
 
 -- `to_dtype` and the dictionary's half of `to_field`: "a dictionary line checks its index format, then its dictionary"
 abbrev pub to_dtype : Bytes → ℤ → List (Answer Field) → Option (Answer Field) → Answer ArrowDataType
-to_dtype f flags children none = read_format (is_sorted flags) f >>= λ g. type_of g children
-to_dtype f flags children (some values) = do
+to_dtype f flags children None = read_format (is_sorted flags) f >>= λ g. type_of g children
+to_dtype f flags children (Some values) = do
   ix ← to_integer_type f
   v ← values
   given (dictionary ix (is_ordered flags) v.type)
 
 -- the type under its extension, if the metadata names one
 abbrev pub extended : Option Extension → ArrowDataType → ArrowDataType
-extended none t = t
-extended (some e) t = extension e.0 e.1 t
+extended None t = t
+extended (Some e) t = extension e.0 e.1 t
 
 -- `to_field`: the format and what is below, "Then come metadata, then the name". The first argument says that the metadata is big-endian (document 02, #104:
 -- "import, export and every later call built on them take it and pass it on")
@@ -75,5 +74,5 @@ abbrev mutual
   to_fields big (s & ss) = to_field big s ∷ to_fields big ss
 
   pub to_values : Bool → Dictionary → Option (Answer Field)
-  to_values big absent = none
-  to_values big (present s) = some (to_field big s)
+  to_values big absent = None
+  to_values big (present s) = Some (to_field big s)

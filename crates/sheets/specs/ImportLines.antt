@@ -1,8 +1,7 @@
 -- Import line by line: what a node's lines say, and which nodes it visits. A node's lines are that of its extension, if its metadata names one, that of
 -- its type, then those of what its type visits; it is refused first for its format, then for its type, then for what it visits, and "Then come metadata,
 -- then the name". `written` is what `Import` makes of a schema; `proofs/ImportLaws` shows that it goes line by line. Assumes nothing.
-use Rattle.std.specs.Prelude.{Bool, true, false, List, [], ◌++◌, ℕ, zero, suc, ℤ}
-use Rattle.std.proofs.Math.Option.{Option, none, some}
+use Rattle.std.specs.Prelude.{Bool, true, false, List, [], ◌++◌, ℕ, zero, suc, ℤ, Option, None, Some}
 use Rattle.sheets.specs.Refusal.{no_child}
 use Rattle.sheets.specs.Bytes.{Bytes}
 use Rattle.sheets.specs.Answer.{Answer, refused, given, ◌>>=◌}
@@ -50,8 +49,8 @@ own_of big n = do
 
 -- "bare lines: `name`, `nullable` and `pairs` all `~`"
 abbrev pub shown : Bool → Info → Option Info
-shown true i = none
-shown false i = some i
+shown true i = None
+shown false i = Some i
 
 -- ── the lines of a node and of what it visits; `big` is the order of the metadata (document 02, #104)
 

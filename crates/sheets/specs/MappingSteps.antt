@@ -1,6 +1,5 @@
 -- The mappings that answer sheets, line by line (`Walk`), as code does it that writes a line's own output before it goes on to the lines below. Assumes nothing.
-use Rattle.std.specs.Prelude.{Bool, true, false, List, [], ◌∷◌, ℕ, zero, suc}
-use Rattle.std.proofs.Math.Option.{Option, none, some}
+use Rattle.std.specs.Prelude.{Bool, true, false, List, [], ◌∷◌, ℕ, zero, suc, Option, None, Some}
 use Rattle.sheets.specs.Refusal.{undefined_mapping}
 use Rattle.sheets.specs.Bytes.{Bytes}
 use Rattle.sheets.specs.Answer.{Answer, refused, given, ◌>>=◌}
@@ -17,8 +16,8 @@ abbrev pub Borne : Type 0
 Borne = Option (Option Info)
 
 abbrev pub info_borne : Borne → Option Info → Option Info
-info_borne none i = i
-info_borne (some j) i = j
+info_borne None i = i
+info_borne (Some j) i = j
 
 -- the line with these columns of the field
 abbrev pub own_written : Shape → Option Info → ℕ → Answer (List Bytes)
@@ -31,7 +30,7 @@ to_storage_step_of (of_scalar s) n i = writes (own_written (of_scalar s) i n) co
 to_storage_step_of (of_nesting g) n i = writes (own_written (of_nesting g) i n) copy
 to_storage_step_of (of_grouping g) n i = writes (own_written (of_grouping g) i n) copy
 to_storage_step_of (of_dictionary ix ordered) n i = writes (own_written (of_dictionary ix ordered) i n) copy
-to_storage_step_of (of_extension a m) n i = writes (given []) (visit (some i))
+to_storage_step_of (of_extension a m) n i = writes (given []) (visit (Some i))
 
 abbrev pub to_storage_step : Borne → Head → Answer (Step Borne)
 to_storage_step b x = given (to_storage_step_of x.shape x.children (info_borne b x.info))
@@ -50,15 +49,15 @@ abbrev pub underlying_change : Change
 underlying_change = record { of_scalars = scalar_under; values = false }
 
 abbrev pub dictionary_step : Bool → ℕ → Bool → Option Info → Step Borne
-dictionary_step true ix ordered i = writes (own_written (of_dictionary ix ordered) i 1) (visit none)
+dictionary_step true ix ordered i = writes (own_written (of_dictionary ix ordered) i 1) (visit None)
 dictionary_step false ix ordered i = writes (given (type_lines (index_type ix) i)) skip
 
 abbrev pub change_step_of : Change → Shape → ℕ → Option Info → Answer (Step Borne)
 change_step_of c (of_scalar s) n i = c.of_scalars s >>= λ u. given (writes (given (type_lines u i)) skip)
-change_step_of c (of_nesting g) n i = unless (is_map g) (given (writes (own_written (of_nesting g) i 1) (visit none)))
-change_step_of c (of_grouping g) n i = unless (is_union g) (given (writes (own_written (of_grouping g) i n) (visit none)))
+change_step_of c (of_nesting g) n i = unless (is_map g) (given (writes (own_written (of_nesting g) i 1) (visit None)))
+change_step_of c (of_grouping g) n i = unless (is_union g) (given (writes (own_written (of_grouping g) i n) (visit None)))
 change_step_of c (of_dictionary ix ordered) n i = given (dictionary_step c.values ix ordered i)
-change_step_of c (of_extension a m) n i = given (writes (given []) (visit (some i)))
+change_step_of c (of_extension a m) n i = given (writes (given []) (visit (Some i)))
 
 abbrev pub change_step : Change → Borne → Head → Answer (Step Borne)
 change_step c b x = change_step_of c x.shape x.children (info_borne b x.info)
@@ -74,7 +73,7 @@ inner_dtype_step_of (of_extension a m) = refused undefined_mapping
 
 abbrev pub inner_dtype_step : Bool → Head → Answer (Step Bool)
 inner_dtype_step true x = inner_dtype_step_of x.shape
-inner_dtype_step false x = given (writes (own_written x.shape none x.children) copy)
+inner_dtype_step false x = given (writes (own_written x.shape None x.children) copy)
 
 -- ── `get_child`: extensions write nothing; of the first other line's subtrees so many are skipped, and of the next one the first line is made bare
 

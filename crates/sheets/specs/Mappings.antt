@@ -1,6 +1,5 @@
 -- Document 01, 'Mappings': what the source's methods of `ArrowDataType` answer; where they have no answer, 15. Assumes nothing.
-use Rattle.std.specs.Prelude.{Bool, true, false, ◌||◌, cond, List, [], ◌∷◌, ℕ, zero, suc, ◌+◌, ◌-◌, eqb, leb, ltb}
-use Rattle.std.proofs.Math.Option.{Option, none, some}
+use Rattle.std.specs.Prelude.{Bool, true, false, ◌||◌, cond, List, [], ◌∷◌, ℕ, zero, suc, ◌+◌, ◌-◌, eqb, leb, ltb, Option, None, Some}
 use Rattle.sheets.specs.Refusal.{undefined_mapping}
 use Rattle.sheets.specs.Answer.{Answer, refused, given, ◌>>=◌, found}
 use Rattle.sheets.specs.Field.{bits128, bits32, bits64, bits256, Scalar, leaf, timestamp, fixed_size_binary, decimal_type, Nesting, list, large_list, fixed_size_list, map, Grouping, struct, union, ArrowDataType, scalar, nested, grouped, dictionary, extension, Fields, nil, add, Field}
@@ -67,8 +66,8 @@ leaf_rows =
     ∷ []
 
 abbrev pub row_at : ℕ → List LeafRow → Option LeafRow
-row_at k [] = none
-row_at k (r ∷ rs) = cond (eqb k r.kind) (some r) (row_at k rs)
+row_at k [] = None
+row_at k (r ∷ rs) = cond (eqb k r.kind) (Some r) (row_at k rs)
 
 -- ── `to_physical_type`
 

@@ -1,8 +1,7 @@
 -- Document 01, 'Metadata block': "a signed 32-bit count, then length, key, length, value. Our lengths are little-endian"; and document 02, #104: "The reader
 -- and the writer of a block's count and lengths take the order as a yes (big-endian) or no from the caller". That argument is `big`; the orders differ in
 -- `in_order` and nowhere else. Assumes nothing.
-use Rattle.std.specs.Prelude.{Bool, true, false, ◌||◌, cond, List, [], ◌∷◌, ◌++◌, reverse, ℕ, zero, suc, ◌+◌, ◌*◌, ◌/◌, ◌%◌, ◌^◌, ltb, length}
-use Rattle.std.proofs.Math.Option.{Option, none, some}
+use Rattle.std.specs.Prelude.{Bool, true, false, ◌||◌, cond, List, [], ◌∷◌, ◌++◌, reverse, ℕ, zero, suc, ◌+◌, ◌*◌, ◌/◌, ◌%◌, ◌^◌, ltb, length, Option, None, Some}
 use Rattle.sheets.specs.Refusal.{not_utf8, bad_metadata}
 use Rattle.sheets.specs.Bytes.{Bytes, ascii, same}
 use Rattle.sheets.specs.Rule.{is}
@@ -108,23 +107,23 @@ ordinary [] = []
 ordinary (p ∷ ps) = cond (reserved p.0) (ordinary ps) (insert_new p (ordinary ps))
 
 abbrev pub or_else : Option Bytes → Option Bytes → Option Bytes
-or_else none y = y
-or_else (some x) y = some x
+or_else None y = y
+or_else (Some x) y = Some x
 
 -- the last value of the key
 abbrev pub value_of : Bytes → List Pair → Option Bytes
-value_of k [] = none
-value_of k (p ∷ ps) = or_else (value_of k ps) (cond (same p.0 k) (some p.1) none)
+value_of k [] = None
+value_of k (p ∷ ps) = or_else (value_of k ps) (cond (same p.0 k) (Some p.1) None)
 
 -- "the first makes an extension, the second is its metadata or, without the first, is dropped"
 abbrev pub extension_of : Option Bytes → Option Bytes → Option Extension
-extension_of none m = none
-extension_of (some n) m = some (n, m)
+extension_of None m = None
+extension_of (Some n) m = Some (n, m)
 
 -- no pair is None: `with_metadata` leaves an empty map out
 abbrev pub some_pairs : List Pair → Option (List Pair)
-some_pairs [] = none
-some_pairs (p ∷ ps) = some (p ∷ ps)
+some_pairs [] = None
+some_pairs (p ∷ ps) = Some (p ∷ ps)
 
 -- the pairs of the field, and its extension
 abbrev pub meaning : List Pair → Option (List Pair) × Option Extension
@@ -132,22 +131,22 @@ meaning ps = (some_pairs (ordinary ps), extension_of (value_of name_key ps) (val
 
 -- `metadata_from_bytes`; a null pointer has no pairs
 abbrev pub metadata_from_bytes : Bool → Option Bytes → Answer (Option (List Pair) × Option Extension)
-metadata_from_bytes big none = given (none, none)
-metadata_from_bytes big (some b) = read_block big b >>= λ ps. given (meaning ps)
+metadata_from_bytes big None = given (None, None)
+metadata_from_bytes big (Some b) = read_block big b >>= λ ps. given (meaning ps)
 
 abbrev pub or_none : Option (List Pair) → List Pair
-or_none none = []
-or_none (some ps) = ps
+or_none None = []
+or_none (Some ps) = ps
 
 abbrev pub with_metadata : Option Bytes → List Pair → List Pair
-with_metadata none ps = ps
-with_metadata (some m) ps = insert_over (metadata_key, m) ps
+with_metadata None ps = ps
+with_metadata (Some m) ps = insert_over (metadata_key, m) ps
 
 abbrev pub block_of : Bool → List Pair → Option Bytes
-block_of big [] = none
-block_of big (p ∷ ps) = some (metadata_to_bytes big (p ∷ ps))
+block_of big [] = None
+block_of big (p ∷ ps) = Some (metadata_to_bytes big (p ∷ ps))
 
 -- the metadata of `ArrowSchema::new`: "Export adds the reserved keys, overwriting equal ones", `~` in `more` adds no metadata key
 abbrev pub schema_metadata : Bool → Option (List Pair) → Option Extension → Option Bytes
-schema_metadata big ps none = block_of big (or_none ps)
-schema_metadata big ps (some e) = some (metadata_to_bytes big (insert_over (name_key, e.0) (with_metadata e.1 (or_none ps))))
+schema_metadata big ps None = block_of big (or_none ps)
+schema_metadata big ps (Some e) = Some (metadata_to_bytes big (insert_over (name_key, e.0) (with_metadata e.1 (or_none ps))))

@@ -1,7 +1,6 @@
 -- Document 02, #101, 'A page for the service binder': a field's lines, one below the other, for a person to look at. "Each line below the heading, in sheet
 -- order, becomes exactly 72 bytes and a byte 10"; the heading becomes none. Assumes nothing.
-use Rattle.std.specs.Prelude.{cond, List, [], ◌∷◌, ◌++◌, map, ℕ, suc, ◌-◌, ltb, length, take, replicate}
-use Rattle.std.proofs.Math.Option.{Option, none, some}
+use Rattle.std.specs.Prelude.{cond, List, [], ◌∷◌, ◌++◌, map, ℕ, suc, ◌-◌, ltb, length, take, replicate, Option, None, Some}
 use Rattle.sheets.specs.Bytes.{Bytes, space, plus_sign}
 use Rattle.sheets.specs.Number.{decimal}
 use Rattle.sheets.specs.Text.{hex}
@@ -23,13 +22,13 @@ left_in n t = t ++ replicate (n - length t) space
 
 -- "`y`, `n` or `.` for nullable, not, or bare"
 abbrev pub nullable_mark : Option Info → ℕ
-nullable_mark none = 46
-nullable_mark (some i) = cond i.nullable 121 110
+nullable_mark None = 46
+nullable_mark (Some i) = cond i.nullable 121 110
 
 -- "the name's hexadecimal". "An empty name and a bare line show 48 spaces": no digits
 abbrev pub name_digits : Option Info → Bytes
-name_digits none = []
-name_digits (some i) = hex i.name
+name_digits None = []
+name_digits (Some i) = hex i.name
 
 abbrev pub level_width : ℕ
 level_width = 3
@@ -78,18 +77,18 @@ inner_level n t = cond (is_extension (type_shape t)) (suc n) n
 abbrev mutual
   pub type_placed : ArrowDataType → Option Info → ℕ → List Placed
   type_placed (scalar s) i n = on n (head_with (of_scalar s) i 0) ∷ []
-  type_placed (nested g j t) i n = on n (head_with (of_nesting g) i 1) ∷ type_placed t (some j) (suc n)
+  type_placed (nested g j t) i n = on n (head_with (of_nesting g) i 1) ∷ type_placed t (Some j) (suc n)
   type_placed (grouped g fs) i n = on n (head_with (of_grouping g) i (count_fields fs)) ∷ fields_placed fs (suc n)
-  type_placed (dictionary ix ordered t) i n = on n (head_with (of_dictionary ix ordered) i 1) ∷ type_placed t none (suc n)
-  type_placed (extension a m t) i n = on n (head_with (of_extension a m) i 1) ∷ type_placed t none (inner_level n t)
+  type_placed (dictionary ix ordered t) i n = on n (head_with (of_dictionary ix ordered) i 1) ∷ type_placed t None (suc n)
+  type_placed (extension a m t) i n = on n (head_with (of_extension a m) i 1) ∷ type_placed t None (inner_level n t)
 
   pub fields_placed : Fields → ℕ → List Placed
   fields_placed nil n = []
-  fields_placed (add i t fs) n = type_placed t (some i) n ++ fields_placed fs n
+  fields_placed (add i t fs) n = type_placed t (Some i) n ++ fields_placed fs n
 
 -- "the first line being level 1"
 abbrev pub placed_lines : Field → List Placed
-placed_lines f = type_placed f.type (some f.info) 1
+placed_lines f = type_placed f.type (Some f.info) 1
 
 -- ── the page
 

@@ -1,22 +1,21 @@
 -- Document 01, 'Plain form': worked out from the field's own lines and from nothing exported. It is defined there for a field without reserved
 -- keys; with one it is left free, and here the same rules are applied and the pairs kept (docs/DECISIONS.md, point 16). Assumes nothing.
-use Rattle.std.specs.Prelude.{Bool, true, false, List, [], ◌∷◌, ℕ, zero, suc, ◌+◌}
-use Rattle.std.proofs.Math.Option.{Option, none, some}
+use Rattle.std.specs.Prelude.{Bool, true, false, List, [], ◌∷◌, ℕ, zero, suc, ◌+◌, Option, None, Some}
 use Rattle.sheets.specs.Bytes.{Bytes}
 use Rattle.sheets.specs.Field.{Pair, Info, Scalar, leaf, timestamp, fixed_size_binary, decimal_type, Grouping, struct, union, ArrowDataType, Fields, scalar, nested, grouped, dictionary, extension, nil, add, Field, count_fields, up_from}
 use Rattle.sheets.specs.Kind
 
 -- "Timezone Some-empty becomes None"
 abbrev pub plain_zone : Option Bytes → Option Bytes
-plain_zone none = none
-plain_zone (some []) = none
-plain_zone (some (b ∷ bs)) = some (b ∷ bs)
+plain_zone None = None
+plain_zone (Some []) = None
+plain_zone (Some (b ∷ bs)) = Some (b ∷ bs)
 
 -- "pairs Some-empty become None"
 abbrev pub plain_pairs : Option (List Pair) → Option (List Pair)
-plain_pairs none = none
-plain_pairs (some []) = none
-plain_pairs (some (p ∷ ps)) = some (p ∷ ps)
+plain_pairs None = None
+plain_pairs (Some []) = None
+plain_pairs (Some (p ∷ ps)) = Some (p ∷ ps)
 
 abbrev pub plain_info : Info → Info
 plain_info i = record { name = i.name; nullable = i.nullable; pairs = plain_pairs i.pairs }
@@ -30,8 +29,8 @@ plain_scalar (decimal_type w p s) = decimal_type w p s
 -- "Union ids None become 0, 1, .. one per field"
 abbrev pub plain_grouping : Grouping → ℕ → Grouping
 plain_grouping struct count = struct
-plain_grouping (union mode none) count = union mode (some (up_from 0 count))
-plain_grouping (union mode (some ids)) count = union mode (some ids)
+plain_grouping (union mode None) count = union mode (Some (up_from 0 count))
+plain_grouping (union mode (Some ids)) count = union mode (Some ids)
 
 -- the type of an index: the integer types stand in `ArrowDataType` in the order of `IntegerType`, from Int8 on
 abbrev pub index_type : ℕ → ArrowDataType

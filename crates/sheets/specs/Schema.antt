@@ -1,6 +1,5 @@
 -- Document 01, 'Schema sheet': the tree of the Arrow C data interface's `struct ArrowSchema`, its lines, and reading them. Assumes nothing.
-use Rattle.std.specs.Prelude.{true, List, [], ◌∷◌, ◌++◌, ℕ, zero, suc, ◌^◌, max, leb, ltb, ℤ}
-use Rattle.std.proofs.Math.Option.{Option, none, some}
+use Rattle.std.specs.Prelude.{true, List, [], ◌∷◌, ◌++◌, ℕ, zero, suc, ◌^◌, max, leb, ltb, ℤ, Option, None, Some}
 use Rattle.std.specs.Int.Signed.{mag}
 use Rattle.sheets.specs.Refusal.{bad_lines, too_deep}
 use Rattle.sheets.specs.Bytes.{Bytes, ascii, lacks}
@@ -100,8 +99,8 @@ schema_trees (b ∷ bs) = schema_trees bs >>= λ ts. schema_line.read b >>= λ l
 
 -- "Byte 00 may not stand in a format or name"
 abbrev pub lacks_zero : Option Bytes → Rule
-lacks_zero none = is true
-lacks_zero (some bs) = lacks 0 bs
+lacks_zero None = is true
+lacks_zero (Some bs) = lacks 0 bs
 
 -- "`flags` is signed 64-bit": `mag` is n of n and of -(n + 1)
 abbrev pub node_rule : Node → Rule

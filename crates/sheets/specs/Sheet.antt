@@ -1,7 +1,6 @@
 -- Document 01: what the two sheets share. "A sheet is the heading, compared byte for byte, then one line per node, the heading and every line
 -- ended by byte 10." Assumes nothing.
-use Rattle.std.specs.Prelude.{Bool, true, false, List, [], ◌∷◌, ◌++◌, ℕ, leb, length}
-use Rattle.std.proofs.Math.Option.{Option, none, some}
+use Rattle.std.specs.Prelude.{Bool, true, false, List, [], ◌∷◌, ◌++◌, ℕ, leb, length, Option, None, Some}
 use Rattle.sheets.specs.Refusal.{not_sheet, bad_lines}
 use Rattle.sheets.specs.Bytes.{Bytes, line_end, split, after}
 use Rattle.sheets.specs.Rule.{is}
@@ -32,8 +31,8 @@ abbrev pub write_sheet : Bytes → List Bytes → Bytes
 write_sheet heading ls = heading ++ (line_end ∷ ended ls)
 
 abbrev pub is_some : {A : Type 0} → Option A → Bool
-is_some none = false
-is_some (some a) = true
+is_some None = false
+is_some (Some a) = true
 
 -- "the heading, compared byte for byte", and its byte 10
 abbrev pub heading_line : Bytes → Bytes

@@ -1,7 +1,6 @@
 -- Import with nullable as the source reads it, by division: ours was so before document 02, #102. All else is Import's; the metadata is little-endian, as the
 -- source's is on the machines of the differential runs. No call gives it; laws say where it is import still. Assumes nothing.
-use Rattle.std.specs.Prelude.{Bool, true, false, List, [], ◌∷◌, ℤ, pos, negsuc}
-use Rattle.std.proofs.Math.Option.{Option, none, some}
+use Rattle.std.specs.Prelude.{Bool, true, false, List, [], ◌∷◌, ℤ, pos, negsuc, Option, None, Some}
 use Rattle.sheets.specs.Rule.{Rule, is}
 use Rattle.sheets.specs.Answer.{Answer, given, ◌>>=◌}
 use Rattle.sheets.specs.Flags.{odd, nullable_by_division}
@@ -21,8 +20,8 @@ abbrev mutual
   source_fields (s & ss) = source_field s ∷ source_fields ss
 
   pub source_values : Dictionary → Option (Answer Field)
-  source_values absent = none
-  source_values (present s) = some (source_field s)
+  source_values absent = None
+  source_values (present s) = Some (source_field s)
 
 -- the flags that both readings read alike: -(n + 1) is even where n is odd
 abbrev pub even_if_negative : ℤ → Rule

@@ -4,8 +4,7 @@
 --
 -- The document itself was not at hand: the strings, names and numbers are those that its readers and writers share, but no wording in quotation
 -- marks could be held against it, and where more than a wording may be otherwise it says "not certain". Assumes nothing.
-use Rattle.std.specs.Prelude.{◌≡◌, ◌⊎◌, Bool, true, false, ◌||◌, List, [], ◌∷◌, ◌++◌, map as map_list, ℕ, ◌-◌, ◌/◌, ◌%◌, ◌^◌, ℤ, pos, negsuc, length}
-use Rattle.std.proofs.Math.Option.{some}
+use Rattle.std.specs.Prelude.{◌≡◌, ◌⊎◌, Bool, true, false, ◌||◌, List, [], ◌∷◌, ◌++◌, map as map_list, ℕ, ◌-◌, ◌/◌, ◌%◌, ◌^◌, ℤ, pos, negsuc, length, Some}
 use Prim.Native.String.{String}
 use Rattle.sheets.specs.Refusal.{unsupported_format, bad_number}
 use Rattle.sheets.specs.Rule.{◌and◌, each}
@@ -143,7 +142,7 @@ union_prefix false = ascii "+ud:"
 -- a departure: 7 for a union without ids (not certain that the standard has one), and for an id that 32 bits do not hold
 abbrev taken_union : UnionMode → List ℤ → Answer Format
 taken_union mode [] = refused bad_number
-taken_union mode (z ∷ zs) = when bad_number (each id_rule (z ∷ zs)) (of_grouping (union mode (some (z ∷ zs))))
+taken_union mode (z ∷ zs) = when bad_number (each id_rule (z ∷ zs)) (of_grouping (union mode (Some (z ∷ zs))))
 
 abbrev pub union_format : UnionMode → List ℤ → Published
 union_format mode ids = record { format = union_prefix mode ++ join comma (map_list write_signed ids); says = "dense, sparse union with type ids I,J..."; taken = taken_union mode ids }

@@ -1,7 +1,6 @@
 -- Document 02, #106: what a strict export asks of a field before it exports it: "Add a strict export beside the present one that tests for both [a reserved
 -- key, a 128-bit dictionary index] over the whole field, lines in order, after the sheet's form and before any other test." Assumes nothing.
-use Rattle.std.specs.Prelude.{Bool, ◌||◌, not, true, List, [], ◌∷◌, ◌++◌, ℕ, eqb}
-use Rattle.std.proofs.Math.Option.{Option, none, some}
+use Rattle.std.specs.Prelude.{Bool, ◌||◌, not, true, List, [], ◌∷◌, ◌++◌, ℕ, eqb, Option, None, Some}
 use Rattle.sheets.specs.Refusal.{reserved_key, wide_index}
 use Rattle.sheets.specs.Rule.{Rule, is, each}
 use Rattle.sheets.specs.Answer.{Answer, given, ◌>>=◌, when}
@@ -31,8 +30,8 @@ narrow_index ix = is (narrow ix)
 
 -- a bare line has no pairs
 abbrev pub keys_rule : Option Info → Rule
-keys_rule none = is true
-keys_rule (some i) = own_keys i
+keys_rule None = is true
+keys_rule (Some i) = own_keys i
 
 -- only a dictionary has an index: Int128 and UInt128 as types are no cause
 abbrev pub index_rule : Shape → Rule
@@ -52,14 +51,14 @@ line_returns h = when {A = Unit {0}} reserved_key (keys_rule h.info) tt >>= λ _
 abbrev mutual
   pub type_heads : ArrowDataType → Option Info → List Head
   type_heads (scalar s) i = entry_head (i, scalar s) ∷ []
-  type_heads (nested n j t) i = entry_head (i, nested n j t) ∷ type_heads t (some j)
+  type_heads (nested n j t) i = entry_head (i, nested n j t) ∷ type_heads t (Some j)
   type_heads (grouped g fs) i = entry_head (i, grouped g fs) ∷ fields_heads fs
-  type_heads (dictionary ix ordered t) i = entry_head (i, dictionary ix ordered t) ∷ type_heads t none
-  type_heads (extension n m t) i = entry_head (i, extension n m t) ∷ type_heads t none
+  type_heads (dictionary ix ordered t) i = entry_head (i, dictionary ix ordered t) ∷ type_heads t None
+  type_heads (extension n m t) i = entry_head (i, extension n m t) ∷ type_heads t None
 
   pub fields_heads : Fields → List Head
   fields_heads nil = []
-  fields_heads (add i t fs) = type_heads t (some i) ++ fields_heads fs
+  fields_heads (add i t fs) = type_heads t (Some i) ++ fields_heads fs
 
 -- "over the whole field, lines in order": the first line that has either decides
 abbrev pub lines_return : List Head → Answer (Unit {0})
@@ -67,4 +66,4 @@ lines_return [] = given tt
 lines_return (h ∷ hs) = line_returns h >>= λ _. lines_return hs
 
 abbrev pub field_returns : Field → Answer (Unit {0})
-field_returns f = lines_return (type_heads f.type (some f.info))
+field_returns f = lines_return (type_heads f.type (Some f.info))

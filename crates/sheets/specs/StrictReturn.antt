@@ -2,8 +2,7 @@
 -- with only the sheet lengths and the buffers left to the caller." The second is demand 3 without its two conditions on the field's lines, which the call tests
 -- itself. `proofs/StrictReturn.antt` proves it for each order of the metadata (`strict_return : (big : Bool) → StrictReturn big`), and what it makes of
 -- `round_trip` with the strict export (`strict_trip : (big : Bool) → StrictTrip big`). Assumes nothing.
-use Rattle.std.specs.Prelude.{◌≡◌, ◌↔◌, Bool, true, false, List, [], ◌∷◌, ◌++◌, map, ℕ}
-use Rattle.std.proofs.Math.Option.{some}
+use Rattle.std.specs.Prelude.{◌≡◌, ◌↔◌, Bool, true, false, List, [], ◌∷◌, ◌++◌, map, ℕ, Some}
 use Rattle.sheets.specs.Refusal.{Refusal, not_sheet, bad_lines, too_deep, no_format, no_union_ids, zero_byte, reserved_key, wide_index, number_of, no_room, one_of}
 use Rattle.sheets.specs.Bytes.{Bytes}
 use Rattle.sheets.specs.Rule.{Rule, ◌and◌, each, passes, Meets}
@@ -28,7 +27,7 @@ neither h = keys_rule h.info and index_rule h.shape
 pub record FirstLine (f : Field) (h : Head) : Type 0 where
   pub before : List Head
   pub after : List Head
-  pub lines : type_heads f.type (some f.info) ≡ before ++ (h ∷ after)
+  pub lines : type_heads f.type (Some f.info) ≡ before ++ (h ∷ after)
   pub neither_before : Meets (each neither before)
 
 -- ── a field that was exported strictly, under one order: no condition on its lines
@@ -49,7 +48,7 @@ strict_export_of {big} e = written (strict_export_outcome big e.sheet e.buffer)
 
 pub record StrictReturn (big : Bool) : Type 0 where
   -- "over the whole field, lines in order": the lines that are tested, written out, are those of the sheet
-  pub all_lines : (b : Bytes) (f : Field) → read_field_sheet b ≡ given f → b ≡ write_sheet field_heading (map head_text (type_heads f.type (some f.info)))
+  pub all_lines : (b : Bytes) (f : Field) → read_field_sheet b ≡ given f → b ≡ write_sheet field_heading (map head_text (type_heads f.type (Some f.info)))
   -- "Where it finds neither, it answers as the present export"
   pub as_export : (b : Bytes) (f : Field) → read_field_sheet b ≡ given f → NoReservedKey f → NoWideIndex f → (out : Bytes) → strict_export_outcome big b out ≡ export_outcome_in big b out
   -- "after the sheet's form"

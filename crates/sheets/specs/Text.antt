@@ -1,7 +1,6 @@
 -- Document 01, 'Schema sheet': "Texts are lowercase hexadecimal pairs; `-` is empty, `~` is a null pointer". It holds for both sheets, where `~`
 -- is none. Assumes nothing.
-use Rattle.std.specs.Prelude.{◌&&◌, cond, [], ◌∷◌, ℕ, zero, suc, ◌+◌, ◌*◌, ◌-◌, ◌/◌, ◌%◌, leb, ltb}
-use Rattle.std.proofs.Math.Option.{Option, none, some}
+use Rattle.std.specs.Prelude.{◌&&◌, cond, [], ◌∷◌, ℕ, zero, suc, ◌+◌, ◌*◌, ◌-◌, ◌/◌, ◌%◌, leb, ltb, Option, None, Some}
 use Rattle.sheets.specs.Refusal.{bad_lines}
 use Rattle.sheets.specs.Bytes.{Bytes, ascii, same}
 use Rattle.sheets.specs.Answer.{Answer, refused, given, ◌>>=◌}
@@ -29,14 +28,14 @@ unhex (x ∷ y ∷ r) = digit_value x >>= λ a. digit_value y >>= λ b. unhex r 
 
 -- a text's column
 abbrev pub write_text : Option Bytes → Bytes
-write_text none = ascii "~"
-write_text (some []) = ascii "-"
-write_text (some (b ∷ bs)) = hex (b ∷ bs)
+write_text None = ascii "~"
+write_text (Some []) = ascii "-"
+write_text (Some (b ∷ bs)) = hex (b ∷ bs)
 
 -- a column's text
 abbrev pub read_text : Bytes → Answer (Option Bytes)
 read_text [] = refused bad_lines
 read_text (c ∷ cs) =
-    cond (same (c ∷ cs) (ascii "~")) (given none)
-    (cond (same (c ∷ cs) (ascii "-")) (given (some []))
-    (unhex (c ∷ cs) >>= λ bs. given (some bs)))
+    cond (same (c ∷ cs) (ascii "~")) (given None)
+    (cond (same (c ∷ cs) (ascii "-")) (given (Some []))
+    (unhex (c ∷ cs) >>= λ bs. given (Some bs)))

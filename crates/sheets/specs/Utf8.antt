@@ -1,6 +1,5 @@
 -- Well-formed UTF-8 (document 01, 'Metadata block': UTF-8 testing "follows the Unicode standard"): the standard's Table 3-7. Assumes nothing.
-use Rattle.std.specs.Prelude.{◌≡◌, Bool, true, false, ◌&&◌, ◌||◌, List, [], ◌∷◌, ◌++◌, ℕ, leb}
-use Rattle.std.proofs.Math.Option.{Option, none, some}
+use Rattle.std.specs.Prelude.{◌≡◌, Bool, true, false, ◌&&◌, ◌||◌, List, [], ◌∷◌, ◌++◌, ℕ, leb, Option, None, Some}
 use Rattle.sheets.specs.Rule.{is, each, Meets}
 use Rattle.sheets.specs.Bytes.{Bytes}
 
@@ -54,14 +53,14 @@ WellFormed b = (ss : List Bytes) × Meets (each (λ s. is (is_sequence table s))
 
 -- the ranges that follow in the row that the byte begins; no byte begins two rows
 abbrev pub following : ℕ → List (List Range) → Option (List Range)
-following b [] = none
+following b [] = None
 following b ([] ∷ rows) = following b rows
-following b ((r ∷ rs) ∷ rows) = elim (in_range r b) [ true ↦ some rs | false ↦ following b rows ]
+following b ((r ∷ rs) ∷ rows) = elim (in_range r b) [ true ↦ Some rs | false ↦ following b rows ]
 
 -- first a byte from each of these ranges, then sequences of the rows up to the end
 abbrev pub sequences_of : List (List Range) → List Range → Bytes → Bool
 sequences_of rows [] [] = true
-sequences_of rows [] (b ∷ bs) = elim (following b rows) [ none ↦ false | some rs ↦ sequences_of rows rs bs ]
+sequences_of rows [] (b ∷ bs) = elim (following b rows) [ None ↦ false | Some rs ↦ sequences_of rows rs bs ]
 sequences_of rows (r ∷ rs) [] = false
 sequences_of rows (r ∷ rs) (b ∷ bs) = in_range r b && sequences_of rows rs bs
 

@@ -2,8 +2,7 @@
 -- trees have in common that differ on other lines alone. In which sense these are the lines visited is shown in proofs/VisitedLaws: what is answered is told
 -- by these lines alone, and where a sheet is accepted each of them was read. A sheet that is refused has no counts, so it does not matter what is said of a
 -- format that cannot be read. Assumes nothing.
-use Rattle.std.specs.Prelude.{◌≡◌, Bool, true, false, List, [], ◌∷◌, ◌++◌, ℕ, ◌+◌, length}
-use Rattle.std.proofs.Math.Option.{Option, none, some}
+use Rattle.std.specs.Prelude.{◌≡◌, Bool, true, false, List, [], ◌∷◌, ◌++◌, ℕ, ◌+◌, length, Option, None, Some}
 use Rattle.sheets.specs.Answer.{Answer, refused, given, ◌>>=◌}
 use Rattle.sheets.specs.Flags.{is_sorted}
 use Rattle.sheets.specs.Schema.{Node, Schema, schema, Schemas, end, ◌&◌, Dictionary, absent, present, Line, line_of, count_schemas, count_dictionary}
@@ -35,8 +34,8 @@ lines_asked (given (of_grouping g)) children = every_line children
 
 -- "a schema with ignored children counts less than its sheet has": a dictionary's values are read in their place
 abbrev pub lines_below : Node → List (List Line) → Option (List Line) → List Line
-lines_below n children none = lines_asked (format_of n) children
-lines_below n children (some values) = values
+lines_below n children None = lines_asked (format_of n) children
+lines_below n children (Some values) = values
 
 -- the node's own line, then those below it; an extension that its metadata makes is no line of the schema sheet
 abbrev mutual
@@ -48,8 +47,8 @@ abbrev mutual
   children_visits (s & ss) = import_visits s ∷ children_visits ss
 
   pub values_visits : Dictionary → Option (List Line)
-  values_visits absent = none
-  values_visits (present s) = some (import_visits s)
+  values_visits absent = None
+  values_visits (present s) = Some (import_visits s)
 
 unfoldable pub import_lines : Schema → ℕ
 import_lines s = length (import_visits s)
@@ -70,18 +69,18 @@ row_lines (s & ss) = import_lines s + row_lines ss
 abbrev mutual
   pub export_visits : ArrowDataType → Option Info → Bool → List Head
   export_visits (scalar s) i inside = entry_head (i, scalar s) ∷ []
-  export_visits (nested n j t) i inside = entry_head (i, nested n j t) ∷ export_visits t (some j) false
+  export_visits (nested n j t) i inside = entry_head (i, nested n j t) ∷ export_visits t (Some j) false
   export_visits (grouped g fs) i inside = entry_head (i, grouped g fs) ∷ visits_of_fields fs
-  export_visits (dictionary ix ordered t) i false = entry_head (i, dictionary ix ordered t) ∷ export_visits t none false
+  export_visits (dictionary ix ordered t) i false = entry_head (i, dictionary ix ordered t) ∷ export_visits t None false
   export_visits (dictionary ix ordered t) i true = entry_head (i, dictionary ix ordered t) ∷ []
-  export_visits (extension n m t) i inside = entry_head (i, extension n m t) ∷ export_visits t none true
+  export_visits (extension n m t) i inside = entry_head (i, extension n m t) ∷ export_visits t None true
 
   pub visits_of_fields : Fields → List Head
   visits_of_fields nil = []
-  visits_of_fields (add i t fs) = export_visits t (some i) false ++ visits_of_fields fs
+  visits_of_fields (add i t fs) = export_visits t (Some i) false ++ visits_of_fields fs
 
 unfoldable pub export_lines : Field → ℕ
-export_lines f = length (export_visits f.type (some f.info) false)
+export_lines f = length (export_visits f.type (Some f.info) false)
 
 -- ── trees that differ on other lines alone
 

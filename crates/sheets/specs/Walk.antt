@@ -2,8 +2,7 @@
 -- the subtrees below it. A refusal may come at once, before what is below, or be pending until after it. A `Step` says it for one line of one call
 -- (ExportSteps, PlainSteps, MappingSteps, PageSteps); `type_walk` is the walk of a type, and `walk_opened` (proofs/WalkLaws) the walk of its first line and
 -- of the row below it. Assumes nothing.
-use Rattle.std.specs.Prelude.{Bool, cond, List, [], ◌∷◌, ◌++◌, ℕ, suc, ◌+◌, ◌-◌, ◌*◌}
-use Rattle.std.proofs.Math.Option.{Option, none, some}
+use Rattle.std.specs.Prelude.{Bool, cond, List, [], ◌∷◌, ◌++◌, ℕ, suc, ◌+◌, ◌-◌, ◌*◌, Option, None, Some}
 use Rattle.sheets.specs.Bytes.{Bytes}
 use Rattle.sheets.specs.Answer.{Answer, refused, given, ◌>>=◌}
 use Rattle.sheets.specs.Sheet.{write_sheet}
@@ -94,14 +93,14 @@ module _ {S : Type 0} (step : S → Head → Answer (Step S)) where
   abbrev mutual
     pub type_walk : ArrowDataType → Option Info → S → Answer (List Bytes)
     type_walk (scalar s) i σ = line_written (step σ (head_with (of_scalar s) i 0)) (λ τ. given []) []
-    type_walk (nested n j t) i σ = line_written (step σ (head_with (of_nesting n) i 1)) (λ τ. type_walk t (some j) τ) (type_lines t (some j))
+    type_walk (nested n j t) i σ = line_written (step σ (head_with (of_nesting n) i 1)) (λ τ. type_walk t (Some j) τ) (type_lines t (Some j))
     type_walk (grouped g fs) i σ = line_written (step σ (head_with (of_grouping g) i (count_fields fs))) (λ τ. fields_walk fs τ) (fields_lines fs)
-    type_walk (dictionary ix ordered t) i σ = line_written (step σ (head_with (of_dictionary ix ordered) i 1)) (λ τ. type_walk t none τ) (type_lines t none)
-    type_walk (extension n m t) i σ = line_written (step σ (head_with (of_extension n m) i 1)) (λ τ. type_walk t none τ) (type_lines t none)
+    type_walk (dictionary ix ordered t) i σ = line_written (step σ (head_with (of_dictionary ix ordered) i 1)) (λ τ. type_walk t None τ) (type_lines t None)
+    type_walk (extension n m t) i σ = line_written (step σ (head_with (of_extension n m) i 1)) (λ τ. type_walk t None τ) (type_lines t None)
 
     pub fields_walk : Fields → S → Answer (List Bytes)
     fields_walk nil σ = given []
-    fields_walk (add i t fs) σ = type_walk t (some i) σ >>= λ a. fields_walk fs σ >>= λ b. given (a ++ b)
+    fields_walk (add i t fs) σ = type_walk t (Some i) σ >>= λ a. fields_walk fs σ >>= λ b. given (a ++ b)
 
   -- of types one after the other, all in one state
   abbrev pub row_walk : List Entry → S → Answer (List Bytes)
@@ -113,14 +112,14 @@ module _ {S : Type 0} (step : S → Head → Answer (Step S)) where
   abbrev mutual
     pub type_visits : ArrowDataType → Option Info → S → ℕ
     type_visits (scalar s) i σ = line_visits (step σ (head_with (of_scalar s) i 0)) (λ τ. 0)
-    type_visits (nested n j t) i σ = line_visits (step σ (head_with (of_nesting n) i 1)) (λ τ. type_visits t (some j) τ)
+    type_visits (nested n j t) i σ = line_visits (step σ (head_with (of_nesting n) i 1)) (λ τ. type_visits t (Some j) τ)
     type_visits (grouped g fs) i σ = line_visits (step σ (head_with (of_grouping g) i (count_fields fs))) (λ τ. fields_visits fs τ)
-    type_visits (dictionary ix ordered t) i σ = line_visits (step σ (head_with (of_dictionary ix ordered) i 1)) (λ τ. type_visits t none τ)
-    type_visits (extension n m t) i σ = line_visits (step σ (head_with (of_extension n m) i 1)) (λ τ. type_visits t none τ)
+    type_visits (dictionary ix ordered t) i σ = line_visits (step σ (head_with (of_dictionary ix ordered) i 1)) (λ τ. type_visits t None τ)
+    type_visits (extension n m t) i σ = line_visits (step σ (head_with (of_extension n m) i 1)) (λ τ. type_visits t None τ)
 
     pub fields_visits : Fields → S → ℕ
     fields_visits nil σ = 0
-    fields_visits (add i t fs) σ = type_visits t (some i) σ + fields_visits fs σ
+    fields_visits (add i t fs) σ = type_visits t (Some i) σ + fields_visits fs σ
 
   abbrev pub row_visits : List Entry → S → ℕ
   row_visits [] σ = 0
@@ -135,4 +134,4 @@ module _ {S : Type 0} (step : S → Head → Answer (Step S)) where
 
   -- of a field sheet: 1, 2 and 3, then the heading of the answer and the lines
   abbrev pub sheet_walk : S → Bytes → Bytes → Answer Bytes
-  sheet_walk σ heading b = read_field_sheet b >>= λ f. type_walk f.type (some f.info) σ >>= λ ls. given (write_sheet heading ls)
+  sheet_walk σ heading b = read_field_sheet b >>= λ f. type_walk f.type (Some f.info) σ >>= λ ls. given (write_sheet heading ls)

@@ -3,12 +3,12 @@
 use mathlib.Core.Path.{◌≡◌, refl, sym, ap, subst, ◌∙◌}
 use mathlib.Core.Bool.{Bool, true, false}
 use mathlib.Core.List.{List, [], ◌++◌}
-use mathlib.Core.Option.{Option}
+use Rattle.std.specs.Prelude.{Option, Some, None}
 use Prim.Native.Nat.{ℕ, ◌+◌, ◌-◌, ◌*◌, ◌≤◌, ◌<◌}
 use native.Mathlib.Omega.{arith}
 use lib.ListN.{length, drop}
 use Rattle.sheets.specs.Bytes.{Bytes}
-use Rattle.sheets.specs.Answer.{Answer, given}
+use Rattle.sheets.specs.Answer.{Answer, given, found}
 use Rattle.sheets.specs.Field.{Info, ArrowDataType, scalar, nested, grouped, dictionary, extension}
 use Rattle.sheets.specs.FieldSheet.{Entry}
 use Rattle.sheets.specs.LineTrees.{Standing}
@@ -16,9 +16,7 @@ use Rattle.sheets.specs.FieldTrees.{Head, is_extension, type_shape, type_below, 
 use Rattle.sheets.specs.Mappings.{to_storage}
 use Rattle.sheets.specs.Walk.{Below, visit, skip, Step, Walked, extensions_around, line_walked, row_walked}
 use Rattle.read_field_line.specs.declared.FieldLine.{FieldLine}
-use Rattle.field_sheet.specs.Subtrees.{skip_answer, SkipsRow}
-use Rattle.field_sheet.specs.declared.subtrees.Skipped.{Skipped}
-use Rattle.field_sheet.specs.declared.subtrees.Skipped.TheVariants.{To, Deep}
+use Rattle.field_sheet.specs.Subtrees.{SkipsRow}
 use Rattle.outcome.specs.declared.Size.{Size}
 use Rattle.walks.specs.Places.{own_limit, TypeAt, RowAt, Owns, Begins}
 use Rattle.walks.specs.declared.Subtree.{Subtree}
@@ -27,22 +25,23 @@ use Rattle.walks.proofs.BeginLaws.{row_inside, row_inside_smaller, some_level, b
 use Rattle.line_below.proofs.LineLaws.{line_opened, line_count}
 use Rattle.storage_line.specs.StorageLines.{StorageAt}
 use Rattle.storage_line.specs.Below.{row_from, EndsBelow, RowLeft, HasBelow}
+use Rattle.sheets.specs.Refusal.{too_deep}
 use Rattle.storage_line.specs.declared.StorageLine.{StorageLine}
 
 -- ── the types below are skipped
 
-module _ (s : Bytes) (l : FieldLine) (levels : ℕ) (r : Skipped) (k : SkipsRow s l.end l.children false levels (skip_answer r)) where
-  told_as : (q : Skipped) → r ≡ q → SkipsRow s l.end l.children false levels (skip_answer q)
-  told_as q e = subst (λ (y : Skipped). SkipsRow s l.end l.children false levels (skip_answer y)) e k
+module _ (s : Bytes) (l : FieldLine) (levels : ℕ) (r : Option ℕ) (k : SkipsRow s l.end l.children false levels (found too_deep r)) where
+  told_as : (q : Option ℕ) → r ≡ q → SkipsRow s l.end l.children false levels (found too_deep q)
+  told_as q e = subst (λ (y : Option ℕ). SkipsRow s l.end l.children false levels (found too_deep y)) e k
 
-  pub skipped_to : (next : ℕ) → r ≡ To next → EndsBelow s l levels next
+  pub skipped_to : (next : ℕ) → r ≡ Some next → EndsBelow s l levels next
   skipped_to next e us es w =
-      let h = told_as (To next) e us es w.stands w.counted in
+      let h = told_as (Some next) e us es w.stands w.counted in
       (h.1, h.2, h.3)
 
   -- none has more levels
-  pub skipped_deep : r ≡ Deep → (next : ℕ) → EndsBelow s l levels next
-  skipped_deep e next us es w = absurd (omega (arith, (told_as Deep e).1 us es w.stands w.counted, w.deep))
+  pub skipped_deep : r ≡ None → (next : ℕ) → EndsBelow s l levels next
+  skipped_deep e next us es w = absurd (omega (arith, (told_as None e).1 us es w.stands w.counted, w.deep))
 
 -- ── the type in all extensions is none
 

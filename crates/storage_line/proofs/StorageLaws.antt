@@ -3,7 +3,7 @@
 use mathlib.Core.Path.{◌≡◌, refl, sym, subst, ◌∙◌}
 use mathlib.Core.Bool.{Bool, true, false}
 use mathlib.Core.List.{List, ◌∷◌, ◌++◌}
-use mathlib.Core.Option.{Option, none}
+use Rattle.std.specs.Prelude.{Option, None}
 use Prim.Native.Nat.{ℕ, suc, ◌+◌, ◌-◌, ◌≤◌, ◌<◌}
 use native.Mathlib.Omega.{arith}
 use lib.ListN.{drop}
@@ -32,7 +32,7 @@ use Rattle.storage_line.specs.declared.StorageLine.{StorageLine}
 -- a type inside the extension t
 record Inner (s : Bytes) (tree : Subtree) (end : ℕ) (t : ArrowDataType) (es : List Entry) : Type 0 where
   type : ArrowDataType
-  there : TypeAt s end (tree.levels - line_cost tree.inside true) true none type es
+  there : TypeAt s end (tree.levels - line_cost tree.inside true) true None type es
   same : to_storage type ≡ to_storage t
   more : extensions_around t ≡ suc (extensions_around type)
 
@@ -90,14 +90,14 @@ module _ {s : Bytes} (tree : Subtree) {first : FieldLine} (k : FieldLineAt s tre
         go (extension a m v) d h w = record { type = v; there = record { stands = w; deep = one_less tree.inside v a m d; short = f.short }; same = refl; more = refl }
 
     pub inner_tree : HasType s tree.at tree.levels tree.inside → HasTree fields s first.end
-    inner_tree h = let v = inner h.3 in ((none, v.type), h.2, v.there.stands)
+    inner_tree h = let v = inner h.3 in ((None, v.type), h.2, v.there.stands)
 
     module _ (cost : ℕ) (costs : cost ≡ line_cost tree.inside true) where
       module _ (h : HasType s tree.at tree.levels tree.inside) where
         pub inner_type : HasType s first.end (tree.levels - cost) true
         inner_type =
             let v = inner h.3 in
-            (none, v.type, h.2, subst (λ (n : ℕ). TypeAt s first.end (tree.levels - n) true none v.type h.2) (sym costs) v.there)
+            (None, v.type, h.2, subst (λ (n : ℕ). TypeAt s first.end (tree.levels - n) true None v.type h.2) (sym costs) v.there)
 
         pub cost_fits : cost ≤ tree.levels
         cost_fits = omega (arith, costs, cost_low tree.inside true, some_level h.3)
@@ -121,7 +121,7 @@ module _ {s : Bytes} (tree : Subtree) {first : FieldLine} (k : FieldLineAt s tre
           → StorageTold s tree (record { at = r.at; line = r.line; passed = r.passed + 1 })
       storage_inside r told i t es f =
           let v = inner f in
-          let w = told none v.type es (subst (λ (n : ℕ). TypeAt s first.end (tree.levels - n) true none v.type es) (sym costs) v.there) in
+          let w = told None v.type es (subst (λ (n : ℕ). TypeAt s first.end (tree.levels - n) true None v.type es) (sym costs) v.there) in
           record {
             info = w.info;
             type =

@@ -1,6 +1,5 @@
 -- What stands inside all extensions around a type, `to_storage`, at its place of a field sheet. Assumes nothing.
-use Rattle.std.specs.Prelude.{false, List, ◌≡◌, ◌+◌, ◌≤◌}
-use Rattle.std.proofs.Math.Option.{Option}
+use Rattle.std.specs.Prelude.{false, List, ◌≡◌, ◌+◌, ◌≤◌, Option}
 use Rattle.sheets.specs.Bytes.{Bytes}
 use Rattle.sheets.specs.Field.{Info, ArrowDataType}
 use Rattle.sheets.specs.FieldSheet.{Entry}

@@ -3,7 +3,6 @@ ghost use Rattle.std.specs.Prelude.{false};
 ghost use Rattle.walks.specs.Places.{HasRow};
 ghost use Rattle.storage_line.specs.Below.{HasBelow, EndsBelow, RowLeft};
 
-use field_sheet::subtrees::Skipped;
 use read_field_line::FieldLine;
 use walks::{Subtree, Subtrees};
 
@@ -12,8 +11,7 @@ pub fn after_below(s: &[u8], l: FieldLine, levels: usize) -> usize
     requires { HasRow s.now l.end l.children levels false }
     ensures { EndsBelow s.now l levels result }
 {
-    let Skipped::To(next) = field_sheet::subtrees::skip_row(s, l.end, l.children, false, levels)
-    else {
+    let Some(next) = field_sheet::subtrees::skip_row(s, l.end, l.children, false, levels) else {
         // the whole sheet was read before, and no type has more levels: this never comes
         return s.len();
     };

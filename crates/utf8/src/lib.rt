@@ -72,8 +72,8 @@ fn is_ascii(s: &[u8]) -> bool
     ensures { result ≡ all_ascii s.now }
 {
     let mut ok = true;
-    for i in 0..s.len() {
-        ok = ok & (s[i] <= 127);
+    for &b in s {
+        ok = ok & (b <= 127);
     }
     ok
 }
@@ -84,8 +84,8 @@ fn decide(s: &[u8]) -> bool
     let class = class_table();
     let next = next_table();
     let mut q: u64 = 0;
-    for i in 0..s.len() {
-        q = step(&class, &next, q, s[i]);
+    for &b in s {
+        q = step(&class, &next, q, b);
     }
     q == 0
 }
@@ -106,6 +106,7 @@ fn is_ascii_hex(s: &[u8]) -> bool
     ensures { result ≡ all_ascii (bytes_of s.now) }
 {
     let mut ok = true;
+    // by index: only the first digit of each pair is read
     for k in 0..s.len() / 2 {
         ok = ok & (s[2 * k] <= 55);
     }
@@ -119,6 +120,7 @@ fn decide_hex(s: &[u8]) -> bool
     let class = class_table();
     let next = next_table();
     let mut q: u64 = 0;
+    // by index: `byte_at` takes a pair's place
     for k in 0..s.len() / 2 {
         q = step(&class, &next, q, hexadecimal::byte_at(s, k));
     }

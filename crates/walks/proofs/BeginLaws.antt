@@ -3,7 +3,7 @@
 use mathlib.Core.Path.{◌≡◌, refl, sym, ap, ◌∙◌}
 use mathlib.Core.Bool.{Bool, true, false}
 use mathlib.Core.List.{List, [], ◌++◌, append-nil}
-use mathlib.Core.Option.{Option, none}
+use Rattle.std.specs.Prelude.{Option, None}
 use Prim.Native.Nat.{ℕ, suc, ◌+◌, ◌-◌, ◌*◌, ◌≤◌, ◌<◌}
 use native.Mathlib.Omega.{arith}
 use lib.ListN.{length, drop}
@@ -43,7 +43,7 @@ module _ {s : Bytes} {at levels : ℕ} {inside : Bool} {i : Option Info} {t : Ar
     row_inside d high e =
         let low : tallest (entry_levels (is_extension (type_shape (to_storage t)))) (type_below (to_storage t)) ≤ levels_below (type_shape (to_storage t)) false levels =
         levels_below_lem (to_storage t) false levels (omega (arith, f.deep, storage_levels t inside)) in
-        record { stands = d; counted = fields_lawful.many (none, to_storage t); deep = rw e at low; within = high; short = f.short }
+        record { stands = d; counted = fields_lawful.many (None, to_storage t); deep = rw e at low; within = high; short = f.short }
 
   pub row_inside_smaller : row_measure (levels - 1) false < line_measure levels inside
   row_inside_smaller = go inside

@@ -1,8 +1,7 @@
 -- What functions that walk a field sheet ask and tell, for any step of sheets/specs/Walk: the types that stand at a place of the sheet, and what is
 -- written for them, laid over the lent buffer. The forms are those of import (import_field/specs/Recursion). The answer of each function is a
 -- refusal or values; the crate of a call says which by a definition on the cases of its enums. Assumes nothing.
-use Rattle.std.specs.Prelude.{◌≡◌, Bool, List, ◌∷◌, ◌++◌, ℕ, ◌+◌, ◌*◌, ◌≤◌, ◌<◌, length, drop}
-use Rattle.std.proofs.Math.Option.{Option, none, some}
+use Rattle.std.specs.Prelude.{◌≡◌, Bool, List, ◌∷◌, ◌++◌, ℕ, ◌+◌, ◌*◌, ◌≤◌, ◌<◌, length, drop, Option, None, Some}
 use Rattle.sheets.specs.Bytes.{Bytes}
 use Rattle.sheets.specs.Answer.{Answer, refused, given, ◌>>=◌}
 use Rattle.sheets.specs.Sheet.{ended}
@@ -74,8 +73,8 @@ one_line len = record { len = len; lines = 1 }
 
 -- of a type whose one line is written at once, or not
 abbrev pub LeafWrote : {S : Type 0} → (S → Head → Answer (Step S)) → Bytes → ℕ → ℕ → Bool → S → Bytes → Bytes → Option (ℕ × ℕ) → Type 0
-LeafWrote step s at levels inside σ out out' (some (next, len)) = TypeWrote step s at levels inside σ out out' (given (next, one_line len))
-LeafWrote step s at levels inside σ out out' none = out' ≡ out
+LeafWrote step s at levels inside σ out out' (Some (next, len)) = TypeWrote step s at levels inside σ out out' (given (next, one_line len))
+LeafWrote step s at levels inside σ out out' None = out' ≡ out
 
 -- ── what is left after a line
 

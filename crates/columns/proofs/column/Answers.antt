@@ -1,6 +1,6 @@
 -- `columns::column` meets its contract: a law for each return. Assumes nothing.
 use mathlib.Core.Path.{sym, ap, ◌∙◌}
-use mathlib.Core.Option.{some}
+use Rattle.std.specs.Prelude.{Some}
 use Prim.Native.Nat.{ℕ}
 use native.Mathlib.Omega.{arith}
 use lib.ListN.{get_or}
@@ -14,4 +14,4 @@ pub returns-then-s-e-2 : goal.returns-then-s-e-2
 returns-then-s-e-2 c = sym (end_other c.args.stop c.args.s.now c.args.at (omega (arith, c.requires)) (λ k. c.if-s-e-2.true (ap (λ (i : ℕ). get_or c.args.s.now i 0) c.requires ∙ k)))
 
 pub returns : goal.returns
-returns c = ap some c.requires ∙ sym (end_there c.args.stop c.args.s.now c.args.at (omega (arith, c.requires)) (ap (λ (i : ℕ). get_or c.args.s.now i 0) (sym c.requires) ∙ c.if-s-e-2.false))
+returns c = ap Some c.requires ∙ sym (end_there c.args.stop c.args.s.now c.args.at (omega (arith, c.requires)) (ap (λ (i : ℕ). get_or c.args.s.now i 0) (sym c.requires) ∙ c.if-s-e-2.false))

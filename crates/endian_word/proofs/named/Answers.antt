@@ -1,18 +1,18 @@
 -- `named` meets its contract: the definition asks what the code asks, in that order. Assumes nothing.
+use Rattle.std.specs.Prelude.{Some, None}
 use mathlib.Core.Path.{◌≡◌, refl, sym, ◌∙◌}
 use mathlib.Core.Bool.{true, false}
 use Rattle.sheets.specs.Bytes.{Bytes, ascii, same}
 use Rattle.endian_word.specs.Words.{order_named}
-use Rattle.endian_word.specs.declared.Asked.TheVariants as A
 use Rattle.endian_word.proofs.named.Goals as goal
 
-is_little : (w : Bytes) → same w (ascii "little") ≡ true → A.Order false ≡ order_named w
+is_little : (w : Bytes) → same w (ascii "little") ≡ true → Some false ≡ order_named w
 is_little w h = rw h refl
 
-is_big : (w : Bytes) → same w (ascii "little") ≡ false → same w (ascii "big") ≡ true → A.Order true ≡ order_named w
+is_big : (w : Bytes) → same w (ascii "little") ≡ false → same w (ascii "big") ≡ true → Some true ≡ order_named w
 is_big w h k = rw h (rw k refl)
 
-is_neither : (w : Bytes) → same w (ascii "little") ≡ false → same w (ascii "big") ≡ false → A.Nothing ≡ order_named w
+is_neither : (w : Bytes) → same w (ascii "little") ≡ false → same w (ascii "big") ≡ false → None ≡ order_named w
 is_neither w h k = rw h (rw k refl)
 
 pub returns-then-same : goal.returns-then-same

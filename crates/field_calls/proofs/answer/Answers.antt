@@ -2,15 +2,15 @@
 use Rattle.field_calls.proofs.AnswerLaws.{answer_refused, answer_done}
 use Rattle.field_calls.proofs.answer.Goals as goal
 
-pub returns-in-Refused : goal.returns-in-Refused
-returns-in-Refused c =
+pub returns-in-Err : goal.returns-in-Err
+returns-in-Err c =
     let a = c.args in
     let p = c.convert in
-    answer_refused a.call a.s.now a.out.now p.new.out p.result p.ensures _ c.in-Refused.is p.auto.out _ c.refuse.ensures
+    answer_refused a.call a.s.now a.out.now p.new.out p.result p.ensures _ c.in-Err.is p.auto.out _ c.refuse.ensures
 
-pub returns-in-Done : goal.returns-in-Done
-returns-in-Done c =
+pub returns-in-Ok : goal.returns-in-Ok
+returns-in-Ok c =
     let a = c.args in
     let p = c.convert in
     let w = c.written in
-    answer_done a.call a.s.now a.out.now p.new.out p.result p.ensures _ _ c.in-Done.is w.result w.new.out w.ensures
+    answer_done a.call a.s.now a.out.now p.new.out p.result p.ensures _ _ c.in-Ok.is w.result w.new.out w.ensures

@@ -6,7 +6,7 @@ use native.Mathlib.Omega.{arith}
 use Rattle.columns.specs.Columns.{part}
 use Rattle.columns.specs.Pairs.{pairs_from}
 use Rattle.columns.proofs.PairsLaws.{pairs_within}
-use Rattle.field_leaf.specs.FieldLeaves.{kind_of, kind_option}
+use Rattle.field_leaf.specs.FieldLeaves.{kind_of}
 use Rattle.field_leaf.proofs.LeafLaws.{kept_high, kept_kind, kept_space, kept_end, kept_flag, kept_there, flag_there, leaf_none, leaf_some, leaf_other, leaf_short}
 use Rattle.field_leaf.proofs.leaf_at.Goals as goal
 
@@ -18,9 +18,9 @@ pub returns-then-s-at : goal.returns-then-s-at
 returns-then-s-at c =
     let a = c.args in leaf_short a.s.now a.at (omega arith)
 
-pub returns-in_default : goal.returns-in_default
-returns-in_default c =
-    let a = c.args in leaf_other a.s.now a.at (sym c.kind_at.ensures ∙ ap kind_option c.in_default.is)
+pub returns-in_err-kind : goal.returns-in_err-kind
+returns-in_err-kind c =
+    let a = c.args in rw c.from_residual.ensures (leaf_other a.s.now a.at (sym c.in_err-kind.ensures))
 
 pub word8_at-requires : goal.word8_at-requires
 word8_at-requires c = omega (arith, c.kind_end-k.ensures.2)
@@ -75,7 +75,7 @@ returns-then-w-eq-NOT_NULLABLE c =
     let high : e + 7 ≤ length s = omega (arith, c.if-s-e-lt-AFTER_NAME.false) in
     let flag = c.word4_at-w.ensures in
     let kept = kept_there s k e 0 _ _ _ high flag c.if-w-eq-NOT_NULLABLE.true (omega arith) (omega (arith, c.kind_end-k.ensures.2)) c.word8_at.ensures c.if-word8_at-ne-AFTER_KIND.false c.if-s-k-ne32.false (omega (arith, c.if-e-from.false, c.pairs_from-e.ensures)) c.word4_at.ensures c.if-word4_at-ne-LINE_END.false in
-    let kind = ap (λ (i : ℕ). kind_of (part s a.at i)) c.kind_end-k.ensures.0 ∙ sym c.kind_at.ensures ∙ ap kind_option c.in-Is.is in
+    let kind = ap (λ (i : ℕ). kind_of (part s a.at i)) c.kind_end-k.ensures.0 ∙ sym c.in_ok-kind.ensures in
     leaf_some s a.at k e c.kind_end-k.ensures.0 c.pairs_from-e.ensures _ 0 kind kept (flag_there s k e 0 0 _ 0 high flag c.if-w-eq-NOT_NULLABLE.true (omega arith))
 
 pub returns-then-w-eq-NULLABLE : goal.returns-then-w-eq-NULLABLE
@@ -87,7 +87,7 @@ returns-then-w-eq-NULLABLE c =
     let high : e + 7 ≤ length s = omega (arith, c.if-s-e-lt-AFTER_NAME.false) in
     let flag = c.word4_at-w.ensures in
     let kept = kept_there s k e 1 _ _ _ high flag c.if-w-eq-NULLABLE.true (omega arith) (omega (arith, c.kind_end-k.ensures.2)) c.word8_at.ensures c.if-word8_at-ne-AFTER_KIND.false c.if-s-k-ne32.false (omega (arith, c.if-e-from.false, c.pairs_from-e.ensures)) c.word4_at.ensures c.if-word4_at-ne-LINE_END.false in
-    let kind = ap (λ (i : ℕ). kind_of (part s a.at i)) c.kind_end-k.ensures.0 ∙ sym c.kind_at.ensures ∙ ap kind_option c.in-Is.is in
+    let kind = ap (λ (i : ℕ). kind_of (part s a.at i)) c.kind_end-k.ensures.0 ∙ sym c.in_ok-kind.ensures in
     leaf_some s a.at k e c.kind_end-k.ensures.0 c.pairs_from-e.ensures _ 1 kind kept (flag_there s k e 1 0 _ 0 high flag c.if-w-eq-NULLABLE.true (omega arith))
 
 pub returns : goal.returns

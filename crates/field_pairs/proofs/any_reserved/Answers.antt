@@ -1,6 +1,5 @@
 -- `any_reserved` meets its contract: a pair from `from` on has a reserved key if one from `place` on has. The measure is what is left of the column. Assumes nothing.
 use mathlib.Core.Path.{refl, sym, ◌∙◌}
-use Prim.Native.Nat.{◌-◌}
 use native.Mathlib.Omega.{arith}
 use Rattle.field_pairs.proofs.ReservedLaws.{reserved_end, reserved_past, reserved_here, reserved_on}
 use Rattle.field_pairs.proofs.any_reserved.Goals as goal

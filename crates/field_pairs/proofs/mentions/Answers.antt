@@ -1,6 +1,5 @@
 -- `mentions` meets its contract: `found` tells of the places before i. The measure is the places that are left. Assumes nothing.
 use mathlib.Core.Bool.{false}
-use Prim.Native.Nat.{◌-◌}
 use native.Mathlib.Omega.{arith}
 use Rattle.field_pairs.proofs.MentionLaws.{mention_none, mention_next, mention_all}
 use Rattle.field_pairs.proofs.mentions.Goals as goal

@@ -1,7 +1,6 @@
 -- `pass_digits` meets its contract. The loop's invariant: only digits stand before `i`. The measure is what is left of the length. Assumes nothing.
 use mathlib.Core.Path.{refl, sym, ◌∙◌}
-use mathlib.Core.Bool.{false}
-use Prim.Native.Nat.{◌+◌, ◌-◌}
+use Prim.Native.Nat.{◌+◌}
 use native.Mathlib.Omega.{arith}
 use Rattle.field_pairs.proofs.PairsLaws.{digits_passed}
 use Rattle.field_pairs.proofs.pass_digits.Goals as goal

@@ -1,25 +1,23 @@
--- `scan` meets its contract: the first such byte is where the one from `i` on is. The measure is what is left of the length. Assumes nothing.
+-- `scan` meets its contract: the first such byte is where the one from `i` on is. Assumes nothing.
 use mathlib.Core.Path.{refl}
-use Prim.Native.Nat.{◌-◌}
 use native.Mathlib.Omega.{arith}
 use Rattle.field_pairs.proofs.PairsLaws.{reach_stop, reach_more, reach_end}
-use borrow.Author.Rules.{rules}
 use Rattle.field_pairs.proofs.scan.Goals as goal
 
 pub loop-i-init : goal.loop-i-init
-loop-i-init c = (search rules, refl)
+loop-i-init c = refl
 
 pub returns-then-s-i : goal.returns-then-s-i
 returns-then-s-i c =
     let l = c.loop-i in
-    omega (arith, l.invariant.1, reach_stop c.args.s.now c.args.b l.i c.loop-i-test.true c.if-s-i.true)
+    omega (arith, l.invariant, reach_stop c.args.s.now c.args.b l.i c.loop-i-test.true c.if-s-i.true)
 
 pub loop-i-preserved : goal.loop-i-preserved
 loop-i-preserved c =
     let l = c.loop-i in
-    (search rules, omega (arith, l.invariant.1, reach_more c.args.s.now c.args.b l.i c.loop-i-test.true c.if-s-i.false))
+    omega (arith, l.invariant, reach_more c.args.s.now c.args.b l.i c.loop-i-test.true c.if-s-i.false)
 
 pub returns : goal.returns
 returns c =
     let l = c.loop-i in
-    omega (arith, l.invariant.1, reach_end c.args.s.now c.args.b l.i c.loop-i-test.false)
+    omega (arith, l.invariant, reach_end c.args.s.now c.args.b l.i c.loop-i-test.false)

@@ -1,12 +1,19 @@
 -- `read_as` meets its contract: each way out has its law in `SheetLaws`. Assumes nothing.
-use mathlib.Core.Path.{sym, subst, ◌∙◌}
+use Rattle.std.specs.Prelude.{ℕ, Result, Err, Option}
+use mathlib.Core.Path.{sym, ap, subst, ◌∙◌}
 use Rattle.sheets.specs.Sheet.{level_limit}
+use Rattle.field_sheet.specs.declared.trees.NoTree.{NoTree}
 use Rattle.field_sheet.specs.Trees.{Forms}
-use Rattle.field_sheet.specs.Subtrees.{skip_answer, SkipsTree}
-use Rattle.field_sheet.specs.declared.subtrees.Skipped.{Skipped}
+use Rattle.field_sheet.specs.Subtrees.{SkipsTree}
 use mathlib.Core.Bool.{false}
 use Rattle.field_sheet.proofs.SheetLaws.{sheet_long, sheet_headless, sheet_broken, sheet_bad, sheet_deep, sheet_tall, sheet_held, sheet_whole, sheet_left, row_tree}
+use Rattle.sheets.specs.Answer.{found}
+use Rattle.sheets.specs.Refusal.{too_deep}
 use Rattle.field_sheet.proofs.read_as.Goals as goal
+
+-- why no tree was read, as the answer of the reading
+abbrev err : NoTree → Result ℕ NoTree
+err q = Err q
 
 pub returns-then-s-gt-SHEET_LIMIT : goal.returns-then-s-gt-SHEET_LIMIT
 returns-then-s-gt-SHEET_LIMIT c =
@@ -23,29 +30,29 @@ pub returns-then-form : goal.returns-then-form
 returns-then-form c =
     let a = c.args in
     let headed = sym c.has_heading.ensures ∙ c.if-not-has_heading.false in
-    sheet_deep a.strict a.s.now c.if-s-gt-SHEET_LIMIT.false headed _ c.read_tree.ensures c.in-Deep.is (subst (Forms a.s.now 48) c.if-form.true c.form.ensures)
+    sheet_deep a.strict a.s.now c.if-s-gt-SHEET_LIMIT.false headed _ c.read_tree.ensures (c.in-Err-Deep.is ∙ ap (λ (q : NoTree). err q) c.in-Err-Deep.field-0-is) (subst (Forms a.s.now 48) c.if-form.true c.form.ensures)
 
 pub returns-then-end-s : goal.returns-then-end-s
 returns-then-end-s c =
     let a = c.args in
     let headed = sym c.has_heading.ensures ∙ c.if-not-has_heading.false in
-    sheet_left a.strict a.s.now c.if-s-gt-SHEET_LIMIT.false headed _ c.read_tree.ensures _ c.in-To.is c.if-end-s.true
+    sheet_left a.strict a.s.now c.if-s-gt-SHEET_LIMIT.false headed _ c.read_tree.ensures _ c.in-Ok.is c.if-end-s.true
 
 pub returns-then-not-form : goal.returns-then-not-form
 returns-then-not-form c =
     let a = c.args in
     let headed = sym c.has_heading.ensures ∙ c.if-not-has_heading.false in
-    sheet_broken a.strict a.s.now c.if-s-gt-SHEET_LIMIT.false headed c.form-in-Held.result (c.if-not-form.true) c.form-in-Held.ensures
+    sheet_broken a.strict a.s.now c.if-s-gt-SHEET_LIMIT.false headed c.form-in-Err-Held.result (c.if-not-form.true) c.form-in-Err-Held.ensures
 
 pub skip-requires : goal.skip-requires
 skip-requires c =
-    let a = c.args in row_tree a.s.now 48 (subst (Forms a.s.now 48) (c.if-not-form.false) c.form-in-Held.ensures)
+    let a = c.args in row_tree a.s.now 48 (subst (Forms a.s.now 48) (c.if-not-form.false) c.form-in-Err-Held.ensures)
 
-pub returns-in-Bad : goal.returns-in-Bad
-returns-in-Bad c =
+pub returns-in-Err-Bad : goal.returns-in-Err-Bad
+returns-in-Err-Bad c =
     let a = c.args in
     let headed = sym c.has_heading.ensures ∙ c.if-not-has_heading.false in
-    sheet_bad a.strict a.s.now c.if-s-gt-SHEET_LIMIT.false headed _ c.read_tree.ensures c.in-Bad.is
+    sheet_bad a.strict a.s.now c.if-s-gt-SHEET_LIMIT.false headed _ c.read_tree.ensures (c.in-Err-Bad.is ∙ ap (λ (q : NoTree). err q) c.in-Err-Bad.field-0-is)
 
 pub returns-else-form : goal.returns-else-form
 returns-else-form c =
@@ -57,20 +64,20 @@ pub returns-else-end-s : goal.returns-else-end-s
 returns-else-end-s c =
     let a = c.args in
     let headed = sym c.has_heading.ensures ∙ c.if-not-has_heading.false in
-    sheet_whole a.strict a.s.now c.if-s-gt-SHEET_LIMIT.false headed _ c.read_tree.ensures _ c.in-To.is c.if-end-s.false
+    sheet_whole a.strict a.s.now c.if-s-gt-SHEET_LIMIT.false headed _ c.read_tree.ensures _ c.in-Ok.is c.if-end-s.false
 
-pub returns-in-Deep-skip : goal.returns-in-Deep-skip
-returns-in-Deep-skip c =
+pub returns-in-None : goal.returns-in-None
+returns-in-None c =
     let a = c.args in
     let headed = sym c.has_heading.ensures ∙ c.if-not-has_heading.false in
-    let formed = subst (Forms a.s.now 48) (c.if-not-form.false) c.form-in-Held.ensures in
-    let deep = subst (λ (x : Skipped). SkipsTree a.s.now 48 false level_limit (skip_answer x)) c.in-Deep-skip.is c.skip.ensures in
+    let formed = subst (Forms a.s.now 48) (c.if-not-form.false) c.form-in-Err-Held.ensures in
+    let deep = subst (λ (x : Option ℕ). SkipsTree a.s.now 48 false level_limit (found too_deep x)) c.in-None.is c.skip.ensures in
     sheet_tall a.strict a.s.now c.if-s-gt-SHEET_LIMIT.false headed formed deep.1
 
-pub returns-in-To-skip : goal.returns-in-To-skip
-returns-in-To-skip c =
+pub returns-in-Some : goal.returns-in-Some
+returns-in-Some c =
     let a = c.args in
     let headed = sym c.has_heading.ensures ∙ c.if-not-has_heading.false in
-    let formed = subst (Forms a.s.now 48) (c.if-not-form.false) c.form-in-Held.ensures in
-    let to = subst (λ (x : Skipped). SkipsTree a.s.now 48 false level_limit (skip_answer x)) c.in-To-skip.is c.skip.ensures in
-    sheet_held a.strict a.s.now c.if-s-gt-SHEET_LIMIT.false headed _ c.read_tree.ensures c.in-Held.r c.in-Held.is formed _ to
+    let formed = subst (Forms a.s.now 48) (c.if-not-form.false) c.form-in-Err-Held.ensures in
+    let to = subst (λ (x : Option ℕ). SkipsTree a.s.now 48 false level_limit (found too_deep x)) c.in-Some.is c.skip.ensures in
+    sheet_held a.strict a.s.now c.if-s-gt-SHEET_LIMIT.false headed _ c.read_tree.ensures c.in-Err-Held.r (c.in-Err-Held.is ∙ ap (λ (q : NoTree). err q) c.in-Err-Held.field-0-is) formed _ to

@@ -10,33 +10,35 @@ use Rattle.sheets.specs.FieldSheet.{Entry}
 use Rattle.sheets.proofs.WalkLaws.{line_falls}
 use Rattle.buffer.proofs.OverLaws.{length_lent}
 use Rattle.walks.specs.Places.{RowAt}
-use Rattle.walks.specs.Answers.{begun_answer, put_option, step_answer}
+use Rattle.walks.specs.Answers.{begun_answer}
 use Rattle.walks.proofs.RowLaws.{Going, going_none, going_type, going_more, going_refused, going_all}
 use Rattle.walks.proofs.EndLaws.{row_there, row_refused, both_long, both_few, type_ended}
 use Rattle.field_walk.specs.Calls.{step_of, state_of, CallWrote}
 use Rattle.field_walk.proofs.CycleLaws.{begun_below, begun_refused, leaf_put, leaf_other}
 use Prim.Native.Nat.{ℕ, ◌+◌, ◌-◌}
+use Rattle.refusal.proofs.ErrLaws.{passed}
+use Rattle.refusal.specs.Refusals.{answer_of}
 use Rattle.field_walk.proofs.+next_type_walk_row_walk_type.Goals as goal
 
 pub next_type-walk_type-requires : goal.next_type-walk_type-requires
 next_type-walk_type-requires t c = (omega (arith, c.decreases), c.requires)
 
-pub next_type-shape_of-out-in-Put : goal.next_type-shape_of-out-in-Put
-next_type-shape_of-out-in-Put t c = c.put_leaf.auto.out
+pub next_type-shape_of-out-in-Some : goal.next_type-shape_of-out-in-Some
+next_type-shape_of-out-in-Some t c = c.put_leaf.auto.out
 
-pub next_type-returns-in-Put : goal.next_type-returns-in-Put
-next_type-returns-in-Put t c =
-    let a = c.args in let r = c.put_leaf in leaf_put (step_of a.call) _ _ _ _ _ _ _ (put_option r.result) _ _ (ap put_option c.in-Put.is) r.ensures
+pub next_type-returns-in-Some : goal.next_type-returns-in-Some
+next_type-returns-in-Some t c =
+    let a = c.args in let r = c.put_leaf in leaf_put (step_of a.call) _ _ _ _ _ _ _ r.result _ _ (c.in-Some.is) r.ensures
 
-pub next_type-shape_of-out-in-Other : goal.next_type-shape_of-out-in-Other
-next_type-shape_of-out-in-Other t c = c.walk_type.auto.out ∙ c.put_leaf.auto.out
+pub next_type-shape_of-out-in-None : goal.next_type-shape_of-out-in-None
+next_type-shape_of-out-in-None t c = c.walk_type.auto.out ∙ c.put_leaf.auto.out
 
-pub next_type-returns-in-Other : goal.next_type-returns-in-Other
-next_type-returns-in-Other t c =
+pub next_type-returns-in-None : goal.next_type-returns-in-None
+next_type-returns-in-None t c =
     let a = c.args in
     let r = c.put_leaf in
     let w = c.walk_type in
-    subst (λ (x : Bytes). CallWrote a.call a.s.now a.tree x w.new.out w.result) (leaf_other (step_of a.call) _ _ _ _ _ _ _ (put_option r.result) (ap put_option c.in-Other.is) r.ensures) w.ensures
+    subst (λ (x : Bytes). CallWrote a.call a.s.now a.tree x w.new.out w.result) (leaf_other (step_of a.call) _ _ _ _ _ _ _ r.result (c.in-None.is) r.ensures) w.ensures
 
 pub walk_row-loop-i-init : goal.walk_row-loop-i-init
 walk_row-loop-i-init t c = (search rules, refl, λ us es h. going_none (step_of c.args.call) _ _ _ _ _ _ _ us es h)
@@ -56,37 +58,27 @@ walk_row-next_type-requires t c =
     let w = c.args.row in
     (omega (arith, c.decreases, line_falls w.inside w.levels), going_type (step_of c.args.call) _ _ _ _ _ _ _ c.requires.0 c.requires.1 _ _ _ _ _ (l.invariant.2 c.requires.0 c.requires.1 c.requires.2) c.loop-i-test.true)
 
-pub walk_row-shape_of-out-in-Refused : goal.walk_row-shape_of-out-in-Refused
-walk_row-shape_of-out-in-Refused t c =
-    let called = c.next_type in
-    length_lent c.within-w.result c.loop-i.out called.new.out called.auto.out ∙ c.loop-i.invariant.1
-
-pub walk_row-returns-in-Refused : goal.walk_row-returns-in-Refused
-walk_row-returns-in-Refused t c =
+pub walk_row-returns-in_err-next : goal.walk_row-returns-in_err-next
+walk_row-returns-in_err-next t c =
     let a = c.args in
     let r = c.next_type in
-    λ us es h. going_refused (step_of a.call) _ _ _ _ _ _ _ us es _ _ _ _ _ (c.loop-i.invariant.2 us es h) c.loop-i-test.true _ r.new.out (step_answer r.result) _ (ap step_answer c.in-Refused.is) r.ensures
+    rw (passed c.from_residual.result _ c.from_residual.ensures.1)
+    (λ us es h. going_refused (step_of a.call) _ _ _ _ _ _ _ us es _ _ _ _ _ (c.loop-i.invariant.2 us es h) c.loop-i-test.true _ r.new.out (answer_of r.result) _ (ap answer_of c.in_err-next.was) r.ensures)
 
 pub walk_row-overflow_add-sum : goal.walk_row-overflow_add-sum
 walk_row-overflow_add-sum t c =
-    let g = going_more (step_of c.args.call) _ _ _ _ _ _ _ c.requires.0 c.requires.1 _ _ _ _ _ (c.loop-i.invariant.2 c.requires.0 c.requires.1 c.requires.2) c.loop-i-test.true c.within-w.result c.within-w.ensures c.next_type.new.out (step_answer c.next_type.result) _ _ (ap step_answer c.in-Done.is) c.next_type.ensures in
+    let g = going_more (step_of c.args.call) _ _ _ _ _ _ _ c.requires.0 c.requires.1 _ _ _ _ _ (c.loop-i.invariant.2 c.requires.0 c.requires.1 c.requires.2) c.loop-i-test.true c.within-w.result c.within-w.ensures c.next_type.new.out (answer_of c.next_type.result) _ _ (ap answer_of c.in_ok-next.was) c.next_type.ensures in
     omega (arith, g.long, g.left.within, g.left.short)
 
 pub walk_row-overflow_add-seen : goal.walk_row-overflow_add-seen
 walk_row-overflow_add-seen t c =
-    let g = going_more (step_of c.args.call) _ _ _ _ _ _ _ c.requires.0 c.requires.1 _ _ _ _ _ (c.loop-i.invariant.2 c.requires.0 c.requires.1 c.requires.2) c.loop-i-test.true c.within-w.result c.within-w.ensures c.next_type.new.out (step_answer c.next_type.result) _ _ (ap step_answer c.in-Done.is) c.next_type.ensures in
+    let g = going_more (step_of c.args.call) _ _ _ _ _ _ _ c.requires.0 c.requires.1 _ _ _ _ _ (c.loop-i.invariant.2 c.requires.0 c.requires.1 c.requires.2) c.loop-i-test.true c.within-w.result c.within-w.ensures c.next_type.new.out (answer_of c.next_type.result) _ _ (ap answer_of c.in_ok-next.was) c.next_type.ensures in
     omega (arith, g.few, g.left.within, g.left.short)
-
-pub walk_row-overflow_add-i : goal.walk_row-overflow_add-i
-walk_row-overflow_add-i t c = omega arith
-
-pub walk_row-loop-i-smaller : goal.walk_row-loop-i-smaller
-walk_row-loop-i-smaller t c = omega arith
 
 pub walk_row-loop-i-preserved : goal.walk_row-loop-i-preserved
 walk_row-loop-i-preserved t c =
     let called = c.next_type in
-    (omega arith, length_lent c.within-w.result c.loop-i.out called.new.out called.auto.out ∙ c.loop-i.invariant.1, λ us es h. going_more (step_of c.args.call) _ _ _ _ _ _ _ us es _ _ _ _ _ (c.loop-i.invariant.2 us es h) c.loop-i-test.true c.within-w.result c.within-w.ensures c.next_type.new.out (step_answer c.next_type.result) _ _ (ap step_answer c.in-Done.is) c.next_type.ensures)
+    (omega arith, length_lent c.within-w.result c.loop-i.out called.new.out called.auto.out ∙ c.loop-i.invariant.1, λ us es h. going_more (step_of c.args.call) _ _ _ _ _ _ _ us es _ _ _ _ _ (c.loop-i.invariant.2 us es h) c.loop-i-test.true c.within-w.result c.within-w.ensures c.next_type.new.out (answer_of c.next_type.result) _ _ (ap answer_of c.in_ok-next.was) c.next_type.ensures)
 
 pub walk_row-shape_of-out : goal.walk_row-shape_of-out
 walk_row-shape_of-out t c = c.loop-i.invariant.1
@@ -106,53 +98,45 @@ walk_type-slice_bounds-walk_row-end t c = omega arith
 
 pub walk_type-walk_row-requires : goal.walk_type-walk_row-requires
 walk_type-walk_row-requires t c =
-    let g = (let a = c.args in let r = c.begin_line in begun_below (step_of a.call) _ _ _ _ _ _ _ (begun_answer (state_of a.call) r.result) _ (ap (begun_answer (state_of a.call)) c.in-Below.is) r.ensures) c.requires.0 c.requires.1 c.requires.2 c.requires.3 in
+    let g = (let a = c.args in let r = c.begin_line in begun_below (step_of a.call) _ _ _ _ _ _ _ (begun_answer (state_of a.call) r.result) _ (ap (begun_answer (state_of a.call)) c.in_ok-row.was) r.ensures) c.requires.0 c.requires.1 c.requires.2 c.requires.3 in
     (omega (arith, c.decreases, g.falls), row_there g)
 
 pub walk_type-overflow_add-both : goal.walk_type-overflow_add-both
 walk_type-overflow_add-both t c =
-    let g = (let a = c.args in let r = c.begin_line in begun_below (step_of a.call) _ _ _ _ _ _ _ (begun_answer (state_of a.call) r.result) _ (ap (begun_answer (state_of a.call)) c.in-Below.is) r.ensures) c.requires.0 c.requires.1 c.requires.2 c.requires.3 in
+    let g = (let a = c.args in let r = c.begin_line in begun_below (step_of a.call) _ _ _ _ _ _ _ (begun_answer (state_of a.call) r.result) _ (ap (begun_answer (state_of a.call)) c.in_ok-row.was) r.ensures) c.requires.0 c.requires.1 c.requires.2 c.requires.3 in
     let r = c.walk_row in
-    omega (arith, both_long g _ r.new.out (step_answer r.result) _ _ (ap step_answer c.in-Done.is) r.ensures)
+    omega (arith, both_long g _ r.new.out (answer_of r.result) _ _ (ap answer_of c.in_ok-next.was) r.ensures)
 
-pub walk_type-overflow_add-both-in-Done : goal.walk_type-overflow_add-both-in-Done
-walk_type-overflow_add-both-in-Done t c =
-    let g = (let a = c.args in let r = c.begin_line in begun_below (step_of a.call) _ _ _ _ _ _ _ (begun_answer (state_of a.call) r.result) _ (ap (begun_answer (state_of a.call)) c.in-Below.is) r.ensures) c.requires.0 c.requires.1 c.requires.2 c.requires.3 in
+pub walk_type-overflow_add-both-2 : goal.walk_type-overflow_add-both-2
+walk_type-overflow_add-both-2 t c =
+    let g = (let a = c.args in let r = c.begin_line in begun_below (step_of a.call) _ _ _ _ _ _ _ (begun_answer (state_of a.call) r.result) _ (ap (begun_answer (state_of a.call)) c.in_ok-row.was) r.ensures) c.requires.0 c.requires.1 c.requires.2 c.requires.3 in
     let r = c.walk_row in
-    omega (arith, both_few g _ r.new.out (step_answer r.result) _ _ (ap step_answer c.in-Done.is) r.ensures)
+    omega (arith, both_few g _ r.new.out (answer_of r.result) _ _ (ap answer_of c.in_ok-next.was) r.ensures)
 
-pub walk_type-shape_of-out-in-Refused : goal.walk_type-shape_of-out-in-Refused
-walk_type-shape_of-out-in-Refused t c = c.begin_line.auto.out
-
-pub walk_type-returns-in-Refused : goal.walk_type-returns-in-Refused
-walk_type-returns-in-Refused t c =
+pub walk_type-returns-in_err-row : goal.walk_type-returns-in_err-row
+walk_type-returns-in_err-row t c =
     let a = c.args in
     let r = c.begin_line in
-    begun_refused (step_of a.call) _ _ _ _ _ _ _ (begun_answer (state_of a.call) r.result) _ (ap (begun_answer (state_of a.call)) c.in-Refused.is) r.ensures []
+    rw (passed c.from_residual.result _ c.from_residual.ensures.1)
+    (begun_refused (step_of a.call) _ _ _ _ _ _ _ (begun_answer (state_of a.call) r.result) _ (ap (begun_answer (state_of a.call)) c.in_err-row.was) r.ensures [])
 
-pub walk_type-shape_of-out-in-Refused-walk_row : goal.walk_type-shape_of-out-in-Refused-walk_row
-walk_type-shape_of-out-in-Refused-walk_row t c =
-    let called = c.walk_row in
-    let first = c.begin_line in
-    length_lent c.within-w.result first.new.out called.new.out called.auto.out ∙ first.auto.out
-
-pub walk_type-returns-in-Refused-walk_row : goal.walk_type-returns-in-Refused-walk_row
-walk_type-returns-in-Refused-walk_row t c =
+pub walk_type-returns-in_err-next : goal.walk_type-returns-in_err-next
+walk_type-returns-in_err-next t c =
     let r = c.walk_row in
-    λ i u es h.
-    let g = (let a = c.args in let r = c.begin_line in begun_below (step_of a.call) _ _ _ _ _ _ _ (begun_answer (state_of a.call) r.result) _ (ap (begun_answer (state_of a.call)) c.in-Below.is) r.ensures) i u es h in
-    row_refused g _ r.new.out (step_answer r.result) _ (ap step_answer c.in-Refused-walk_row.is) r.ensures
+    rw (passed c.from_residual-in_err-next.result _ c.from_residual-in_err-next.ensures.1) (λ i u es h.
+    let g = (let a = c.args in let r = c.begin_line in begun_below (step_of a.call) _ _ _ _ _ _ _ (begun_answer (state_of a.call) r.result) _ (ap (begun_answer (state_of a.call)) c.in_ok-row.was) r.ensures) i u es h in
+    row_refused g _ r.new.out (answer_of r.result) _ (ap answer_of c.in_err-next.was) r.ensures)
 
-pub walk_type-shape_of-out-in-Done : goal.walk_type-shape_of-out-in-Done
-walk_type-shape_of-out-in-Done t c =
+pub walk_type-shape_of-out : goal.walk_type-shape_of-out
+walk_type-shape_of-out t c =
     let called = c.walk_row in
     let first = c.begin_line in
     length_lent c.within-w.result first.new.out called.new.out called.auto.out ∙ first.auto.out
 
-pub walk_type-returns-in-Done : goal.walk_type-returns-in-Done
-walk_type-returns-in-Done t c =
+pub walk_type-returns : goal.walk_type-returns
+walk_type-returns t c =
     let w = c.within-w in
     let r = c.walk_row in
     λ i u es h.
-    let g = (let a = c.args in let r = c.begin_line in begun_below (step_of a.call) _ _ _ _ _ _ _ (begun_answer (state_of a.call) r.result) _ (ap (begun_answer (state_of a.call)) c.in-Below.is) r.ensures) i u es h in
-    rw c.end_line.ensures (type_ended g _ r.new.out (step_answer r.result) _ _ (ap step_answer c.in-Done.is) r.ensures w.result w.ensures refl)
+    let g = (let a = c.args in let r = c.begin_line in begun_below (step_of a.call) _ _ _ _ _ _ _ (begun_answer (state_of a.call) r.result) _ (ap (begun_answer (state_of a.call)) c.in_ok-row.was) r.ensures) i u es h in
+    rw c.end_line.ensures (type_ended g _ r.new.out (answer_of r.result) _ _ (ap answer_of c.in_ok-next.was) r.ensures w.result w.ensures refl)

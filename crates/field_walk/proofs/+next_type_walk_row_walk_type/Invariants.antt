@@ -20,9 +20,6 @@ invariant-walk_row-loop-i l = (l.i ≤ l.row.count)
     × ((us es : List Entry) → RowAt l.s l.row.at l.row.count l.row.levels l.row.inside us es
     → Going (step_of l.call) l.s l.row.at l.row.count l.row.levels l.row.inside (state_of l.call l.row.levels l.row.inside) l.initial.out l.out l.here l.sum l.seen l.i us es)
 
-abbrev pub decreases-walk_row-loop-i : goal.decreases-walk_row-loop-i
-decreases-walk_row-loop-i l = l.row.count - l.i
-
 abbrev pub decreases-walk_row : goal.decreases-walk_row
 decreases-walk_row l = 2 * row_measure l.row.levels l.row.inside
 

@@ -9,9 +9,6 @@ use Rattle.sheets.specs.Bytes.{Bytes, ascii, same}
 use lib.ListN.{length}
 use native.Mathlib.Omega.{arith}
 use mathlib.Core.Path.{◌≡◌, sym, ◌∙◌, ap}
-use borrow.Author.Rules.{rules}
-use Rattle.format_names.proofs.head_unit.Statement.{statement}
-use Rattle.format_names.proofs.head_unit.Tie as tie
 
 pub returns-then-h-ne6 : goal.returns-then-h-ne6
 returns-then-h-ne6 c =

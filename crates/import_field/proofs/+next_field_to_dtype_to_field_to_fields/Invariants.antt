@@ -28,8 +28,5 @@ invariant-to_fields-loop-i l = (l.i ≤ l.row.count)
     × ((us : Schemas) (ts : List Schema) → FieldsAt l.s l.row.at l.row.count l.row.levels us ts
     → Going l.s l.row.at l.row.count l.row.levels l.row.bare l.row.big l.initial.out l.out l.here l.sum l.lines l.i us ts)
 
-abbrev pub decreases-to_fields-loop-i : goal.decreases-to_fields-loop-i
-decreases-to_fields-loop-i l = l.row.count - l.i
-
 abbrev pub decreases-to_fields : goal.decreases-to_fields
 decreases-to_fields l = 4 * l.row.levels + 2

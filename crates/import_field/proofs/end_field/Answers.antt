@@ -1,12 +1,12 @@
 -- `end_field` meets its contract: by the two cases of what is pending. Assumes nothing.
 use mathlib.Core.Path.{sym, ap}
-use Rattle.node.specs.declared.Pending.{Pending}
-use Rattle.node.specs.Nodes.{pending_answer}
 use Rattle.import_field.specs.Recursion.{ended_field}
+use Rattle.refusal.proofs.ErrLaws.{passed}
+use Rattle.refusal.specs.Refusals.{Refusing, answer_of}
 use Rattle.import_field.proofs.end_field.Goals as goal
 
-pub returns-in-Nothing : goal.returns-in-Nothing
-returns-in-Nothing c = ap (λ (p : Pending). ended_field (pending_answer p) c.args.next c.args.size) (sym c.in-Nothing.is)
+pub returns : goal.returns
+returns c = ap (λ (p : Refusing (Unit {0})). ended_field (answer_of p) c.args.next c.args.size) (sym c.in_ok-pending.was)
 
-pub returns-in-Refused : goal.returns-in-Refused
-returns-in-Refused c = ap (λ (p : Pending). ended_field (pending_answer p) c.args.next c.args.size) (sym c.in-Refused.is)
+pub returns-in_err-pending : goal.returns-in_err-pending
+returns-in_err-pending c = rw (passed c.from_residual.result _ c.from_residual.ensures.1) (ap (λ (p : Refusing (Unit {0})). ended_field (answer_of p) c.args.next c.args.size) (sym c.in_err-pending.was))

@@ -15,16 +15,16 @@ put_by_length-requires c =
     let headed = sym c.is_sheet.ensures ∙ c.if-not-is_sheet.false in
     (is_short_lem s headed, is_within s headed)
 
-pub returns-in-Refused : goal.returns-in-Refused
-returns-in-Refused c =
+pub returns-in-Err : goal.returns-in-Err
+returns-in-Err c =
     let a = c.args in
     let headed = sym c.is_sheet.ensures ∙ c.if-not-is_sheet.false in
     let p = c.put_by_length in
-    convert_refused a.s.now a.big headed a.out.now p.new.out p.result p.ensures _ c.first_refusal.result c.in-Refused.is c.first_refusal.ensures
+    convert_refused a.s.now a.big headed a.out.now p.new.out p.result p.ensures _ c.first_refusal.result c.in-Err.is c.first_refusal.ensures
 
-pub returns-in-Done : goal.returns-in-Done
-returns-in-Done c =
+pub returns-in-Ok : goal.returns-in-Ok
+returns-in-Ok c =
     let a = c.args in
     let headed = sym c.is_sheet.ensures ∙ c.if-not-is_sheet.false in
     let p = c.put_by_length in
-    convert_done a.s.now a.big headed a.out.now p.new.out p.result p.ensures _ _ c.in-Done.is c.all_read.result c.all_read.ensures
+    convert_done a.s.now a.big headed a.out.now p.new.out p.result p.ensures _ _ c.in-Ok.is c.all_read.result c.all_read.ensures

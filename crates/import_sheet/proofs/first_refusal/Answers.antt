@@ -2,14 +2,14 @@
 use Rattle.import_sheet.proofs.SheetLaws.{first_of, none_first}
 use Rattle.import_sheet.proofs.first_refusal.Goals as goal
 
-pub returns-in-Refused : goal.returns-in-Refused
-returns-in-Refused c =
+pub returns-in-Err : goal.returns-in-Err
+returns-in-Err c =
     let s = c.args.s.now in
     let k = c.read_sheet in
-    first_of s k.result k.ensures c.args.r _ c.in-Refused.is
+    first_of s k.result k.ensures c.args.r _ c.in-Err.is
 
-pub returns-in-Body : goal.returns-in-Body
-returns-in-Body c =
+pub returns-in-Ok : goal.returns-in-Ok
+returns-in-Ok c =
     let s = c.args.s.now in
     let k = c.read_sheet in
-    none_first s k.result k.ensures c.args.r _ c.in-Body.is
+    none_first s k.result k.ensures c.args.r _ c.in-Ok.is

@@ -1,24 +1,15 @@
 -- `is_then` meets its contract: the first bytes are compared, and then the rest, which is as long as the filler. Assumes nothing.
-use Rattle.std.proofs.Common.{length, sym, ◌∙◌, length-take-le}
-use Rattle.judge.proofs.JudgingLaws.{too_short, other_bytes, then_filler}
+use Rattle.std.proofs.Common.{sym, ◌∙◌}
+use Rattle.judge.proofs.JudgingLaws.{other_bytes, then_filler}
 use Rattle.judge.proofs.is_then.Goals as goal
 
-pub returns-then-s-n : goal.returns-then-s-n
-returns-then-s-n c =
+pub returns-in-Some : goal.returns-in-Some
+returns-in-Some c =
     let a = c.args in
-    sym (too_short a.s.now a.x.now a.b c.if-s-n.true)
+    let e = c.in-Some.ensures.cases in
+    c.all_are.ensures ∙ then_filler a.s.now a.x.now a.b _ e.1 e.0
 
-pub slice_bounds-same-end : goal.slice_bounds-same-end
-slice_bounds-same-end c =
+pub returns-in-None : goal.returns-in-None
+returns-in-None c =
     let a = c.args in
-    sym (length-take-le (length a.x.now) a.s.now c.if-s-n.false)
-
-pub returns-then-not-same : goal.returns-then-not-same
-returns-then-not-same c =
-    let a = c.args in
-    sym (other_bytes a.s.now a.x.now a.b c.if-s-n.false (sym c.same.ensures ∙ c.if-not-same.true))
-
-pub returns : goal.returns
-returns c =
-    let a = c.args in
-    c.all_are.ensures ∙ then_filler a.s.now a.x.now a.b c.if-s-n.false (sym c.same.ensures ∙ c.if-not-same.false)
+    sym (other_bytes a.s.now a.x.now a.b c.in-None.ensures.cases)

@@ -1,9 +1,9 @@
 -- `juzontefa_export` meets its contract: the number and the length are those of the call. Assumes nothing.
 use mathlib.Core.Path.{ap, ◌∙◌}
-use Rattle.outcome.specs.Answers.{outcome_of}
+use Rattle.outcome.specs.Answers.{numbers_outcome}
 use Rattle.juzontefa.specs.declared.Answer.{Answer}
 use Rattle.juzontefa.proofs.juzontefa_export.Goals as goal
 
 pub returns : goal.returns
 returns c =
-    let r = c.export in ap (λ (a : Answer). outcome_of a.number a.length r.new.out) c.answer_of.ensures ∙ r.ensures
+    let r = c.export in ap (λ (a : Answer). numbers_outcome a.number a.length r.new.out) c.answer_of.ensures ∙ r.ensures

@@ -4,4 +4,4 @@ use Rattle.juzontefa.specs.Answers.{places_told}
 use Rattle.juzontefa.proofs.juzontefa_to_physical_type.Goals as goal
 
 pub returns : goal.returns
-returns c = ap places_told c.places_of.ensures ∙ c.places.ensures ∙ c.to_physical_type.ensures
+returns c = ap places_told c.places_of.ensures ∙ c.of.ensures ∙ c.to_physical_type.ensures

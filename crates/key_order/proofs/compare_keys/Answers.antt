@@ -1,8 +1,8 @@
 -- `compare_keys` meets its contract: words that differ decide, as in `byte_order::compare`; what is left is compared by `compare_rests`. Assumes nothing.
-use mathlib.Core.Path.{sym}
-use borrow.Author.Rules.{rules}
+use mathlib.Core.Path.{sym, ap, ◌∙◌}
 use Rattle.sheets.proofs.Tests.{and_left, and_right}
-use Rattle.byte_order.proofs.CompareLaws.{words_less, words_greater}
+use Rattle.byte_order.proofs.CompareLaws.{words_decide}
+use Rattle.byte_order.specs.Compare.{ordering_answer}
 use Rattle.key_order.specs.Entry.{rest_at}
 use Rattle.key_order.proofs.KeyLaws.{rest_long}
 use Rattle.key_order.proofs.compare_keys.Goals as goal
@@ -19,12 +19,4 @@ returns-then-x-y c =
     let both = c.if-has_four.true in
     let long = rest_long a.text.now a.shared a.p (c.has_four.ensures (and_left _ _ both)) in
     let long' = rest_long a.text.now a.shared a.q (c.has_four-2.ensures (and_right c.has_four.result _ both)) in
-    sym (words_less (rest_at a.text.now a.shared a.p) (rest_at a.text.now a.shared a.q) 0 _ _ long long' c.four_of-x.ensures c.four_of-y.ensures (search rules))
-
-pub returns-then-y-x : goal.returns-then-y-x
-returns-then-y-x c =
-    let a = c.args in
-    let both = c.if-has_four.true in
-    let long = rest_long a.text.now a.shared a.p (c.has_four.ensures (and_left _ _ both)) in
-    let long' = rest_long a.text.now a.shared a.q (c.has_four-2.ensures (and_right c.has_four.result _ both)) in
-    sym (words_greater (rest_at a.text.now a.shared a.p) (rest_at a.text.now a.shared a.q) 0 _ _ long long' c.four_of-x.ensures c.four_of-y.ensures (search rules))
+    ap ordering_answer c.cmp.ensures ∙ sym (words_decide (rest_at a.text.now a.shared a.p) (rest_at a.text.now a.shared a.q) 0 _ _ long long' c.four_of-x.ensures c.four_of-y.ensures c.if-x-y.true)

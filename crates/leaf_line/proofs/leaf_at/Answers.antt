@@ -4,8 +4,7 @@ use Prim.Native.Nat.{◌+◌}
 use native.Mathlib.Omega.{arith}
 use Rattle.columns.specs.Pairs.{pairs_from}
 use Rattle.columns.proofs.PairsLaws.{pairs_within}
-use Rattle.format_names.specs.ShortNames.{short_rows, kind_option}
-use Rattle.leaf_line.specs.Short.{flags_option}
+use Rattle.format_names.specs.ShortNames.{short_rows}
 use Rattle.leaf_line.proofs.ShortLaws.{tail_high, no_flags_lem, flags_told, format_word}
 use Rattle.leaf_line.proofs.LeafLaws.{leaf_short, leaf_other, leaf_none, leaf_some}
 use Rattle.leaf_line.proofs.leaf_at.Goals as goal
@@ -25,10 +24,10 @@ returns-then-s-at-ne32 c =
     let a = c.args in
     leaf_none a.s.now a.at (pairs_from a.s.now (a.at + 3)) refl (λ k. c.if-s-at-ne32.true k.space)
 
-pub returns-in_default : goal.returns-in_default
-returns-in_default c =
+pub returns-in_err-kind : goal.returns-in_err-kind
+returns-in_err-kind c =
     let a = c.args in
-    leaf_other a.s.now a.at (format_word 2 a.s.now a.at short_rows c.word2_at.ensures (omega arith) ∙ sym c.short_name.ensures ∙ ap kind_option c.in_default.is)
+    rw c.from_residual.ensures (leaf_other a.s.now a.at (format_word 2 a.s.now a.at short_rows c.word2_at.ensures (omega arith) ∙ sym c.in_err-kind.ensures))
 
 pub returns-then-e-from : goal.returns-then-e-from
 returns-then-e-from c =
@@ -50,16 +49,16 @@ returns-then-s-e-ne32 c =
     let a = c.args in
     leaf_none a.s.now a.at _ c.pairs_from-e.ensures (λ k. c.if-s-e-ne32.true k.after)
 
-pub returns-in_default-flags_at : goal.returns-in_default-flags_at
-returns-in_default-flags_at c =
+pub returns-in_err-flags : goal.returns-in_err-flags
+returns-in_err-flags c =
     let a = c.args in
-    leaf_none a.s.now a.at _ c.pairs_from-e.ensures (λ k. no_flags_lem a.s.now _ 0 (sym c.flags_at.ensures ∙ ap flags_option c.in_default-flags_at.is) k.end)
+    rw c.from_residual-in_err-flags.ensures (leaf_none a.s.now a.at _ c.pairs_from-e.ensures (λ k. no_flags_lem a.s.now _ 0 (sym c.in_err-flags.ensures) k.end))
 
 pub returns : goal.returns
 returns c =
     let a = c.args in
     let s = a.s.now in
-    let f = flags_told s _ 0 _ (sym c.flags_at.ensures ∙ ap flags_option c.in-Digit.is) in
-    let kind = format_word 2 s a.at short_rows c.word2_at.ensures (omega arith) ∙ sym c.short_name.ensures ∙ ap kind_option c.in-Kind.is in
+    let f = flags_told s _ 0 _ (sym c.in_ok-flags.ensures) in
+    let kind = format_word 2 s a.at short_rows c.word2_at.ensures (omega arith) ∙ sym c.in_ok-kind.ensures in
     leaf_some s a.at _ c.pairs_from-e.ensures kind
     (record { space = c.if-s-at-ne32.false; long = omega (arith, c.if-e-from.false, c.pairs_from-e.ensures); after = c.if-s-e-ne32.false; end = f.0 }) f.1

@@ -4,8 +4,6 @@ use Prim.Native.Nat.{ℕ, ◌+◌, ◌-◌}
 use native.Mathlib.Omega.{arith}
 use Rattle.columns.specs.Pairs.{pairs_from}
 use Rattle.columns.proofs.PairsLaws.{pairs_within}
-use Rattle.format_names.specs.ShortNames.{kind_option}
-use Rattle.leaf_line.specs.Short.{flags_option}
 use Rattle.leaf_line.specs.Nested.{named_rows, children_at}
 use Rattle.leaf_line.proofs.ShortLaws.{tail_high, Tail, no_flags_lem, flags_told, format_word}
 use Rattle.leaf_line.proofs.NestedLaws.{nested_short, nested_other, nested_none, nested_some}
@@ -24,10 +22,10 @@ returns-then-s-at-ne32 c =
     let a = c.args in
     nested_none a.s.now a.at (pairs_from a.s.now (a.at + 5)) refl (λ l m k. c.if-s-at-ne32.true k.space)
 
-pub returns-in_default : goal.returns-in_default
-returns-in_default c =
+pub returns-in_err-kind : goal.returns-in_err-kind
+returns-in_err-kind c =
     let a = c.args in
-    nested_other a.s.now a.at (format_word 4 a.s.now a.at named_rows c.word4_at.ensures (omega arith) ∙ sym c.nested_name.ensures ∙ ap kind_option c.in_default.is)
+    rw c.from_residual.ensures (nested_other a.s.now a.at (format_word 4 a.s.now a.at named_rows c.word4_at.ensures (omega arith) ∙ sym c.in_err-kind.ensures))
 
 pub returns-then-e-from : goal.returns-then-e-from
 returns-then-e-from c =
@@ -59,13 +57,13 @@ returns-then-children-gt9 c =
     let a = c.args in
     nested_none a.s.now a.at _ c.pairs_from-e.ensures (λ l m k. omega (arith, m, c.wide-digit.ensures, c.if-children-gt9.true))
 
-pub returns-in_default-flags_at : goal.returns-in_default-flags_at
-returns-in_default-flags_at c =
+pub returns-in_err-flags : goal.returns-in_err-flags
+returns-in_err-flags c =
     let a = c.args in
     let e = c.pairs_from-e.result in
     let n : c.wide-digit.result - 48 ≡ children_at a.s.now e = omega (arith, c.wide-digit.ensures) in
-    nested_none a.s.now a.at _ c.pairs_from-e.ensures
-    (λ l m k. no_flags_lem a.s.now e _ (sym c.flags_at.ensures ∙ ap flags_option c.in_default-flags_at.is) (subst (λ (i : ℕ). Tail a.s.now e i) (sym n) k.end))
+    rw c.from_residual-in_err-flags.ensures (nested_none a.s.now a.at _ c.pairs_from-e.ensures
+    (λ l m k. no_flags_lem a.s.now e _ (sym c.in_err-flags.ensures) (subst (λ (i : ℕ). Tail a.s.now e i) (sym n) k.end)))
 
 pub returns : goal.returns
 returns c =
@@ -73,7 +71,7 @@ returns c =
     let s = a.s.now in
     let e = c.pairs_from-e.result in
     let n : c.wide-digit.result - 48 ≡ children_at s e = omega (arith, c.wide-digit.ensures) in
-    let f = flags_told s e _ _ (sym c.flags_at.ensures ∙ ap flags_option c.in-Digit.is) in
-    let kind = format_word 4 s a.at named_rows c.word4_at.ensures (omega arith) ∙ sym c.nested_name.ensures ∙ ap kind_option c.in-Kind.is in
+    let f = flags_told s e _ _ (sym c.in_ok-flags.ensures) in
+    let kind = format_word 4 s a.at named_rows c.word4_at.ensures (omega arith) ∙ sym c.in_ok-kind.ensures in
     nested_some s a.at e c.pairs_from-e.ensures _ n kind (omega (arith, c.if-digit-le-ZERO.false)) (omega (arith, c.if-children-gt9.false))
     (record { space = c.if-s-at-ne32.false; long = omega (arith, c.if-e-from.false, c.pairs_from-e.ensures); after = c.if-s-e-ne32.false; end = f.0 }) f.1

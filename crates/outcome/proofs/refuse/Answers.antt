@@ -1,10 +1,9 @@
--- `refuse` meets its contract: the number is that of the reason. Assumes nothing.
-use mathlib.Core.Path.{ap, ◌∙◌}
-use Prim.Native.Nat.{ℕ}
-use Rattle.sheets.specs.Outcome.{refusal}
+-- `refuse` meets its contract: the buffer is cleared. Assumes nothing.
+use mathlib.Core.Path.{ap}
+use Rattle.std.specs.Prelude.{Err}
+use Rattle.outcome.specs.Answers.{outcome_of}
+use Rattle.outcome.specs.declared.Refused.TheVariants.{Sheet}
 use Rattle.outcome.proofs.refuse.Goals as goal
 
 pub returns : goal.returns
-returns c =
-    c.turn_back.ensures
-    ∙ ap (λ (n : ℕ). refusal n c.args.out.now) c.number.ensures
+returns c = ap (outcome_of (Err (Sheet c.args.reason))) c.clear.ensures

@@ -23,4 +23,4 @@ returns c =
     let k = c.skip_row in
     let p = c.put_index-len in
     let small = index_small c.args.tree c.requires.type.3 c.requires.line c.requires.change in
-    λ i t es f. index_begun c.args.tree f c.requires.line c.requires.change k.result k.ensures _ c.in-To.is c.args.out.now p.new.out p.result p.ensures (omega (arith, p.ensures.0, index_short c.args.l.p small))
+    λ i t es f. index_begun c.args.tree f c.requires.line c.requires.change k.result k.ensures _ c.in-Some.is c.args.out.now p.new.out p.result p.ensures (omega (arith, p.ensures.0, index_short c.args.l.p small))

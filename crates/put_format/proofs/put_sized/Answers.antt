@@ -2,7 +2,6 @@
 use mathlib.Core.Path.{sym, ◌∙◌}
 use mathlib.Core.List.{[], ◌++◌}
 use mathlib.Core.Bool.{false}
-use Prim.Native.Nat.{◌+◌}
 use native.Mathlib.Omega.{arith}
 use Rattle.sheets.specs.Number.{decimal}
 use Rattle.hexadecimal.proofs.PartLaws.{length_hex}

@@ -5,7 +5,6 @@ use Rattle.put_format.specs.LineFormat.{timestamp_format}
 use Rattle.sheets.specs.Format.{or_empty}
 use mathlib.Core.Path.{refl}
 use mathlib.Core.List.{◌++◌}
-use Prim.Native.Nat.{◌+◌}
 use Rattle.put_format.proofs.LeafLaws.{formats_as}
 use Rattle.sheets.specs.Answer.{given}
 use Rattle.sheets.specs.Bytes.{ascii}

@@ -5,7 +5,6 @@ use lib.Dec.{eqb}
 use borrow.Author.Tests.{eq-eqb, ne_eqb}
 use mathlib.Core.Path.{sym, ap, ◌∙◌}
 use mathlib.Core.Bool.{Bool}
-use Prim.Native.Nat.{◌+◌}
 use Rattle.put_format.proofs.LeafLaws.{formats_as}
 use Rattle.sheets.specs.Bytes.{ascii}
 use Rattle.put_format.proofs.put_union.Goals as goal

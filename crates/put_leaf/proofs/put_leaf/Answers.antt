@@ -1,72 +1,73 @@
 -- `put_leaf` meets its contract: head, name and tail one after the other (`line_put`), or their lengths (`line_measured`). Assumes nothing.
-use mathlib.Core.Path.{refl, sym, ap, ◌∙◌}
+use mathlib.Core.Path.{refl, sym}
 use Prim.Native.Nat.{◌+◌}
 use native.Mathlib.Omega.{arith}
-use Rattle.leaf_line.specs.Leaf.{leaf_in, leaf_option}
-use Rattle.put_leaf.proofs.PutLaws.{leaf_there, bare_other, none_other, no_room_other, name_can, tail_room, line_put, line_measured}
+use Rattle.leaf_line.specs.Leaf.{leaf_in}
+use Rattle.leaf_line.proofs.LeafLaws.{leaf_told}
+use Rattle.put_leaf.proofs.PutLaws.{bare_other, none_other, no_room_other, name_can, tail_room, line_put, line_measured}
 use Rattle.put_leaf.proofs.put_leaf.Goals as goal
 
 pub returns-then-bare : goal.returns-then-bare
 returns-then-bare c =
     let a = c.args in (bare_other a.bare a.out.now (a.at + 3) (leaf_in a.s.now a.at) c.if-bare.true, refl)
 
-pub returns-in_default : goal.returns-in_default
-returns-in_default c =
+pub returns-in_err-kind : goal.returns-in_err-kind
+returns-in_err-kind c =
     let a = c.args in
-    (none_other a.bare a.out.now (a.at + 3) _ (ap leaf_option (sym c.in_default.is) ∙ c.leaf_at.ensures), refl)
+    rw c.from_residual.ensures (none_other a.bare a.out.now (a.at + 3) _ c.in_err-kind.ensures, refl)
 
 pub overflow_add-from : goal.overflow_add-from
 overflow_add-from c =
     let a = c.args in
-    let k = leaf_there a.s.now a.at c.leaf_at.result _ _ _ c.in-Line.is c.leaf_at.ensures in
+    let k = leaf_told a.s.now a.at (sym c.in_ok-kind.ensures) in
     omega (arith, k.high, k.some)
 
 pub overflow_sub-e : goal.overflow_sub-e
 overflow_sub-e c =
     let a = c.args in
-    let k = leaf_there a.s.now a.at c.leaf_at.result _ _ _ c.in-Line.is c.leaf_at.ensures in
+    let k = leaf_told a.s.now a.at (sym c.in_ok-kind.ensures) in
     omega (arith, k.some)
 
 pub overflow_add-e : goal.overflow_add-e
 overflow_add-e c =
     let a = c.args in
-    let k = leaf_there a.s.now a.at c.leaf_at.result _ _ _ c.in-Line.is c.leaf_at.ensures in
+    let k = leaf_told a.s.now a.at (sym c.in_ok-kind.ensures) in
     omega (arith, k.high)
 
 pub overflow_add-result : goal.overflow_add-result
 overflow_add-result c =
     let a = c.args in
-    let k = leaf_there a.s.now a.at c.leaf_at.result _ _ _ c.in-Line.is c.leaf_at.ensures in
+    let k = leaf_told a.s.now a.at (sym c.in_ok-kind.ensures) in
     omega (arith, k.high)
 
 pub head_length-requires : goal.head_length-requires
 head_length-requires c =
     let a = c.args in
-    let k = leaf_there a.s.now a.at c.leaf_at.result _ _ _ c.in-Line.is c.leaf_at.ensures in
+    let k = leaf_told a.s.now a.at (sym c.in_ok-kind.ensures) in
     omega (arith, k.names.known)
 
 pub overflow_sub-result : goal.overflow_sub-result
 overflow_sub-result c =
     let a = c.args in
-    let k = leaf_there a.s.now a.at c.leaf_at.result _ _ _ c.in-Line.is c.leaf_at.ensures in
+    let k = leaf_told a.s.now a.at (sym c.in_ok-kind.ensures) in
     omega (arith, k.some)
 
 pub overflow_add-result-then-out-eq0 : goal.overflow_add-result-then-out-eq0
 overflow_add-result-then-out-eq0 c =
     let a = c.args in
-    let k = leaf_there a.s.now a.at c.leaf_at.result _ _ _ c.in-Line.is c.leaf_at.ensures in
+    let k = leaf_told a.s.now a.at (sym c.in_ok-kind.ensures) in
     omega (arith, k.high, c.head_length.ensures.1)
 
 pub overflow_add-result-then-out-eq0-2 : goal.overflow_add-result-then-out-eq0-2
 overflow_add-result-then-out-eq0-2 c =
     let a = c.args in
-    let k = leaf_there a.s.now a.at c.leaf_at.result _ _ _ c.in-Line.is c.leaf_at.ensures in
+    let k = leaf_told a.s.now a.at (sym c.in_ok-kind.ensures) in
     omega (arith, k.high, c.head_length.ensures.1)
 
 pub returns-then-out-eq0 : goal.returns-then-out-eq0
 returns-then-out-eq0 c =
     let a = c.args in
-    let k = leaf_there a.s.now a.at c.leaf_at.result _ _ _ c.in-Line.is c.leaf_at.ensures in (
+    let k = leaf_told a.s.now a.at (sym c.in_ok-kind.ensures) in (
       c.if-bare.false,
       record { kind = _; e = _; flags = _; leaf = k; after = refl; put = line_measured k _ _ 0 a.out.now c.head_length.result c.if-out-eq0.true c.head_length.ensures.0 },
     )
@@ -74,25 +75,25 @@ returns-then-out-eq0 c =
 pub returns-then-out-e : goal.returns-then-out-e
 returns-then-out-e c =
     let a = c.args in
-    (no_room_other a.bare a.out.now (a.at + 3) _ (ap leaf_option (sym c.in-Line.is) ∙ c.leaf_at.ensures) c.if-out-e.true c.if-out-eq0.false, refl)
+    (no_room_other a.bare a.out.now (a.at + 3) _ c.in_ok-kind.ensures c.if-out-e.true c.if-out-eq0.false, refl)
 
 pub put_head-head-requires : goal.put_head-head-requires
 put_head-head-requires c =
     let a = c.args in
-    let k = leaf_there a.s.now a.at c.leaf_at.result _ _ _ c.in-Line.is c.leaf_at.ensures in
+    let k = leaf_told a.s.now a.at (sym c.in_ok-kind.ensures) in
     (omega (arith, k.names.known), omega arith)
 
 pub copy_part-name-requires : goal.copy_part-name-requires
 copy_part-name-requires c =
     let a = c.args in
-    let k = leaf_there a.s.now a.at c.leaf_at.result _ _ _ c.in-Line.is c.leaf_at.ensures in
+    let k = leaf_told a.s.now a.at (sym c.in_ok-kind.ensures) in
     let h = c.put_head-head in
     name_can k _ a.out.now h.new.out h.result c.if-out-e.false h.ensures.1 h.ensures.0.1
 
 pub put_tail-len-requires : goal.put_tail-len-requires
 put_tail-len-requires c =
     let a = c.args in
-    let k = leaf_there a.s.now a.at c.leaf_at.result _ _ _ c.in-Line.is c.leaf_at.ensures in
+    let k = leaf_told a.s.now a.at (sym c.in_ok-kind.ensures) in
     let h = c.put_head-head in
     let n = c.copy_part-name in
     (omega arith, omega arith, tail_room k _ a.out.now h.new.out n.new.out h.result n.result c.if-out-e.false h.ensures.1 h.ensures.0.1 n.ensures)
@@ -100,13 +101,13 @@ put_tail-len-requires c =
 pub overflow_add-result-2 : goal.overflow_add-result-2
 overflow_add-result-2 c =
     let a = c.args in
-    let k = leaf_there a.s.now a.at c.leaf_at.result _ _ _ c.in-Line.is c.leaf_at.ensures in
+    let k = leaf_told a.s.now a.at (sym c.in_ok-kind.ensures) in
     omega (arith, k.high)
 
 pub returns : goal.returns
 returns c =
     let a = c.args in
-    let k = leaf_there a.s.now a.at c.leaf_at.result _ _ _ c.in-Line.is c.leaf_at.ensures in
+    let k = leaf_told a.s.now a.at (sym c.in_ok-kind.ensures) in
     let h = c.put_head-head in
     let n = c.copy_part-name in
     let t = c.put_tail-len in (

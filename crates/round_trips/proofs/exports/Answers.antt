@@ -3,22 +3,22 @@ use Rattle.sheets.specs.Outcome.{exported}
 use Rattle.round_trips.proofs.TripLaws.{first_out, second_out, both_out}
 use Rattle.round_trips.proofs.exports.Goals as goal
 
-pub returns-then-x-ne0 : goal.returns-then-x-ne0
-returns-then-x-ne0 c =
+pub returns-in-Err : goal.returns-in-Err
+returns-in-Err c =
     let a = c.args in
-    let x = c.export-x in
-    first_out (exported a.big a.one.now) (exported a.big a.other.now) a.first.now a.second.now x.new.out x.result x.ensures c.if-x-ne0.true c.clear.new.out c.clear.ensures
+    let x = c.export in
+    first_out (exported a.big a.one.now) (exported a.big a.other.now) a.first.now a.second.now x.new.out x.result x.ensures _ c.in-Err.is c.clear.new.out c.clear.ensures
 
-pub returns-then-y-ne0 : goal.returns-then-y-ne0
-returns-then-y-ne0 c =
+pub returns-in-Err-export : goal.returns-in-Err-export
+returns-in-Err-export c =
     let a = c.args in
-    let x = c.export-x in
-    let y = c.export-y in
-    second_out (exported a.big a.one.now) (exported a.big a.other.now) a.first.now a.second.now x.new.out x.result x.ensures c.if-x-ne0.false y.new.out y.result y.ensures c.if-y-ne0.true c.clear-then-y-ne0.new.out c.clear-then-y-ne0.ensures
+    let x = c.export in
+    let y = c.export-2 in
+    second_out (exported a.big a.one.now) (exported a.big a.other.now) a.first.now a.second.now x.new.out x.result x.ensures _ c.in-Ok.is y.new.out y.result y.ensures _ c.in-Err-export.is c.clear-in-Err-export.new.out c.clear-in-Err-export.ensures
 
 pub returns : goal.returns
 returns c =
     let a = c.args in
-    let x = c.export-x in
-    let y = c.export-y in
-    both_out (exported a.big a.one.now) (exported a.big a.other.now) a.first.now a.second.now x.new.out x.result x.ensures c.if-x-ne0.false y.new.out y.result y.ensures c.if-y-ne0.false
+    let x = c.export in
+    let y = c.export-2 in
+    both_out (exported a.big a.one.now) (exported a.big a.other.now) a.first.now a.second.now x.new.out x.result x.ensures _ c.in-Ok.is y.new.out y.result y.ensures _ c.in-Ok-export.is

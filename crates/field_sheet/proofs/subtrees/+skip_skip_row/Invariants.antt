@@ -2,7 +2,7 @@
 -- more in `skip_row`. In the loop of `skip_row`: the trees that are left stand here, and none that was passed has too many levels. Assumes nothing.
 use mathlib.Core.Path.{◌≡◌}
 use mathlib.Core.List.{List, ◌++◌}
-use Prim.Native.Nat.{◌+◌, ◌*◌, ◌≤◌}
+use Prim.Native.Nat.{◌+◌, ◌-◌, ◌*◌, ◌≤◌}
 use lib.ListN.{length, drop}
 use Rattle.sheets.specs.FieldSheet.{Entry}
 use Rattle.sheets.specs.LineTrees.{Standing}
@@ -14,11 +14,8 @@ use Rattle.field_sheet.proofs.subtrees.+skip_skip_row.Given as goal
 abbrev pub decreases-skip : goal.decreases-skip
 decreases-skip l = 4 * l.most + spare l.inside
 
-abbrev pub invariant-skip_row-loop-left : goal.invariant-skip_row-loop-left
-invariant-skip_row-loop-left l = (l.at ≤ l.here) × (l.here ≤ length l.s) × ((us ts : List Entry) → Standing fields (drop l.at l.s) (us ++ ts) → length us ≡ l.count → Going l.s l.inside l.most l.here l.left us ts)
-
-abbrev pub decreases-skip_row-loop-left : goal.decreases-skip_row-loop-left
-decreases-skip_row-loop-left l = l.left
+abbrev pub invariant-skip_row-loop-i : goal.invariant-skip_row-loop-i
+invariant-skip_row-loop-i l = (l.at ≤ l.here) × (l.here ≤ length l.s) × ((us ts : List Entry) → Standing fields (drop l.at l.s) (us ++ ts) → length us ≡ l.count → Going l.s l.inside l.most l.here (l.count - l.i) us ts)
 
 abbrev pub decreases-skip_row : goal.decreases-skip_row
 decreases-skip_row l = 4 * l.most + spare l.inside + 1

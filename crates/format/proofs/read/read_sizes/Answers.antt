@@ -3,11 +3,10 @@ use mathlib.Core.Path.{sym, ◌∙◌, ap}
 use native.Mathlib.Omega.{arith}
 use lib.ListN.{drop}
 use Rattle.sheets.specs.Format.{read_size, read_cut}
-use Rattle.sheets.specs.Answer.{refused, given}
+use Rattle.sheets.specs.Answer.{refused, given, found}
 use Rattle.sheets.specs.Refusal.{bad_number}
 use Rattle.hexadecimal.specs.Hex.{bytes_of}
 use Rattle.hexadecimal.proofs.HexLaws.{length_bytes}
-use Rattle.parse.specs.Parse.{size_answer}
 use Rattle.format.specs.Formats.{decimal_format}
 use Rattle.sheets.specs.Parts.{parts_from}
 use Rattle.format.proofs.ReadLaws.{reads_as, cut_binary, cut_list, cut_decimal, cut_other}
@@ -26,7 +25,7 @@ returns-in_default c =
     let b = bytes_of f in
     let h = bytes_of c.args.h.now in
     let at = c.args.at in
-    (cut_binary h (drop at b) (refused bad_number) (sym c.if-says.true ∙ c.says.ensures) (ap size_answer (sym c.in_default.is) ∙ c.parse_usize.ensures ∙ ap read_size c.part_of.ensures.1 ∙ ap read_size (rest_part f c.requires.0.0 at)), tt)
+    (cut_binary h (drop at b) (refused bad_number) (sym c.if-says.true ∙ c.says.ensures) (ap (found bad_number) (sym c.in_default.is) ∙ c.parse_usize.ensures ∙ ap read_size c.part_of.ensures.1 ∙ ap read_size (rest_part f c.requires.0.0 at)), tt)
 
 pub returns-then-says : goal.returns-then-says
 returns-then-says c =
@@ -34,7 +33,7 @@ returns-then-says c =
     let b = bytes_of f in
     let h = bytes_of c.args.h.now in
     let at = c.args.at in
-    (cut_binary h (drop at b) (given c.in-Value.size) (sym c.if-says.true ∙ c.says.ensures) (ap size_answer (sym c.in-Value.is) ∙ c.parse_usize.ensures ∙ ap read_size c.part_of.ensures.1 ∙ ap read_size (rest_part f c.requires.0.0 at)), tt)
+    (cut_binary h (drop at b) (given c.in-Some.size) (sym c.if-says.true ∙ c.says.ensures) (ap (found bad_number) (sym c.in-Some.is) ∙ c.parse_usize.ensures ∙ ap read_size c.part_of.ensures.1 ∙ ap read_size (rest_part f c.requires.0.0 at)), tt)
 
 pub part_of-requires-then-says-2 : goal.part_of-requires-then-says-2
 part_of-requires-then-says-2 c =
@@ -47,7 +46,7 @@ returns-in_default-parse_usize c =
     let b = bytes_of f in
     let h = bytes_of c.args.h.now in
     let at = c.args.at in
-    (cut_list h (drop at b) (refused bad_number) (sym c.if-says-2.true ∙ c.says-2.ensures) (ap size_answer (sym c.in_default-parse_usize.is) ∙ c.parse_usize-then-says-2.ensures ∙ ap read_size c.part_of-then-says-2.ensures.1 ∙ ap read_size (rest_part f c.requires.0.0 at)), tt)
+    (cut_list h (drop at b) (refused bad_number) (sym c.if-says-2.true ∙ c.says-2.ensures) (ap (found bad_number) (sym c.in_default-parse_usize.is) ∙ c.parse_usize-then-says-2.ensures ∙ ap read_size c.part_of-then-says-2.ensures.1 ∙ ap read_size (rest_part f c.requires.0.0 at)), tt)
 
 pub returns-then-says-2 : goal.returns-then-says-2
 returns-then-says-2 c =
@@ -55,7 +54,7 @@ returns-then-says-2 c =
     let b = bytes_of f in
     let h = bytes_of c.args.h.now in
     let at = c.args.at in
-    (cut_list h (drop at b) (given c.in-Value-parse_usize.size) (sym c.if-says-2.true ∙ c.says-2.ensures) (ap size_answer (sym c.in-Value-parse_usize.is) ∙ c.parse_usize-then-says-2.ensures ∙ ap read_size c.part_of-then-says-2.ensures.1 ∙ ap read_size (rest_part f c.requires.0.0 at)), tt)
+    (cut_list h (drop at b) (given c.in-Some-parse_usize.size) (sym c.if-says-2.true ∙ c.says-2.ensures) (ap (found bad_number) (sym c.in-Some-parse_usize.is) ∙ c.parse_usize-then-says-2.ensures ∙ ap read_size c.part_of-then-says-2.ensures.1 ∙ ap read_size (rest_part f c.requires.0.0 at)), tt)
 
 pub returns-then-says-3 : goal.returns-then-says-3
 returns-then-says-3 c =

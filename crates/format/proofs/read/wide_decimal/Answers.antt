@@ -8,12 +8,13 @@ use lib.ListN.{length}
 use Rattle.sheets.specs.Format.{read_size}
 use Rattle.hexadecimal.specs.Hex.{bytes_of}
 use Rattle.hexadecimal.proofs.HexLaws.{length_bytes, twice_length}
-use Rattle.parse.specs.Parse.{size_answer}
 use Rattle.format.specs.Formats.{decimal_of, decimal_format}
 use Rattle.sheets.specs.Parts.{parts_from}
 use Rattle.format.specs.Parts.{format_part}
 use Rattle.format.proofs.ReadLaws.{reads_as, bad_width, three_parts, third_part, four_parts}
 use Rattle.sheets.proofs.PartLaws.{part_ends}
+use Rattle.sheets.specs.Answer.{found}
+use Rattle.sheets.specs.Refusal.{bad_number}
 use Rattle.format.proofs.read.wide_decimal.Goals as goal
 
 pub overflow_add-j : goal.overflow_add-j
@@ -39,7 +40,7 @@ returns-in_default c =
     let s = format_part (c.args.i + 1) j b in
     let z = c.place_of-end in
     let ends = part_ends b (j + 1) z.result c.requires.2.1 z.ensures in
-    (bad_width p s (format_part (j + 1) z.result b) (ap size_answer (sym c.in_default.is) ∙ c.parse_usize.ensures ∙ ap read_size c.part_of.ensures.1) ∙ third_part b (j + 1) z.result ends p s (omega (arith, length_bytes f c.requires.2.0, c.if-end-n.true)), tt)
+    (bad_width p s (format_part (j + 1) z.result b) (ap (found bad_number) (sym c.in_default.is) ∙ c.parse_usize.ensures ∙ ap read_size c.part_of.ensures.1) ∙ third_part b (j + 1) z.result ends p s (omega (arith, length_bytes f c.requires.2.0, c.if-end-n.true)), tt)
 
 pub returns-then-end-n : goal.returns-then-end-n
 returns-then-end-n c =
@@ -51,7 +52,7 @@ returns-then-end-n c =
     let z = c.place_of-end in
     let ends = part_ends b (j + 1) z.result c.requires.2.1 z.ensures in
     let w = format_part (j + 1) z.result b in
-    reads_as f c.decimal_of.result (decimal_of c.in-Value.width p s) (decimal_format (p ∷ s ∷ parts_from b (j + 1))) (three_parts p s w c.in-Value.width (ap size_answer (sym c.in-Value.is) ∙ c.parse_usize.ensures ∙ ap read_size c.part_of.ensures.1) ∙ third_part b (j + 1) z.result ends p s (omega (arith, length_bytes f c.requires.2.0, c.if-end-n.true))) c.decimal_of.ensures
+    reads_as f c.decimal_of.result (decimal_of c.in-Some.width p s) (decimal_format (p ∷ s ∷ parts_from b (j + 1))) (three_parts p s w c.in-Some.width (ap (found bad_number) (sym c.in-Some.is) ∙ c.parse_usize.ensures ∙ ap read_size c.part_of.ensures.1) ∙ third_part b (j + 1) z.result ends p s (omega (arith, length_bytes f c.requires.2.0, c.if-end-n.true))) c.decimal_of.ensures
 
 pub returns : goal.returns
 returns c =

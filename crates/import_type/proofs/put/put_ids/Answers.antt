@@ -2,7 +2,7 @@
 -- 21 bytes for each byte read. The measure is what is left of the bytes. Assumes nothing.
 use mathlib.Core.Path.{sym, ◌∙◌, ap}
 use mathlib.Core.Logic.{◌≢◌}
-use Prim.Native.Nat.{◌-◌, ◌/◌}
+use Prim.Native.Nat.{◌/◌}
 use native.Mathlib.Omega.{arith}
 use lib.ListN.{length}
 use mir.Syntax.{w32}
@@ -13,10 +13,11 @@ use Rattle.hexadecimal.specs.Hex.{bytes_of}
 use Rattle.hexadecimal.proofs.HexLaws.{length_bytes, twice_length}
 use Rattle.buffer.proofs.OverLaws.{length_written, length_over_at}
 use Rattle.decimal.proofs.WriteLaws.{signed_short}
-use Rattle.parse.specs.Parse.{id_answer}
 use Rattle.import_type.proofs.IdsLaws.{going_none, going_refused, going_last, going_more}
 use Rattle.sheets.proofs.PartLaws.{part_ends}
 use borrow.Author.Rules.{rules}
+use Rattle.sheets.specs.Answer.{found}
+use Rattle.sheets.specs.Refusal.{bad_number}
 use Rattle.import_type.proofs.put.put_ids.Goals as goal
 
 pub loop-id-init : goal.loop-id-init
@@ -42,7 +43,7 @@ pub returns-in_default : goal.returns-in_default
 returns-in_default c =
     let l = c.loop-id in
     let to = c.place_of-to in
-    let e = ap id_answer (sym c.in_default.is) ∙ c.parse_i32.ensures ∙ ap read_id c.part_of.ensures.1 in
+    let e = ap (found bad_number) (sym c.in_default.is) ∙ c.parse_i32.ensures ∙ ap read_id c.part_of.ensures.1 in
     going_refused (bytes_of c.args.ids.now) c.args.at c.args.out.now l.from l.end l.out l.invariant.2 to.result (part_ends (bytes_of c.args.ids.now) c.loop-id.from to.result c.loop-id.invariant.0 to.ensures) e
 
 pub put_i32-after-requires : goal.put_i32-after-requires
@@ -59,10 +60,10 @@ pub returns-then-to-n : goal.returns-then-to-n
 returns-then-to-n c =
     let l = c.loop-id in
     let to = c.place_of-to in
-    let z = c.in-Value.id in
+    let z = c.in-Some.id in
     let fits : SFits w32 z = search rules in
     let put = rw (to_z-of_z fits) at c.put_i32-after.ensures in
-    let e = ap id_answer (sym c.in-Value.is) ∙ c.parse_i32.ensures ∙ ap read_id c.part_of.ensures.1 in
+    let e = ap (found bad_number) (sym c.in-Some.is) ∙ c.parse_i32.ensures ∙ ap read_id c.part_of.ensures.1 in
     let ends = part_ends (bytes_of c.args.ids.now) c.loop-id.from to.result c.loop-id.invariant.0 to.ensures in
     going_last (bytes_of c.args.ids.now) c.args.at c.args.out.now l.from l.end l.out l.invariant.2 to.result ends z e c.put_i32-after.result _ put (omega (arith, length_bytes c.args.ids.now c.requires.is_text, c.if-to-n.true))
 
@@ -70,10 +71,10 @@ pub put_byte-end-requires : goal.put_byte-end-requires
 put_byte-end-requires c =
     let l = c.loop-id in
     let to = c.place_of-to in
-    let z = c.in-Value.id in
+    let z = c.in-Some.id in
     let fits : SFits w32 z = search rules in
     let put = rw (to_z-of_z fits) at c.put_i32-after.ensures in
-    let e = ap id_answer (sym c.in-Value.is) ∙ c.parse_i32.ensures ∙ ap read_id c.part_of.ensures.1 in
+    let e = ap (found bad_number) (sym c.in-Some.is) ∙ c.parse_i32.ensures ∙ ap read_id c.part_of.ensures.1 in
     let ends = part_ends (bytes_of c.args.ids.now) c.loop-id.from to.result c.loop-id.invariant.0 to.ensures in
     omega (arith, put.0, signed_short z (omega (arith, fits.sfits)), l.invariant.0, l.invariant.1, c.requires.low, c.requires.short, twice_length c.args.ids.now c.requires.is_text)
 
@@ -92,10 +93,10 @@ pub loop-id-preserved : goal.loop-id-preserved
 loop-id-preserved c =
     let l = c.loop-id in
     let to = c.place_of-to in
-    let z = c.in-Value.id in
+    let z = c.in-Some.id in
     let fits : SFits w32 z = search rules in
     let put = rw (to_z-of_z fits) at c.put_i32-after.ensures in
-    let e = ap id_answer (sym c.in-Value.is) ∙ c.parse_i32.ensures ∙ ap read_id c.part_of.ensures.1 in
+    let e = ap (found bad_number) (sym c.in-Some.is) ∙ c.parse_i32.ensures ∙ ap read_id c.part_of.ensures.1 in
     let ends = part_ends (bytes_of c.args.ids.now) c.loop-id.from to.result c.loop-id.invariant.0 to.ensures in
     let d : to.result ≢ length c.args.ids.now / 2 = c.if-to-n.false in (
       omega (arith, ends.high, d, length_bytes c.args.ids.now c.requires.is_text),

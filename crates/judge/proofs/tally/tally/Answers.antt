@@ -2,10 +2,10 @@
 use Rattle.judge.proofs.TallyLaws.{tally_agrees, tally_differs}
 use Rattle.judge.proofs.tally.tally.Goals as goal
 
-pub returns-in-Agrees : goal.returns-in-Agrees
-returns-in-Agrees c =
-    let a = c.args in tally_agrees a.r a.call a.kept.now _ c.in-Agrees.is c.count.ensures
+pub returns-in-None : goal.returns-in-None
+returns-in-None c =
+    let a = c.args in tally_agrees a.r a.call a.kept.now _ c.in-None.is c.count.ensures
 
-pub returns-in-Differs : goal.returns-in-Differs
-returns-in-Differs c =
-    let a = c.args in tally_differs a.r a.call a.kept.now _ _ _ c.in-Differs.is c.count-in-Differs.ensures c.count-in-Differs-2.ensures
+pub returns-in-Some : goal.returns-in-Some
+returns-in-Some c =
+    let a = c.args in tally_differs a.r a.call a.kept.now _ _ _ c.in-Some.is c.count-in-Some.ensures c.count-in-Some-2.ensures

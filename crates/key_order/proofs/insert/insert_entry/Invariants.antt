@@ -2,16 +2,11 @@
 -- Assumes nothing.
 use mathlib.Core.List.{◌++◌}
 use mathlib.Core.Path.{◌≡◌}
-use Prim.Native.Nat.{◌-◌, ◌≤◌}
-use lib.ListN.{length, take}
+use lib.ListN.{take}
 use Rattle.key_order.specs.Entry.{rest_at}
 use Rattle.key_order.specs.Order.{insert_entry}
 use Rattle.key_order.proofs.InsertLaws.{between}
 use Rattle.key_order.proofs.insert.insert_entry.Given as goal
 
 abbrev pub invariant-loop-j : goal.invariant-loop-j
-invariant-loop-j l = (length l.out ≡ length l.initial.out) × (l.j ≤ l.n)
-    × (insert_entry (rest_at l.text l.shared) l.p (take l.n l.initial.out) ≡ take l.j l.out ++ insert_entry (rest_at l.text l.shared) l.p (between l.out l.j l.n))
-
-abbrev pub decreases-loop-j : goal.decreases-loop-j
-decreases-loop-j l = l.n - l.j
+invariant-loop-j l = insert_entry (rest_at l.text l.shared) l.p (take l.n l.initial.out) ≡ take l.j l.out ++ insert_entry (rest_at l.text l.shared) l.p (between l.out l.j l.n)

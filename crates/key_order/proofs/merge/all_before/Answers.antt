@@ -1,16 +1,9 @@
 -- `all_before` meets its contract: both lists ascend, so the last of a and the first of b tell. Assumes nothing.
-use mathlib.Core.Bool.{true≢false}
 use mathlib.Core.Path.{sym, ◌∙◌}
 use Rattle.key_order.specs.Entry.{rest_at}
 use Rattle.key_order.proofs.MergeLaws.{apart}
 use borrow.Author.Rules.{rules}
 use Rattle.key_order.proofs.merge.all_before.Goals as goal
-
-pub returns-then-a-eq0 : goal.returns-then-a-eq0
-returns-then-a-eq0 c = λ e. absurd (true≢false (sym e))
-
-pub returns-then-b-eq0 : goal.returns-then-b-eq0
-returns-then-b-eq0 c = λ e. absurd (true≢false (sym e))
 
 pub returns : goal.returns
 returns c =

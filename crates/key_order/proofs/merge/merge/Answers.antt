@@ -2,7 +2,6 @@
 -- The first entries that are left decide what is written next. Assumes nothing.
 use mathlib.Core.List.{◌++◌}
 use mathlib.Core.Path.{refl, ap, ◌∙◌}
-use Prim.Native.Nat.{◌-◌, ◌+◌}
 use native.Mathlib.Omega.{arith}
 use borrow.Author.Rules.{rules}
 use lib.ListN.{get_or, take, drop}

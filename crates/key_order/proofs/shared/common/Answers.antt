@@ -1,6 +1,5 @@
 -- `common` meets its contract. The invariant: the first `i` bytes are the same; equal words are four more. Assumes nothing.
 use mathlib.Core.Path.{refl}
-use Prim.Native.Nat.{◌-◌}
 use borrow.Author.Rules.{rules}
 use Rattle.key_order.proofs.SharedLaws.{four_more}
 use Rattle.key_order.proofs.shared.common.Goals as goal

@@ -9,20 +9,20 @@ use Rattle.sheets.specs.Mappings.{from_primitive_type}
 use Rattle.sheets.specs.Outcome.{converted, from_primitive_type_outcome}
 use Rattle.outcome.proofs.AnswerLaws.{told_refused}
 use Rattle.datatypes.specs.Places.{primitive_place}
-use Rattle.datatypes.specs.At.{primitive_types, primitive_type_option}
+use Rattle.datatypes.specs.At.{primitive_types}
 use Rattle.datatypes.proofs.DtypeLaws.{primitive_undefined}
 use Rattle.mapping_calls.proofs.ConversionLaws.{place_is}
 use Rattle.mapping_calls.proofs.conversions.from_primitive_type.Goals as goal
 
-pub returns-in-Nothing : goal.returns-in-Nothing
-returns-in-Nothing c =
+pub returns-in-None : goal.returns-in-None
+returns-in-None c =
     let a = c.args in
     told_refused (converted (from_primitive_type a.place)) a.out.now a.out.now undefined_mapping _
-    (ap (λ (m : Answer ArrowDataType). m >>= λ t. given (write_bare_sheet t)) (primitive_undefined a.place (sym c.at.ensures ∙ ap primitive_type_option c.in-Nothing.is)))
+    (ap (λ (m : Answer ArrowDataType). m >>= λ t. given (write_bare_sheet t)) (primitive_undefined a.place (sym c.at.ensures ∙ c.in-None.is)))
     c.refuse.ensures refl
 
-pub returns-in-Is : goal.returns-in-Is
-returns-in-Is c =
+pub returns-in-Some : goal.returns-in-Some
+returns-in-Some c =
     let a = c.args in
-    c.answer_dtype.ensures (from_primitive_type (primitive_place c.in-Is.t)) c.from_primitive_type.ensures
-    ∙ ap (λ (n : ℕ). from_primitive_type_outcome n a.out.now) (place_is primitive_place a.place primitive_types _ (sym c.at.ensures ∙ ap primitive_type_option c.in-Is.is))
+    c.answer_dtype.ensures (from_primitive_type (primitive_place c.in-Some.t)) c.from_primitive_type.ensures
+    ∙ ap (λ (n : ℕ). from_primitive_type_outcome n a.out.now) (place_is primitive_place a.place primitive_types _ (sym c.at.ensures ∙ c.in-Some.is))

@@ -2,16 +2,14 @@
 -- `SearchLaws`. Assumes nothing.
 use mathlib.Core.List.{List}
 use Rattle.sheets.specs.FieldSheet.{Entry}
+use Prim.Native.Nat.{◌-◌}
 use Rattle.sheets.specs.Walk.{line_measure, row_measure}
 use Rattle.walks.specs.Places.{RowAt}
 use Rattle.mapping_calls.proofs.SearchLaws.{Searching}
 use Rattle.mapping_calls.proofs.dictionaries.+search_row_search_type.Given as goal
 
-abbrev pub invariant-search_row-loop-left : goal.invariant-search_row-loop-left
-invariant-search_row-loop-left l = (us es : List Entry) → RowAt l.s l.row.at l.row.count l.row.levels l.row.inside us es → Searching l.s l.row.levels l.row.inside l.here l.left us es
-
-abbrev pub decreases-search_row-loop-left : goal.decreases-search_row-loop-left
-decreases-search_row-loop-left l = l.left
+abbrev pub invariant-search_row-loop-i : goal.invariant-search_row-loop-i
+invariant-search_row-loop-i l = (us es : List Entry) → RowAt l.s l.row.at l.row.count l.row.levels l.row.inside us es → Searching l.s l.row.levels l.row.inside l.here (l.row.count - l.i) us es
 
 abbrev pub decreases-search_row : goal.decreases-search_row
 decreases-search_row l = row_measure l.row.levels l.row.inside

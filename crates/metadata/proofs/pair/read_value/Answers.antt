@@ -4,8 +4,8 @@ use Prim.Native.Nat.{ℕ, ◌+◌}
 use native.Mathlib.Omega.{arith}
 use Rattle.sheets.specs.Answer.{Answer, given, ◌>>=◌}
 use Rattle.hexadecimal.specs.Hex.{bytes_of}
-use Rattle.metadata.specs.PairReading.{text_answer}
 use Rattle.metadata.proofs.TextLaws.{after_key, key_within, value_within}
+use Rattle.refusal.proofs.ErrLaws.{passed}
 use Rattle.metadata.proofs.pair.read_value.Goals as goal
 
 pub overflow_add-at : goal.overflow_add-at
@@ -20,21 +20,23 @@ read_text-requires c = record { block = c.requires.0; within = omega (arith, key
 pub overflow_add-result : goal.overflow_add-result
 overflow_add-result c = omega (arith, key_within c.args.big c.args.m.now c.args.k c.args.n c.requires, c.requires.0.short)
 
-pub overflow_add-result-in-Size : goal.overflow_add-result-in-Size
-overflow_add-result-in-Size c =
+pub overflow_add-result-2 : goal.overflow_add-result-2
+overflow_add-result-2 c =
     let a = c.args in
-    omega (arith, value_within a.big a.m.now a.k a.n _ c.requires.0 (sym c.read_text.ensures ∙ ap text_answer c.in-Size.is), c.requires.0.short)
+    omega (arith, value_within a.big a.m.now a.k a.n _ c.requires.0 (sym c.in_ok-size.ensures), c.requires.0.short)
 
-pub returns-in-Refused : goal.returns-in-Refused
-returns-in-Refused c =
+pub returns-in_err-size : goal.returns-in_err-size
+returns-in_err-size c =
     let a = c.args in
     let b = bytes_of a.m.now in
-    ap (λ (x : Answer ℕ). x >>= λ v. given (a.n, a.k + 4 + a.n + 4 + v)) (ap text_answer (sym c.in-Refused.is) ∙ c.read_text.ensures)
+    rw (passed c.from_residual.result _ c.from_residual.ensures.1) (
+    ap (λ (x : Answer ℕ). x >>= λ v. given (a.n, a.k + 4 + a.n + 4 + v)) c.in_err-size.ensures
     ∙ ap (λ (x : Answer ℕ). x >>= after_key a.big b a.k) (sym c.requires.1)
+    )
 
-pub returns-in-Size : goal.returns-in-Size
-returns-in-Size c =
+pub returns : goal.returns
+returns c =
     let a = c.args in
     let b = bytes_of a.m.now in
-    ap (λ (x : Answer ℕ). x >>= λ v. given (a.n, a.k + 4 + a.n + 4 + v)) (ap text_answer (sym c.in-Size.is) ∙ c.read_text.ensures)
+    ap (λ (x : Answer ℕ). x >>= λ v. given (a.n, a.k + 4 + a.n + 4 + v)) c.in_ok-size.ensures
     ∙ ap (λ (x : Answer ℕ). x >>= after_key a.big b a.k) (sym c.requires.1)

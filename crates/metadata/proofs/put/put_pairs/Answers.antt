@@ -1,12 +1,12 @@
 -- `put_pairs` meets its contract: the laws of the writing at each place. Assumes nothing.
-use mathlib.Core.Path.{refl, ap, subst}
-use Prim.Native.Nat.{◌-◌, ◌<◌}
+use mathlib.Core.Path.{ap, subst}
+use Prim.Native.Nat.{◌+◌, ◌<◌}
 use native.Mathlib.Omega.{arith}
 use lib.ListN.{length}
 use Rattle.sheets.specs.Bytes.{Bytes}
 use Rattle.buffer.specs.Over.{PutAt}
 use Rattle.hexadecimal.specs.Hex.{bytes_of}
-use Rattle.metadata.proofs.PutLaws.{column_none, entry_at, first_fits, first_put, next_fits, next_put, put_finished}
+use Rattle.metadata.proofs.PutLaws.{column_none, entry_at, later, first_fits, first_put, next_fits, next_put, put_finished}
 use borrow.Author.Rules.{rules}
 use Rattle.metadata.proofs.put.put_pairs.Goals as goal
 
@@ -32,48 +32,49 @@ put_entry-end-requires c =
     let l : 0 < a.count = search rules in
     ((h.is_text, entry_at a.big a.m.now a.entries.now a.count a.at h 0 l), first_fits a.big a.m.now a.entries.now a.count a.at h l)
 
-pub loop-i-init : goal.loop-i-init
-loop-i-init c =
+pub loop-e-init : goal.loop-e-init
+loop-e-init c =
     let a = c.args in
     let z : 0 < a.count = search rules in
     let p = c.put_entry-end in
-    (search rules, refl, first_put a.big a.m.now a.entries.now a.count a.at c.requires z p.result a.out.now p.new.out p.ensures)
+    first_put a.big a.m.now a.entries.now a.count a.at c.requires z p.result a.out.now p.new.out p.ensures
 
 pub put_byte-start-requires : goal.put_byte-start-requires
 put_byte-start-requires c =
-    let l = c.loop-i in
+    let l = c.loop-e in
     let a = c.args in
+    let more : l.e-index + 1 < a.count = omega (arith, c.requires.entries.count) in
     let h = c.requires in
     let p = c.put_entry-end in
     let z : 0 < a.count = search rules in
-    omega (arith, next_fits a.big a.m.now a.entries.now a.count a.at h z p.result a.out.now p.new.out p.ensures l.out l.end l.i l.invariant.2 c.loop-i-test.true)
+    omega (arith, next_fits a.big a.m.now a.entries.now a.count a.at h z p.result a.out.now p.new.out p.ensures l.out l.end (l.e-index + 1) l.invariant more)
 
-pub bounds-entries-i : goal.bounds-entries-i
-bounds-entries-i c = omega (arith, c.requires.entries.count, c.loop-i-test.true)
-
-pub put_entry-end-requires-in-loop-i : goal.put_entry-end-requires-in-loop-i
-put_entry-end-requires-in-loop-i c =
-    let l = c.loop-i in
+pub put_entry-end-requires-in-loop-e : goal.put_entry-end-requires-in-loop-e
+put_entry-end-requires-in-loop-e c =
+    let l = c.loop-e in
     let a = c.args in
+    let more : l.e-index + 1 < a.count = omega (arith, c.requires.entries.count) in
     let h = c.requires in
     let p = c.put_entry-end in
     let z : 0 < a.count = search rules in
-    ((h.is_text, entry_at a.big a.m.now a.entries.now a.count a.at h l.i c.loop-i-test.true), omega (arith, c.put_byte-start.ensures.0, next_fits a.big a.m.now a.entries.now a.count a.at h z p.result a.out.now p.new.out p.ensures l.out l.end l.i l.invariant.2 c.loop-i-test.true))
+    rw (later a.entries.now a.count l.e-index more)
+    ((h.is_text, entry_at a.big a.m.now a.entries.now a.count a.at h (l.e-index + 1) more), omega (arith, c.put_byte-start.ensures.0, next_fits a.big a.m.now a.entries.now a.count a.at h z p.result a.out.now p.new.out p.ensures l.out l.end (l.e-index + 1) l.invariant more))
 
-pub loop-i-preserved : goal.loop-i-preserved
-loop-i-preserved c =
-    let l = c.loop-i in
+pub loop-e-preserved : goal.loop-e-preserved
+loop-e-preserved c =
+    let l = c.loop-e in
     let a = c.args in
+    let more : l.e-index + 1 < a.count = omega (arith, c.requires.entries.count) in
     let h = c.requires in
     let p = c.put_entry-end in
     let z : 0 < a.count = search rules in
-    (search rules, search rules, next_put a.big a.m.now a.entries.now a.count a.at h z p.result a.out.now p.new.out p.ensures l.out l.end l.i l.invariant.2 c.loop-i-test.true c.put_byte-start.result c.put_byte-start.new.out c.put_byte-start.ensures c.put_entry-end-in-loop-i.result c.put_entry-end-in-loop-i.new.out c.put_entry-end-in-loop-i.ensures)
+    next_put a.big a.m.now a.entries.now a.count a.at h z p.result a.out.now p.new.out p.ensures l.out l.end (l.e-index + 1) l.invariant more c.put_byte-start.result c.put_byte-start.new.out c.put_byte-start.ensures c.put_entry-end-in-loop-e.result c.put_entry-end-in-loop-e.new.out (rw (later a.entries.now a.count l.e-index more) at c.put_entry-end-in-loop-e.ensures)
 
 pub returns : goal.returns
 returns c =
-    let l = c.loop-i in
+    let l = c.loop-e in
     let a = c.args in
     let h = c.requires in
     let p = c.put_entry-end in
     let z : 0 < a.count = search rules in
-    put_finished a.big a.m.now a.entries.now a.count a.at h z p.result a.out.now p.new.out p.ensures l.out l.end l.i l.invariant.2 c.loop-i-test.false
+    put_finished a.big a.m.now a.entries.now a.count a.at h z p.result a.out.now p.new.out p.ensures l.out l.end (l.e-index + 1) l.invariant (omega (arith, c.requires.entries.count))

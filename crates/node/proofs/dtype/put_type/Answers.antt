@@ -6,9 +6,9 @@ use lib.ListN.{length}
 use Rattle.sheets.specs.Bytes.{Bytes}
 use Rattle.hexadecimal.specs.Hex.{is_hex}
 use Rattle.schema_line.proofs.TextLaws.{text_shorter}
-use Rattle.import_type.specs.TypeColumns.{put_answer}
 use Rattle.node.proofs.TextLaws.{text_bytes}
 use Rattle.node.proofs.TypeLaws.{null_type_lem, not_utf8_type, plain_node, index_node}
+use Rattle.refusal.specs.Refusals.{answer_of}
 use Rattle.node.proofs.dtype.put_type.Goals as goal
 
 -- src/dtype.rt:70:9
@@ -34,7 +34,7 @@ put_plain-requires c =
 pub returns-then-line-eq0 : goal.returns-then-line-eq0
 returns-then-line-eq0 c =
     let put = c.put_plain in
-    plain_node c.args.column.now c.args.line c.requires.0 (sym c.same.ensures ∙ c.if-same.false) _ c.text_of-f.ensures (sym c.is_utf8_hex.ensures ∙ c.if-is_utf8_hex.true) c.args.out.now _ (put_answer put.result) _ c.if-line-eq0.true c.sorted.ensures put.ensures
+    plain_node c.args.column.now c.args.line c.requires.0 (sym c.same.ensures ∙ c.if-same.false) _ c.text_of-f.ensures (sym c.is_utf8_hex.ensures ∙ c.if-is_utf8_hex.true) c.args.out.now _ (answer_of put.result) _ c.if-line-eq0.true c.sorted.ensures put.ensures
 
 -- src/dtype.rt:77:9
 pub put_index-requires : goal.put_index-requires
@@ -46,7 +46,7 @@ put_index-requires c =
 pub returns-then-is_utf8_hex : goal.returns-then-is_utf8_hex
 returns-then-is_utf8_hex c =
     let put = c.put_index in
-    index_node c.args.column.now c.args.line c.requires.0 (sym c.same.ensures ∙ c.if-same.false) _ c.text_of-f.ensures (sym c.is_utf8_hex.ensures ∙ c.if-is_utf8_hex.true) c.args.out.now _ (put_answer put.result) _ c.if-line-eq0.false c.ordered.ensures put.ensures
+    index_node c.args.column.now c.args.line c.requires.0 (sym c.same.ensures ∙ c.if-same.false) _ c.text_of-f.ensures (sym c.is_utf8_hex.ensures ∙ c.if-is_utf8_hex.true) c.args.out.now _ (answer_of put.result) _ c.if-line-eq0.false c.ordered.ensures put.ensures
 
 -- src/dtype.rt:65:1
 pub returns : goal.returns

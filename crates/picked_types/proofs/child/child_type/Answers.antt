@@ -1,7 +1,8 @@
 -- `child_type` meets its contract: the type has no fields, or not so many, or the child is one of them. Assumes nothing.
-use Rattle.picked_types.specs.Picks.{pick_answer}
 use Rattle.picked_types.proofs.PickLaws.{child_undefined, fields_there, child_missing, child_picked}
 use native.Mathlib.Omega.{arith}
+use Rattle.sheets.specs.Answer.{found}
+use Rattle.sheets.specs.Refusal.{undefined_mapping}
 use Rattle.picked_types.proofs.child.child_type.Goals as goal
 
 pub returns-then-not-has_fields : goal.returns-then-not-has_fields
@@ -17,4 +18,4 @@ nth_type-requires c =
     (_, _, _, row, omega arith)
 
 pub returns : goal.returns
-returns c = λ i t f. child_picked c.storage_line-inner.result c.storage_line-inner.ensures c.nesting_of.ensures c.has_fields.ensures f c.args.index (c.if-not-has_fields.false) (omega arith) (pick_answer c.nth_type.result) c.nth_type.ensures
+returns c = λ i t f. child_picked c.storage_line-inner.result c.storage_line-inner.ensures c.nesting_of.ensures c.has_fields.ensures f c.args.index (c.if-not-has_fields.false) (omega arith) (found undefined_mapping c.nth_type.result) c.nth_type.ensures

@@ -10,8 +10,8 @@ field_line_at-line-requires c =
 pub skip_row-requires : goal.skip_row-requires
 skip_row-requires c = below_there c.requires.3 c.field_line_at-line.ensures c.is_extension-inside.ensures
 
-pub returns-in_default : goal.returns-in_default
-returns-in_default c = λ i t es f. absurd (whole_deep f c.field_line_at-line.ensures c.is_extension-inside.ensures c.skip_row.result c.skip_row.ensures c.in_default.is)
+pub returns-in_err-end : goal.returns-in_err-end
+returns-in_err-end c = rw c.from_residual.ensures (λ i t es f. absurd (whole_deep f c.field_line_at-line.ensures c.is_extension-inside.ensures c.skip_row.result c.skip_row.ensures c.in_err-end.was))
 
 pub returns : goal.returns
-returns c = λ i t es f. (t, refl, whole_picked f c.field_line_at-line.ensures c.is_extension-inside.ensures c.skip_row.result c.skip_row.ensures _ c.in-To.is)
+returns c = λ i t es f. (t, refl, whole_picked f c.field_line_at-line.ensures c.is_extension-inside.ensures c.skip_row.result c.skip_row.ensures _ c.in_ok-end.was)

@@ -1,4 +1,5 @@
 -- `names::put_leaf` meets its contract: the row that is looked at has the leaf's kind exactly if the leaf has a name. Assumes nothing.
+use Rattle.std.specs.Prelude.{Err}
 use mathlib.Core.Path.{refl, sym, ◌∙◌}
 use native.Mathlib.Omega.{arith}
 use Rattle.sheets.specs.Refusal.{no_format}
@@ -8,7 +9,6 @@ use Rattle.sheets.specs.Format.{scalar_format}
 use Rattle.sheets.proofs.FieldTrees.{leaf_small}
 use Rattle.refusal.specs.declared.Refusal.TheVariants as Refusals
 use Rattle.format_names.specs.Names.{row_at}
-use Rattle.put_format.specs.declared.Exported.TheVariants.{Refused}
 use Rattle.put_format.proofs.LeafLaws.{leaf_row, row_below, leaf_named_lem, leaf_nameless, formats_as}
 use Rattle.put_format.proofs.names.put_leaf.Goals as goal
 
@@ -27,7 +27,7 @@ row_at-found-requires c = row_below c.args.kind c.args.unit c.requires.rule
 pub returns-then-found-kind : goal.returns-then-found-kind
 returns-then-found-kind c =
     let a = c.args in
-    formats_as (refused no_format) (scalar_format (leaf a.kind a.unit)) a.at (Refused Refusals.NoFormat) a.out.now a.out.now
+    formats_as (refused no_format) (scalar_format (leaf a.kind a.unit)) a.at (Err Refusals.NoFormat) a.out.now a.out.now
     (leaf_nameless a.kind a.unit c.requires.rule (λ e. c.if-found-kind.true (c.row_at-found.ensures.kind ∙ e))) (refl, refl)
 
 pub put_row-requires : goal.put_row-requires

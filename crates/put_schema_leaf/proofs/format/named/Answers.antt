@@ -1,6 +1,6 @@
 -- `named` meets its contract: digits by numbers are digits by bytes (`digits_text_lem`). Assumes nothing.
 use mathlib.Core.Path.{sym, ap, ◌∙◌}
-use mathlib.Core.Option.{some}
+use Rattle.std.specs.Prelude.{Some}
 use Prim.Native.Nat.{ℕ, ◌*◌}
 use native.Mathlib.Omega.{arith}
 use Rattle.sheets.specs.Text.{hex}
@@ -17,4 +17,4 @@ overflow_mul-result c = omega (arith, c.name_length.ensures, name_short c.args.i
 pub returns : goal.returns
 returns c =
     let name = (row_at c.args.i).name in
-    ap some (digits_text_lem (hex name) (hex_bytes_small name (row_bytes c.args.i)) _ _ _ c.low_digits.ensures c.high_digits.ensures (ap (λ (n : ℕ). 2 * n) c.name_length.ensures ∙ sym (length_hex name)))
+    ap Some (digits_text_lem (hex name) (hex_bytes_small name (row_bytes c.args.i)) _ _ _ c.low_digits.ensures c.high_digits.ensures (ap (λ (n : ℕ). 2 * n) c.name_length.ensures ∙ sym (length_hex name)))

@@ -1,7 +1,7 @@
 -- `text::read_byte` meets its contract: a byte for itself, or a backslash and two digits that say a byte which does not stand for itself
 -- (`ByteLaws`). Assumes nothing.
 use mathlib.Core.Path.{sym, ap, subst, ◌∙◌}
-use mathlib.Core.Option.{some}
+use Rattle.std.specs.Prelude.{Some}
 use Prim.Native.Nat.{ℕ, ◌+◌}
 use native.Mathlib.Omega.{arith}
 use lib.ListN.{get_or}
@@ -20,7 +20,7 @@ pub returns-then-is_plain : goal.returns-then-is_plain
 returns-then-is_plain c =
     let a = c.args in
     let k = sym c.is_plain.ensures ∙ c.if-is_plain.true in
-    (lt-ltb (get_or a.s.now a.at 0) 256 (omega (arith, c.shared_slice_known-2-1.given a.at)), itself a.s.now a.at c.if-s-at.false k)
+    (lt-ltb (get_or a.s.now a.at 0) 256 (omega (arith, c.type_inv.s a.at)), itself a.s.now a.at c.if-s-at.false k)
 
 pub returns-then-b-ne92 : goal.returns-then-b-ne92
 returns-then-b-ne92 c =
@@ -56,5 +56,5 @@ returns c =
     let a = c.args in
     let d = sym c.is_hex.ensures ∙ c.if-not-is_hex.false in
     let k = ap is_plain (sym c.byte_at-c.ensures) ∙ sym c.is_plain-2.ensures ∙ c.if-is_plain-2.false in
-    subst (λ (b : ℕ). Reads IsByte byte_text a.s.now a.at (some (b, a.at + 3))) (sym c.byte_at-c.ensures)
+    subst (λ (b : ℕ). Reads IsByte byte_text a.s.now a.at (Some (b, a.at + 3))) (sym c.byte_at-c.ensures)
     (by_digits a.s.now a.at c.if-s-at.false c.if-s-at-lt3.false c.if-b-ne92.false d k)

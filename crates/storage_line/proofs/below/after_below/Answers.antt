@@ -8,4 +8,4 @@ returns-in_default c =
 
 pub returns : goal.returns
 returns c =
-    let a = c.args in skipped_to a.s.now a.l a.levels c.skip_row.result c.skip_row.ensures _ c.in-To.is
+    let a = c.args in skipped_to a.s.now a.l a.levels c.skip_row.result c.skip_row.ensures _ c.in-Some.is
