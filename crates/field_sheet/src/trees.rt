@@ -6,7 +6,7 @@ ghost use Rattle.field_sheet.specs.Trees.{Alone, Forms, ReadsTree, ReadsRow};
 
 use refusal::Refusal;
 
-// The end of a tree whose lines were tested; that it has too many levels; that there is none; why a strict export refuses it, by its first line with a cause.
+// Why no tree's end is answered: it has too many levels; there is none; a strict export refuses it, by its first line with a cause.
 #[derive(Drop)]
 pub enum NoTree {
     Deep,

@@ -96,7 +96,7 @@ pub fn answers_numbers(code: u64) -> bool
     code == call::MEASURE_EXPORT
 }
 
-// Whether the numbers are the recorded ones.
+// The numbers that came, if they are not the recorded ones.
 pub fn judge_numbers(came: Numbers, h: Header) -> Option<Numbers>
     ensures { result ≡ numbers_difference came (recorded_numbers h) }
 {

@@ -7,8 +7,7 @@ ghost use Rattle.mapping_line.specs.PutLines.{HasPart, columns_of, is_own, CanPu
 use columns::Part;
 use read_field_line::FieldLine;
 
-// The columns `name nullable pairs` of a line with the space after them, as they stand in the sheet. Where there is none of them, those of a bare line are
-// meant.
+// The columns `name nullable pairs` of a line with the space after them, as they stand in the sheet.
 pub fn field_columns(l: FieldLine) -> Option<Part>
     requires { IsUsize (l.pairs.end + 1) }
     ensures { result ≡ columns_of l }

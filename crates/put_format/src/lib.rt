@@ -16,9 +16,6 @@ use datatypes::units::UnionMode;
 use datatypes::{kind, unit};
 use refusal::Refusal;
 
-// What export answers of a format, or of a line: the place after it and whether byte 00 stands in the format or the name, for which the field is refused after its
-// children (14); or why it is refused at once.
-
 // A name and a number after it.
 fn put_sized(out: &mut [u8], at: usize, name: &[u8], n: u64) -> Result<(usize, bool), Refusal>
     requires { CanPutName name.now at }
@@ -115,7 +112,8 @@ fn put_union(
     put_ids(out, at, b"+ud:", ids, fields)
 }
 
-// Writes the format from place `at` on, as much as fits. `fields` is the line's number of children; no line of an extension has a format.
+// Writes the format from place `at` on, as much as fits; the place after it and whether byte 00 stands in it, for which the field is refused after its children
+// (14); or why it is refused at once. `fields` is the line's number of children; no line of an extension has a format.
 pub fn put_format(
     out: &mut [u8],
     at: usize,
