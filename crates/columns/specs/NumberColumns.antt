@@ -22,8 +22,6 @@ signed_in stop s a = do
   z ← signed_column (2 ^ 63) (part s a e)
   given (z, e)
 
--- ── what the answers say
-
 -- ── numbers that are known to stand
 
 -- the column from a on is a number of 64 bits

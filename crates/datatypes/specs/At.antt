@@ -16,7 +16,7 @@ abbrev pub first_at : {A : Type 0} → (A → ℕ) → ℕ → List A → Option
 first_at place n [] = None
 first_at place n (x ∷ xs) = cond (eqb n (place x)) (Some x) (first_at place n xs)
 
--- ── the cases of each enumeration, and the one that an answer tells
+-- ── the cases of each enumeration
 
 abbrev pub time_units : List TimeUnit
 time_units = TimeUnits.Second ∷ TimeUnits.Millisecond ∷ TimeUnits.Microsecond ∷ TimeUnits.Nanosecond ∷ []

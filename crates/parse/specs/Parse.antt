@@ -1,4 +1,4 @@
--- What the answers of the code say, and digits as a number below a limit: the part that `read_size` and `read_id` of document 01's definitions
+-- Digits as a number below a limit: the part that `read_size` and `read_id` of document 01's definitions
 -- have in common. Assumes nothing.
 use Rattle.std.specs.Prelude.{ℕ, ltb}
 use Rattle.sheets.specs.Refusal.{bad_number}

@@ -1,6 +1,6 @@
 -- What functions that walk a field sheet ask and tell, for any step of sheets/specs/Walk: the types that stand at a place of the sheet, and what is
 -- written for them, laid over the lent buffer. The forms are those of import (import_field/specs/Recursion). The answer of each function is a
--- refusal or values; the crate of a call says which by a definition on the cases of its enums. Assumes nothing.
+-- refusal or values. Assumes nothing.
 use Rattle.std.specs.Prelude.{◌≡◌, Bool, List, ◌∷◌, ◌++◌, ℕ, ◌+◌, ◌*◌, ◌≤◌, ◌<◌, length, drop, Option, None, Some}
 use Rattle.sheets.specs.Bytes.{Bytes}
 use Rattle.sheets.specs.Answer.{Answer, refused, given, ◌>>=◌}

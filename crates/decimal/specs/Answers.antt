@@ -1,1 +1,0 @@
--- What each case of the answers says: a value, or the one refusal that a sheet's numbers have. Assumes nothing.
