@@ -1,7 +1,7 @@
 /* Schemas over the Arrow C data interface, as sheets of bytes.
  *
- * Every call takes any bytes of any length and returns; it allocates nothing and keeps nothing between calls. `memcpy`, `memmove` and `memset`, as
- * C has them, are the host's to have: the library calls them and does not bring them. Besides it needs stack (JUZONTEFA_STACK) and nothing else. It
+ * Every call takes any bytes of any length and returns; it allocates nothing and keeps nothing between calls. `memcpy` and `memset`, as C has
+ * them, are the host's to have: the library calls them and does not bring them. Besides it needs stack (JUZONTEFA_STACK) and nothing else. It
  * reads `sheet_len` bytes at `sheet`, which it does not change, and writes within the bytes of the buffers, such as the `out_len` bytes at `out`;
  * sheet and buffers must not overlap. A pointer may be null if its length is 0: an empty sheet, or a buffer without room. Calls may run at the
  * same time on different buffers.

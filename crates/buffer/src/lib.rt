@@ -24,7 +24,10 @@ pub fn put(out: &mut [u8], s: &[u8])
     ensures { out.new ≡ over s.now out.old }
 {
     let n = within(s.len(), out.len());
-    out[..n].copy_from_slice(&s[..n]);
+    // by element: `copy_from_slice` becomes `memmove`, which the library's host would have to bring
+    for (i, &b) in s[..n].iter().enumerate() {
+        out[i] = b;
+    }
 }
 
 // Writes s from place at on, as much as fits; the place after it.

@@ -4,14 +4,14 @@ use mathlib.Core.Path.{◌≡◌, refl, sym, ap, ap₂, ◌∙◌}
 use mathlib.Core.Bool.{Bool, true, false, cond, ◌&&◌, ◌||◌}
 use mathlib.Core.List.{[], ◌∷◌}
 use mathlib.Core.Logic.{◌⊎◌, inl, inr, ⊎_elim}
-use Prim.Native.Nat.{ℕ, zero, suc, ◌+◌, ◌-◌, ◌*◌, ◌≤◌, ◌<◌}
+use Prim.Native.Nat.{ℕ, zero, suc, ◌+◌, ◌-◌, ◌*◌, ◌≤◌, ◌<◌, min}
 use native.Mathlib.Omega.{arith}
 use native.Mathlib.Numerals.{add-one}
 use lib.Dec.{ltb, eqb}
-use lib.ListN.{length, get_or, take, drop, length-drop}
+use lib.ListN.{length, get_or, take, drop, length-drop, drop_of_length-le}
 use native.Mathlib.Nat.{le_of_eq}
 use lib.Seq.{drop-cons, take_all}
-use borrow.Author.Tests.{lt-ltb, le-ltb, ltb-true, ltb-false, eq-eqb, ne_eqb, eqb-true}
+use borrow.Author.Tests.{lt-ltb, le-ltb, ltb-true, ltb-false, eq-eqb, ne_eqb, eqb-true, eqb-false}
 use Rattle.std.specs.Ordering.{is_lt, nat_cmp, ordering_then}
 use Rattle.std.specs.Cmp.Lexicographic.{slice_cmp}
 use Rattle.sheets.specs.Bytes.{Bytes, same}
@@ -69,6 +69,51 @@ after_same (suc n) [] [] e = refl
 after_same (suc n) [] (y ∷ b) e = absurd (omega (arith, ap length e))
 after_same (suc n) (x ∷ a) [] e = absurd (omega (arith, ap length e))
 after_same (suc n) (x ∷ a) (y ∷ b) e = cons_same x y a b (ap (λ (l : Bytes). get_or l 0 0) e) ∙ after_same n a b (ap (drop 1) e)
+
+-- ── at a place, byte by byte
+
+module _ (a b : Bytes) (i : ℕ) where
+  pub no_more_b : i < length a → length b ≤ i → ordering (drop i a) (drop i b) ≡ ordering_answer Greater
+  unfolding ordering
+  no_more_b h k = rw (drop-cons a i 0 h, drop_of_length-le b k)
+
+  pub no_more_a : length a ≤ i → i < length b → ordering (drop i a) (drop i b) ≡ ordering_answer Less
+  unfolding ordering
+  no_more_a h k = rw (drop_of_length-le a h, drop-cons b i 0 k)
+
+  pub no_more : length a ≤ i → length b ≤ i → ordering (drop i a) (drop i b) ≡ ordering_answer Equal
+  unfolding ordering
+  no_more h k = rw (drop_of_length-le a h, drop_of_length-le b k)
+
+  -- the shorter has ended: the lengths decide
+  pub lengths_decide : i ≡ min (length a) (length b) → ordering (drop i a) (drop i b) ≡ ordering_answer (nat_cmp (length a) (length b))
+  lengths_decide e = go (ltb (length a) (length b)) (eqb (length a) (length b)) refl refl
+    where
+      go : (t u : Bool) → ltb (length a) (length b) ≡ t → eqb (length a) (length b) ≡ u → ordering (drop i a) (drop i b) ≡ ordering_answer (cond t Less (cond u Equal Greater))
+      go true u l m = let k = ltb-true (length a) (length b) l in no_more_a (omega (arith, e)) (omega (arith, e))
+      go false true l m = let k = eqb-true (length a) (length b) m in no_more (omega (arith, e)) (omega (arith, e))
+      go false false l m =
+          let k = ltb-false (length a) (length b) l in
+          let d = eqb-false (length a) (length b) m in
+          no_more_b (omega (arith, e)) (omega (arith, e))
+
+  module _ (h : i < length a) (k : i < length b) where
+    pub smaller : get_or a i 0 < get_or b i 0 → ordering (drop i a) (drop i b) ≡ ordering_answer Less
+    smaller l = rw (drop-cons a i 0 h, drop-cons b i 0 k) (cons_less (get_or a i 0) (get_or b i 0) (drop (suc i) a) (drop (suc i) b) l)
+
+    pub greater : get_or b i 0 < get_or a i 0 → ordering (drop i a) (drop i b) ≡ ordering_answer Greater
+    greater l = rw (drop-cons a i 0 h, drop-cons b i 0 k) (cons_greater (get_or a i 0) (get_or b i 0) (drop (suc i) a) (drop (suc i) b) l)
+
+    pub next : get_or a i 0 ≤ get_or b i 0 → get_or b i 0 ≤ get_or a i 0 → ordering (drop i a) (drop i b) ≡ ordering (drop (i + 1) a) (drop (i + 1) b)
+    next l m = rw (add-one, drop-cons a i 0 h, drop-cons b i 0 k) (cons_same (get_or a i 0) (get_or b i 0) (drop (suc i) a) (drop (suc i) b) (omega arith))
+
+    -- two bytes that differ decide
+    pub bytes_decide : (get_or a i 0 ≡ get_or b i 0 → ⊥) → ordering (drop i a) (drop i b) ≡ ordering_answer (nat_cmp (get_or a i 0) (get_or b i 0))
+    bytes_decide ne = go (ltb (get_or a i 0) (get_or b i 0)) refl
+      where
+        go : (t : Bool) → ltb (get_or a i 0) (get_or b i 0) ≡ t → ordering (drop i a) (drop i b) ≡ ordering_answer (nat_cmp (get_or a i 0) (get_or b i 0))
+        go true e = let l = ltb-true (get_or a i 0) (get_or b i 0) e in rw (lt-ltb (get_or a i 0) (get_or b i 0) l) (smaller l)
+        go false e = let l = ltb-false (get_or a i 0) (get_or b i 0) e in rw (le-ltb (get_or a i 0) (get_or b i 0) l, ne_eqb (get_or a i 0) (get_or b i 0) ne) (greater (omega arith))
 
 -- ── as std compares
 

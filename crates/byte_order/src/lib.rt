@@ -31,7 +31,13 @@ pub fn compare(a: &[u8], b: &[u8]) -> Ordering
         }
         i += 4;
     }
-    a[i..].cmp(&b[i..])
+    // at most three bytes are left of the shorter: `cmp` of slices, which looks at groups of bytes first, takes longer over so few
+    for k in i..n {
+        if a[k] != b[k] {
+            return a[k].cmp(&b[k]);
+        }
+    }
+    a.len().cmp(&b.len())
 }
 
 // Whether a comes before b in byte order.

@@ -89,17 +89,14 @@ pub struct Measure {
 fn measure_of(m: Result<Size, Refusal>) -> Measure
     ensures { result ≡ measure_for m }
 {
-    match m {
-        Ok(size) => Measure {
-            number: 0,
-            length: size.len as u64,
-            lines: size.lines as u64,
-        },
-        Err(reason) => Measure {
-            number: reason.number() as u64,
-            length: 0,
-            lines: 0,
-        },
+    let (number, length, lines) = match m {
+        Ok(size) => (0, size.len as u64, size.lines as u64),
+        Err(reason) => (reason.number() as u64, 0, 0),
+    };
+    Measure {
+        number,
+        length,
+        lines,
     }
 }
 
@@ -301,16 +298,11 @@ pub struct YesNo {
 fn yes_no_of(a: Result<bool, Refusal>) -> YesNo
     ensures { result ≡ yes_no_for a }
 {
-    match a {
-        Ok(yes) => YesNo {
-            number: 0,
-            answer: field_line::flag(yes),
-        },
-        Err(reason) => YesNo {
-            number: reason.number() as u64,
-            answer: 0,
-        },
-    }
+    let (number, answer) = match a {
+        Ok(yes) => (0, field_line::flag(yes)),
+        Err(reason) => (reason.number() as u64, 0),
+    };
+    YesNo { number, answer }
 }
 
 // Whether a field's type holds other types.

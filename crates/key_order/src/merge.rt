@@ -11,9 +11,11 @@ pub fn put_at(out: &mut [u32], at: usize, s: &[u32]) -> usize
     requires { at + length s.now ≤ length out.old }
     ensures { (result ≡ at + length s.now) × (take result out.new ≡ take at out.old ++ s.now) }
 {
-    let end = at + s.len();
-    out[at..end].copy_from_slice(s);
-    end
+    // by element: `copy_from_slice` becomes `memmove`, which the library's host would have to bring
+    for (i, &e) in s.iter().enumerate() {
+        out[at + i] = e;
+    }
+    at + s.len()
 }
 
 // Merges a and b into out; of equal keys that of b stays. How many entries there are.

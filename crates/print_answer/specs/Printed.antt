@@ -10,5 +10,8 @@ unfoldable pub refused_line : ℕ → Bytes
 refused_line n = ascii "refused " ++ (decimal n ++ 10 ∷ [])
 
 -- the sheet that stands at the front of the buffer, if the number is 0
+abbrev pub printed_numbers : Bytes → ℕ → ℕ → Bytes
+printed_numbers out number length = cond (eqb number 0) (take length out) (refused_line number)
+
 abbrev pub printed : Bytes → Result ℕ Refused → Bytes
-printed out a = cond (eqb (number_told a) 0) (take (length_told a) out) (refused_line (number_told a))
+printed out a = printed_numbers out (number_told a) (length_told a)

@@ -11,3 +11,6 @@ invariant-loop-i l = (l.i ≤ l.n) × (ordering l.a l.b ≡ ordering (drop l.i l
 
 abbrev pub decreases-loop-i : goal.decreases-loop-i
 decreases-loop-i l = l.n - l.i
+
+abbrev pub invariant-loop-k : goal.invariant-loop-k
+invariant-loop-k l = ordering l.a l.b ≡ ordering (drop l.k l.a) (drop l.k l.b)
